@@ -1,0 +1,16 @@
+-- The plans A to K, computed. Assumes nothing.
+use mathlib.Core.Path.{_≡_, refl}
+use mathlib.Core.List.{map}
+use Rattle.table.specs.Rows.{kinds, ranged, placed, fieldsOf, rowOf, badRegister}
+use Rattle.table.specs.Plain.{split, joined, rowsFrom, tableOf}
+use Rattle.checker.specs.Rules.{clockOf, clocksFrom, clocksOf}
+use Rattle.checker.specs.Answers.{clocksWords, checking}
+use Rattle.runner.specs.Cells.{latest, onGrid}
+use Rattle.runner.specs.Operators.{combined, registered}
+use Rattle.runner.specs.Runs.{history, inputs, cellOf, flowsFrom, tickOf, run, cells}
+use Rattle.runner.specs.Answers.{running}
+use Rattle.calendar.specs.Cases.{Case, cases}
+
+pub all-cases : map (λ (c : Case). c .outcome) cases ≡ map (λ (c : Case). c .expected) cases
+unfolding kinds ranged placed fieldsOf rowOf badRegister split joined rowsFrom tableOf clockOf clocksFrom clocksOf clocksWords checking latest onGrid combined registered history inputs cellOf flowsFrom tickOf run cells running
+all-cases = refl

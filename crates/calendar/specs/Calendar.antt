@@ -1,0 +1,94 @@
+-- Demand 3: check and run share one calendar. It is stated over what a caller sees: the answers' numbers, the words that the
+-- check wrote, the log, the lengths, and the marks and values that the run left.
+use mathlib.Core.Path.{_≡_}
+use mathlib.Core.Logic.{_↔_, _⊎_}
+use Prim.Native.Nat.{ℕ, _+_, _*_, _≤_, _<_}
+use mathlib.Core.List.{List, []}
+use lib.ListN.{length, getD}
+use Rattle.table.specs.Answers.{Result, good, refused, number, clocksDiffer}
+use Rattle.table.specs.Rows.{Row}
+use Rattle.table.specs.Plain.{tableOf}
+use Rattle.checker.specs.Rules.{maxDerived}
+use Rattle.checker.specs.Answers.{checkAnswer, clocksAfter}
+use Rattle.runner.specs.Runs.{inputs}
+use Rattle.runner.specs.Answers.{maxTicks, runAnswer, marksAfter, valuesAfter}
+
+-- word i of the seven that the check wrote for flow f
+abbrev pub clockWord : List ℕ → ℕ → ℕ → ℕ
+clockWord clocks f i = getD clocks (7 * f + i) 0
+
+-- flow f's cell of tick t, in the marks or values of a run of m flows
+abbrev pub cellAt : ℕ → List ℕ → ℕ → ℕ → ℕ
+cellAt m cells t f = getD cells (t * m + f) 0
+
+module _ (m : ℕ) (marks values : List ℕ) (t : ℕ) where
+  -- a truth at tick t, read from the flow's cell of that tick
+  abbrev pub TrueAt : ℕ → Type 0
+  TrueAt f = (cellAt m marks t f ≡ 1) × (cellAt m values t f ≡ 0 → ⊥)
+
+  abbrev pub FalseAt : ℕ → Type 0
+  FalseAt f = (cellAt m marks t f ≡ 1) × (cellAt m values t f ≡ 0)
+
+  -- the condition with the word w: 2 × flow + 1 for true, 2 × flow for false
+  pub record ConditionAt (w : ℕ) : Type 0 where
+    pub true-word : (f : ℕ) → w ≡ 2 * f + 1 → TrueAt f
+    pub false-word : (f : ℕ) → w ≡ 2 * f → FalseAt f
+
+  -- the calendar of flow f: tick t is its phase plus whole periods, and each of its conditions has the truth that it names
+  pub record Due (clocks : List ℕ) (f : ℕ) : Type 0 where
+    pub periods : ℕ
+    pub tick : t ≡ clockWord clocks f 1 + periods * clockWord clocks f 0
+    pub conditions : (i : ℕ) → i < clockWord clocks f 2 → ConditionAt (clockWord clocks f (3 + i))
+
+-- the check accepts the table
+abbrev pub Accepts : ℕ → List ℕ → List ℕ → Type 0
+Accepts m words clocks = checkAnswer m words (length clocks) .number ≡ 0
+
+-- the rows of a table that is not refused
+abbrev pub rowsIn : Result (List Row) → List Row
+rowsIn (good rows) = rows
+rowsIn (refused why f) = []
+
+-- the lengths that a run asks for
+pub record Asked (m : ℕ) (words log : List ℕ) (ticks : ℕ) (marks values : List ℕ) : Type 0 where
+  pub log-length : length log ≡ ticks * inputs (rowsIn (tableOf m words))
+  pub marks-length : ticks * m ≤ length marks
+  pub values-length : ticks * m ≤ length values
+
+-- a run ends without a clash
+abbrev pub Ends : ℕ → List ℕ → List ℕ → ℕ → List ℕ → List ℕ → Type 0
+Ends m words log ticks marks values = runAnswer m words log ticks (length marks) (length values) .number ≡ 0
+
+-- each flow has a value at a tick exactly when its calendar says so
+abbrev pub OnCalendar : ℕ → List ℕ → List ℕ → List ℕ → ℕ → List ℕ → List ℕ → Type 0
+OnCalendar m words clocks log ticks marks values =
+    let marks′ = marksAfter m words log ticks marks values in
+    let values′ = valuesAfter m words log ticks marks values in
+    (t f : ℕ) → t < ticks → f < m
+    → (cellAt m marks′ t f ≡ 1) ↔ Due m marks′ values′ t (clocksAfter m words clocks) f
+
+-- a table free of sampling and merging: no row of kinds 13 to 15
+abbrev pub Free : ℕ → List ℕ → Type 0
+Free m words = (f : ℕ) → f < m → 13 ≤ getD words (4 * f) 0 → getD words (4 * f) 0 ≤ 15 → ⊥
+
+-- the check answers 0 or 21
+abbrev pub Judged : ℕ → List ℕ → List ℕ → Type 0
+Judged m words clocks = Accepts m words clocks ⊎ (checkAnswer m words (length clocks) .number ≡ number clocksDiffer)
+
+-- so many ticks show every difference of plain clocks: 8,191
+abbrev pub judgingTicks : ℕ
+judgingTicks = 2 * maxDerived + 1
+
+-- DEMAND 3
+pub record SharedCalendar : Type 0 where
+  -- a table that the check accepts runs without a clash, each flow on the calendar that the check gave it
+  pub accepted-runs :
+      (m : ℕ) (words clocks : List ℕ) → Accepts m words clocks
+      → (log : List ℕ) (ticks : ℕ) (marks values : List ℕ) → ticks ≤ maxTicks → Asked m words log ticks marks values
+      → Ends m words log ticks marks values × OnCalendar m words clocks log ticks marks values
+  -- a table free of sampling and merging that the check answers with 0 or 21 is accepted exactly when its run of 8,191 ticks
+  -- over any one log ends without a clash
+  pub one-run-judges :
+      (m : ℕ) (words clocks : List ℕ) → Free m words → Judged m words clocks
+      → (log marks values : List ℕ) → Asked m words log judgingTicks marks values
+      → Accepts m words clocks ↔ Ends m words log judgingTicks marks values

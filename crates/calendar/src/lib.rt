@@ -1,0 +1,1 @@
+// Theorems alone: check and run share one calendar.

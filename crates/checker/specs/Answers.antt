@@ -1,0 +1,33 @@
+-- What the check answers, and leaves in its buffer: seven words a flow.
+use Prim.Native.Nat.{ℕ, _+_, _*_}
+use mathlib.Core.List.{List, [], _∷_, _++_, map}
+use lib.ListN.{length, take}
+use lib.Dec.{leb}
+use Rattle.table.specs.declared.Answer.{Answer}
+use Rattle.table.specs.Answers.{Result, good, refused, unless, then, answer, leaves, noRoom}
+use Rattle.table.specs.Bits.{bit}
+use Rattle.table.specs.Plain.{tableOf}
+use Rattle.checker.specs.Clocks.{Condition, Clock}
+use Rattle.checker.specs.Rules.{clocksOf}
+
+abbrev pub conditionWord : Condition → ℕ
+conditionWord c = 2 * c .flow + bit (c .truth)
+
+-- period, phase, how many conditions, and four words of conditions, unused ones 0
+abbrev pub clockWords : Clock → List ℕ
+clockWords k =
+    k .period ∷ k .phase ∷ length (k .conditions) ∷ take 4 (map conditionWord (k .conditions) ++ (0 ∷ 0 ∷ 0 ∷ 0 ∷ []))
+
+unfoldable pub clocksWords : List Clock → List ℕ
+clocksWords [] = []
+clocksWords (k ∷ ks) = clockWords k ++ clocksWords ks
+
+-- what the check comes to where there is room for so many words
+unfoldable pub checking : ℕ → List ℕ → ℕ → Result (List Clock)
+checking m words room = then (tableOf m words) λ rows. unless (leb (7 * m) room) noRoom 0 (clocksOf rows)
+
+abbrev pub checkAnswer : ℕ → List ℕ → ℕ → Answer
+checkAnswer m words room = answer length (checking m words room)
+
+abbrev pub clocksAfter : ℕ → List ℕ → List ℕ → List ℕ
+clocksAfter m words old = leaves clocksWords (checking m words (length old)) old

@@ -1,0 +1,1 @@
+// The check: each flow's clock, or a refusal.

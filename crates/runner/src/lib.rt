@@ -1,0 +1,1 @@
+// The run: each flow's cell at each tick, or a clash.

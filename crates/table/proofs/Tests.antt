@@ -1,0 +1,50 @@
+-- Tests that were passed or not, and results that were reached. Assumes nothing.
+use mathlib.Core.Path.{_≡_, refl, sym}
+use Prim.Native.Nat.{ℕ}
+use native.Mathlib.Omega.{arith}
+use mathlib.Core.Bool.{Bool, true, false, _&&_, true≢false, false≢true}
+use Rattle.table.specs.Answers.{Refusal, Result, good, refused, unless, then}
+
+-- what a conjunction of tests says
+pub and-left : (a b : Bool) → (a && b) ≡ true → a ≡ true
+and-left true b e = refl
+and-left false b e = absurd (false≢true e)
+
+pub and-right : (a b : Bool) → (a && b) ≡ true → b ≡ true
+and-right true b e = e
+and-right false b e = absurd (false≢true e)
+
+pub and-both : {a b : Bool} → a ≡ true → b ≡ true → (a && b) ≡ true
+and-both p q = rw (p, q)
+
+-- two tests that pass together are one
+pub same-test : (a b : Bool) → (a ≡ true → b ≡ true) → (b ≡ true → a ≡ true) → a ≡ b
+same-test true b f g = sym (f refl)
+same-test false true f g = g refl
+same-test false false f g = refl
+
+-- a test is passed or failed
+pub data Tried (b : Bool) : Type 0 where
+  passed : b ≡ true → Tried b
+  failed : b ≡ false → Tried b
+
+pub try : (b : Bool) → Tried b
+try true = passed refl
+try false = failed refl
+
+pub not-good : {A B : Type 0} {why : Refusal} {f : ℕ} {a : A} → refused why f ≡ good a → B
+not-good e = absurd (let z : _≡_ {A = ℕ} 0 1 = cc in omega arith)
+
+module _ {A : Type 0} where
+  pub good-inj : {a b : A} → good a ≡ good b → a ≡ b
+  good-inj e = cc
+
+  -- a guard that was passed
+  pub unless-good : (b : Bool) (why : Refusal) (f : ℕ) (r : Result A) (a : A) → unless b why f r ≡ good a → (b ≡ true) × (r ≡ good a)
+  unless-good true why f r a e = (refl, e)
+  unless-good false why f r a e = not-good e
+
+  -- a step that led to a result
+  pub then-good : {B : Type 0} (r : Result A) (go : A → Result B) (b : B) → then r go ≡ good b → (a : A) × (r ≡ good a) × (go a ≡ good b)
+  then-good (good a) go b e = (a, refl, e)
+  then-good (refused why f) go b e = not-good e

@@ -1,0 +1,5 @@
+pub mod Answers
+pub mod Rows
+pub mod Plain
+pub mod Bits
+pub mod Packed

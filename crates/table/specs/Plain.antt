@@ -1,0 +1,39 @@
+-- The plain form: a count of flows, and four words a row.
+use Prim.Native.Nat.{ℕ, zero, suc, _*_}
+use mathlib.Core.Bool.{Bool, _&&_}
+use mathlib.Core.List.{List, [], _∷_, _++_}
+use lib.ListN.{length, getD, drop}
+use lib.Dec.{leb, eqb}
+use Rattle.table.specs.declared.Answer.{Answer}
+use Rattle.table.specs.Answers.{Result, good, refused, unless, then, answer, badCount}
+use Rattle.table.specs.Rows.{Row, Words, rowOf, maxFlows}
+
+-- the first four of the words
+abbrev pub four : List ℕ → Words
+four ws = record { kind = getD ws 0 0; one = getD ws 1 0; two = getD ws 2 0; three = getD ws 3 0 }
+
+-- n rows of four words
+unfoldable pub split : ℕ → List ℕ → List Words
+split zero ws = []
+split (suc n) ws = four ws ∷ split n (drop 4 ws)
+
+-- the words of the rows, one after the other
+unfoldable pub joined : List Words → List ℕ
+joined [] = []
+joined (w ∷ ws) = w .kind ∷ w .one ∷ w .two ∷ w .three ∷ joined ws
+
+-- the rows of a table of m flows, from number f on
+unfoldable pub rowsFrom : ℕ → ℕ → List Words → Result (List Row)
+rowsFrom m f [] = good []
+rowsFrom m f (w ∷ ws) = then (rowOf m f w) λ r. then (rowsFrom m (suc f) ws) λ rs. good (r ∷ rs)
+
+abbrev pub countFits : ℕ → Bool
+countFits m = leb 1 m && leb m maxFlows
+
+-- a table in plain form: its rows, or the first refusal
+unfoldable pub tableOf : ℕ → List ℕ → Result (List Row)
+tableOf m words = unless (countFits m && eqb (length words) (4 * m)) badCount 0 (rowsFrom m 0 (split m words))
+
+-- what the test of a table in plain form answers
+abbrev pub plainAnswer : ℕ → List ℕ → Answer
+plainAnswer m words = answer length (tableOf m words)
