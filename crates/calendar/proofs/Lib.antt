@@ -1,1 +1,10 @@
 pub mod Cases
+pub mod Grid
+pub mod Flows
+pub mod Dues
+pub mod Keeping
+pub mod Accepted
+pub mod Endings
+pub mod Judged
+pub mod Shown
+pub mod SharedCalendar

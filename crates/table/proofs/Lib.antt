@@ -1,2 +1,5 @@
 pub mod Tests
+pub mod Lists
+pub mod Registers
 pub mod Tables
+pub mod AnswerLaws

@@ -13,6 +13,7 @@ use borrow.Author.Tests.{leb-true, ltb-true, eqb-true}
 use Rattle.table.specs.Answers.{Result, good, refused, unless, then, outOfRange, misplaced, unknownKind, badCount}
 use Rattle.table.specs.Rows.{Row, input, constant, combine, register, faster, slower, later, head, tail, sample, merge, Field, operand, source, copies, period, ticks, value, unused, least, most, ranged, placed, Kind, kinds, Words, each, known, kindOf, fieldsOf, rowOf, maxFlows, maxField, maxCopies, maxValue}
 use Rattle.table.specs.Plain.{four, split, rowsFrom, countFits, tableOf}
+use Rattle.table.proofs.Lists.{Each, each-entry}
 use Rattle.table.proofs.Tests.{and-left, and-right, good-inj, not-good, unless-good, then-good}
 
 -- a field in its range
@@ -35,8 +36,7 @@ Fits m f (sample u a c) = a < f × c < f
 Fits m f (merge c a b) = c < f × a < f × b < f
 
 abbrev pub AllFit : ℕ → ℕ → List Row → Type 0
-AllFit m f [] = Unit {0}
-AllFit m f (r ∷ rs) = Fits m f r × AllFit m (suc f) rs
+AllFit m f rows = Each (Fits m) f rows
 
 -- The row that four words make.
 pub record Made (m f : ℕ) (w : Words) (r : Row) : Type 0 where
@@ -96,16 +96,6 @@ each-three test k w e = and-right (test (k .two) (w .two)) _ (and-right (test (k
 Makes-fit : ℕ → ℕ → Kind → Type 0
 Makes-fit m f k = (x y z : ℕ) → Good m f (k .one) x → Good m f (k .two) y → Good m f (k .three) z → Fits m f (k .make x y z)
 
--- a property of each entry of a list, by its number from i on
-abbrev pub Each : {A : Type 0} → (ℕ → A → Type 0) → ℕ → List A → Type 0
-Each P i [] = Unit {0}
-Each P i (a ∷ l) = P i a × Each P (suc i) l
-
-pub entry : {A : Type 0} (P : ℕ → A → Type 0) (i : ℕ) (l : List A) (n : ℕ) (a : A) → Each P i l → getElem? l n ≡ some a → P (i + n) a
-entry P i [] n a h e = absurd (let z : _≡_ {A = ℕ} 0 1 = cc in omega arith)
-entry P i (b ∷ l) zero a h e = let p : b ≡ a = cc in let q : i ≡ i + 0 = omega arith in subst (λ (j : ℕ). P j a) q (subst (P i) p (h .0))
-entry P i (b ∷ l) (suc n) a h e = let q : suc i + n ≡ i + suc n = omega arith in subst (λ (j : ℕ). P j a) q (entry P (suc i) l n a (h .1) e)
-
 kinds-fit : (m f : ℕ) → Each (λ (i : ℕ). Makes-fit m f) 0 kinds
 unfolding kinds Makes-fit Good
 kinds-fit m f = (
@@ -145,7 +135,7 @@ unfolding Makes-fit
 row-fits m f w r d =
     let k : Kind = d .kind in
     subst (Fits m f) (d .row)
-    (entry (λ (i : ℕ). Makes-fit m f) 0 kinds (w .kind) k (kinds-fit m f) (d .at) (w .one) (w .two) (w .three)
+    (each-entry (λ (i : ℕ). Makes-fit m f) 0 kinds (w .kind) k (kinds-fit m f) (d .at) (w .one) (w .two) (w .three)
     (good-field m f (k .one) (w .one) (each-one ranged k w (d .in-range)) (each-one (placed m f) k w (d .in-place)))
     (good-field m f (k .two) (w .two) (each-two ranged k w (d .in-range)) (each-two (placed m f) k w (d .in-place)))
     (good-field m f (k .three) (w .three) (each-three ranged k w (d .in-range)) (each-three (placed m f) k w (d .in-place))))

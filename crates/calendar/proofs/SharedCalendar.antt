@@ -1,0 +1,186 @@
+-- Check and run share one calendar. Assumes nothing.
+use mathlib.Core.Path.{_≡_, refl, sym, _∙_, ap, subst}
+use mathlib.Core.Logic.{_↔_, _⊎_, inl, inr}
+use Prim.Native.Nat.{ℕ, zero, suc, _+_, _*_, _≤_, _<_}
+use native.Mathlib.Nat.{mul-le-mul-right}
+use native.Mathlib.Omega.{arith}
+use mathlib.Core.Bool.{Bool, true, false, _&&_}
+use mathlib.Core.List.{List, [], _∷_, _++_, map}
+use lib.ListN.{length, getD, drop}
+use lib.Seq.{getD-drop}
+use lib.Dec.{leb, eqb}
+use borrow.Author.Tests.{le-leb, eq-eqb}
+use Rattle.table.specs.Answers.{Refusal, Result, good, refused, unless, then, number, over, answer, noRoom, clocksDiffer, tooManyTicks, wrongLog, shortTrace}
+use Rattle.table.specs.Rows.{Row, tail, Kind, kinds}
+use Rattle.table.specs.Plain.{four, tableOf}
+use Rattle.table.proofs.Tests.{and-both, good-inj, unless-good, then-good}
+use Rattle.table.proofs.AnswerLaws.{refused-zero, answer-zero, is-differing}
+use Rattle.table.proofs.Lists.{Each, each-entry, each-of}
+use Rattle.table.proofs.Registers.{Passes}
+use Rattle.table.proofs.Tables.{AllFit, Made, Table, rowAt, table-made}
+use Rattle.checker.specs.Clocks.{Clock}
+use Rattle.checker.specs.Rules.{clockAt, sourceFits, clocksOf}
+use Rattle.checker.specs.Answers.{clocksWords, checking, checkAnswer, clocksAfter}
+use Rattle.checker.proofs.CheckLaws.{Clocked, AllSane, all-sane, Checked, fine, bad-row, bad-source, checked}
+use Rattle.runner.specs.Cells.{Cell, absent, value}
+use Rattle.runner.specs.Runs.{Ticks, inputs, Ran, done, clashed, run, cells}
+use Rattle.runner.specs.Answers.{maxTicks, running, ranAnswer, markByte}
+use Rattle.calendar.specs.Calendar.{cellAt, Due, Accepts, rowsIn, Asked, Ends, OnCalendar, Free, Judged, judgingTicks, SharedCalendar}
+use Rattle.calendar.proofs.Keeping.{Kept}
+use Rattle.calendar.proofs.Accepted.{Wide, cells-length, Runs, runs}
+use Rattle.calendar.proofs.Judged.{FreeRow, AllFree, refused-clashes}
+use Rattle.calendar.proofs.Shown.{AtTick, at-tick, written, Shows, due-shown}
+
+-- What an accepted table has.
+record Accepted (m : ℕ) (words : List ℕ) (room : ℕ) : Type 0 where
+  rows : List Row
+  clocks : List Clock
+  table : tableOf m words ≡ good rows
+  size : length rows ≡ m
+  clocks-size : length clocks ≡ m
+  fits : AllFit (length rows) 0 rows
+  clocked : Clocked (clockAt clocks) 0 rows
+  sources : Each (Passes (sourceFits clocks)) 0 rows
+  found : checking m words room ≡ good clocks
+
+-- the rows of a table fit it
+rows-fit : (m : ℕ) (words : List ℕ) (rows : List Row) → tableOf m words ≡ good rows → AllFit (length rows) 0 rows
+rows-fit m words rows e =
+    let t : Table m words rows = table-made m words rows e in
+    subst (λ (i : ℕ). AllFit i 0 rows) (sym (t .size)) (t .fits)
+
+accepted : (m : ℕ) (words : List ℕ) (room : ℕ) → checkAnswer m words room .number ≡ 0 → Accepted m words room
+unfolding checking
+accepted m words room e =
+    let a = answer-zero length (checking m words room) e in
+    let b = then-good (tableOf m words) (λ rows. unless (leb (7 * m) room) noRoom 0 (clocksOf rows)) (a .0) (a .1) in
+    let c = unless-good (leb (7 * m) room) noRoom 0 (clocksOf (b .0)) (a .0) (b .2) in
+    go (b .0) (a .0) (b .1) (a .1) (clocksOf (b .0)) (c .1) (checked (length (b .0)) (b .0) (rows-fit m words (b .0) (b .1)))
+  where
+    go : (rows : List Row) (ks : List Clock) → tableOf m words ≡ good rows → checking m words room ≡ good ks
+        → (c : Result (List Clock)) → c ≡ good ks → Checked rows c → Accepted m words room
+    go rows ks t f c x (fine ks′ s k y) =
+        let p : ks′ ≡ ks = good-inj x in
+        let z : length rows ≡ m = table-made m words rows t .size in
+        record {
+          rows = rows;
+          clocks = ks;
+          table = t;
+          size = z;
+          clocks-size = ap length (sym p) ∙ s ∙ z;
+          fits = rows-fit m words rows t;
+          clocked = subst (λ (l : List Clock). Clocked (clockAt l) 0 rows) p k;
+          sources = subst (λ (l : List Clock). Each (Passes (sourceFits l)) 0 rows) p y;
+          found = f;
+        }
+    go rows ks t f c x (bad-row ks′ why g front r back y k z) = absurd (let p : _≡_ {A = ℕ} 0 1 = cc in omega arith)
+    go rows ks t f c x (bad-source ks′ g front r back k y z) = absurd (let p : _≡_ {A = ℕ} 0 1 = cc in omega arith)
+
+-- where the lengths are those asked, the run is the rows'
+asked-runs : (m : ℕ) (words : List ℕ) (rows : List Row) (log : List ℕ) (ticks : ℕ) (marks values : List ℕ) → tableOf m words ≡ good rows
+    → ticks ≤ maxTicks → Asked m words log ticks marks values → running m words log ticks (length marks) (length values) ≡ good (run rows log ticks)
+unfolding running
+asked-runs m words rows log ticks marks values e l a =
+    rw (
+      e,
+      le-leb ticks maxTicks l,
+      eq-eqb (length log) (ticks * inputs rows) (rw e at (a .log-length)),
+      le-leb (ticks * m) (length marks) (a .marks-length),
+      le-leb (ticks * m) (length values) (a .values-length),
+    )
+
+-- FIRST HALF
+module _ (m : ℕ) (words clocks log : List ℕ) (ticks : ℕ) (marks values : List ℕ) (a : Accepted m words (length clocks))
+    (r : Runs (a .rows) log (clockAt (a .clocks)) ticks) (e : running m words log ticks (length marks) (length values) ≡ good (done (r .past))) where
+  sane : AllSane (clockAt (a .clocks)) m
+  sane = subst (AllSane (clockAt (a .clocks))) (a .size) (all-sane (clockAt (a .clocks)) (length (a .rows)) (a .rows) (a .fits) (a .clocked))
+
+  wide : Wide m (r .past)
+  wide = subst (λ (i : ℕ). Wide i (r .past)) (a .size) (r .wide)
+
+  inside : (t f : ℕ) → t < ticks → f < m → t * m + f < length (cells (r .past))
+  inside t f x y = omega (arith, mul-le-mul-right m x, cells-length m (r .past) wide ∙ ap (λ (i : ℕ). i * m) (r .size))
+
+  on-calendar : OnCalendar m words clocks log ticks marks values
+  on-calendar t f x y =
+      let s : AtTick m (r .past) t = at-tick m (r .past) t wide (rw (r .size) x) in
+      rw (e, a .found)
+      (due-shown m (over (map markByte (cells (r .past))) marks) (over (map value (cells (r .past))) values) t (s .now)
+      record {
+        mark-at = λ g z. written markByte (cells (r .past)) _ (t * m + g) (inside t g x z) ∙ ap markByte (s .cell g z);
+        value-at = λ g z. written value (cells (r .past)) _ (t * m + g) (inside t g x z) ∙ ap value (s .cell g z);
+      }
+      (a .clocks) (drop (length (clocksWords (a .clocks))) clocks) f (s .before) y (rw (a .clocks-size) y) (sane f y) (s .size) (s .keeps (clockAt (a .clocks) f) f (r .kept f (rw (a .size) y))))
+
+accepted-run : (m : ℕ) (words clocks : List ℕ) → Accepts m words clocks → (log : List ℕ) (ticks : ℕ) (marks values : List ℕ) → ticks ≤ maxTicks
+    → Asked m words log ticks marks values → Ends m words log ticks marks values × OnCalendar m words clocks log ticks marks values
+accepted-run m words clocks x log ticks marks values l asked = go (accepted m words (length clocks) x)
+  where
+    go : Accepted m words (length clocks) → Ends m words log ticks marks values × OnCalendar m words clocks log ticks marks values
+    go a =
+        let r : Runs (a .rows) log (clockAt (a .clocks)) ticks = runs (a .rows) (a .clocks) (a .fits) (a .clocked) (a .sources) log ticks in
+        let e : running m words log ticks (length marks) (length values) ≡ good (done (r .past)) =
+        asked-runs m words (a .rows) log ticks marks values (a .table) l asked ∙ ap good (r .eq) in
+        (rw e, on-calendar m words clocks log ticks marks values a r e)
+
+-- SECOND HALF
+-- kinds other than 13 to 15 make rows that neither sample nor merge
+kinds-free : Each (λ (i : ℕ) (k : Kind). (13 ≤ i → i ≤ 15 → ⊥) → (x y z : ℕ) → FreeRow (k .make x y z)) 0 kinds
+unfolding kinds
+kinds-free =
+    (free, (free, (free, (free, (free, (free, (free, (free, (free, (free, (free, (free, (free, (λ h x y z. h (omega arith) (omega arith), (λ h x y z. h (omega arith) (omega arith), (λ h x y z. h (omega arith) (omega arith), tt))))))))))))))))
+  where
+    free : {A : Type 0} → A → (x y z : ℕ) → Unit {0}
+    free h x y z = tt
+
+free-rows : (m : ℕ) (words : List ℕ) (rows : List Row) → tableOf m words ≡ good rows → Free m words → AllFree 0 rows
+free-rows m words rows e free = go (table-made m words rows e)
+  where
+    go : Table m words rows → AllFree 0 rows
+    go t = each-of (λ (g : ℕ). FreeRow) 0 rows (tail 0) (λ f l. at f (rw (t .size) at l))
+      where
+        at : (f : ℕ) → f < m → FreeRow (rowAt rows f)
+        at f l =
+            let d : Made m f (four (drop (4 * f) words)) (rowAt rows f) = t .row-at f l in
+            let k : ℕ = getD (drop (4 * f) words) 0 0 in
+            let q : k ≡ getD words (4 * f) 0 = getD-drop (4 * f) words 0 0 ∙ ap (λ (i : ℕ). getD words i 0) (omega arith) in
+            subst FreeRow (d .row)
+            (each-entry (λ (i : ℕ) (k : Kind). (13 ≤ i → i ≤ 15 → ⊥) → (x y z : ℕ) → FreeRow (k .make x y z)) 0 kinds k (d .kind) kinds-free (d .at)
+            (λ x y. free f l (omega arith) (omega arith)) _ _ _)
+
+-- a run that answers 0 ended without a clash
+ended : (ticks : ℕ) (r : Result Ran) → ranAnswer ticks r .number ≡ 0 → (past : Ticks) × (r ≡ good (done past))
+ended ticks (good (done past)) e = (past, refl)
+ended ticks (good (clashed t f now past)) e = absurd (let z : _≡_ {A = ℕ} 34 0 = e in omega arith)
+ended ticks (refused why f) e = refused-zero why e
+
+-- a check that answers 21 past the table has refused the clocks so
+differing : (b : Bool) (c : Result (List Clock)) → answer length (unless b noRoom 0 c) .number ≡ number clocksDiffer → (g : ℕ) × (c ≡ refused clocksDiffer g)
+differing true (good ks) e = absurd (let z : _≡_ {A = ℕ} 0 21 = e in omega arith)
+differing true (refused why g) e = (g, ap (λ (w : Refusal). refused w g) (is-differing why e))
+differing false c e = absurd (let z : _≡_ {A = ℕ} 10 21 = e in omega arith)
+
+module _ (m : ℕ) (words clocks : List ℕ) (free : Free m words) (log marks values : List ℕ) where
+  never-both : checkAnswer m words (length clocks) .number ≡ number clocksDiffer → Ends m words log judgingTicks marks values → ⊥
+  unfolding running checking
+  never-both e x =
+      let r = ended judgingTicks (running m words log judgingTicks (length marks) (length values)) x in
+      let t = then-good (tableOf m words) _ (done (r .0)) (r .1) in
+      let a = unless-good (leb judgingTicks maxTicks) tooManyTicks 0 _ (done (r .0)) (t .2) in
+      let b = unless-good (eqb (length log) (judgingTicks * inputs (t .0))) wrongLog 0 _ (done (r .0)) (a .1) in
+      let c = unless-good (leb (judgingTicks * m) (length marks) && leb (judgingTicks * m) (length values)) shortTrace 0 _ (done (r .0)) (b .1) in
+      let d : (g : ℕ) × (clocksOf (t .0) ≡ refused clocksDiffer g) = differing (leb (7 * m) (length clocks)) (clocksOf (t .0)) (rw (t .1) at e) in
+      refused-clashes (t .0) (rows-fit m words (t .0) (t .1)) (free-rows m words (t .0) (t .1) free) (d .0) (d .1) log (r .0) (good-inj (c .1))
+
+one-run : (m : ℕ) (words clocks : List ℕ) → Free m words → Judged m words clocks → (log marks values : List ℕ)
+    → Asked m words log judgingTicks marks values → Accepts m words clocks ↔ Ends m words log judgingTicks marks values
+one-run m words clocks free j log marks values asked =
+    (λ x. accepted-run m words clocks x log judgingTicks marks values (omega arith) asked .0, from j)
+  where
+    from : Judged m words clocks → Ends m words log judgingTicks marks values → Accepts m words clocks
+    from (inl e) x = e
+    from (inr e) x = absurd (never-both m words clocks free log marks values e x)
+
+-- DEMAND 3, both halves
+pub shared-calendar : SharedCalendar
+shared-calendar = record { accepted-runs = accepted-run; one-run-judges = one-run }

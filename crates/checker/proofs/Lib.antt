@@ -1,0 +1,4 @@
+pub mod ClockLaws
+pub mod RuleLaws
+pub mod CheckLaws
+pub mod WordLaws

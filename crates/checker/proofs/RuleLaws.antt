@@ -1,0 +1,80 @@
+-- What a rule that gives a clock has found. Assumes nothing.
+use mathlib.Core.Path.{_≡_, refl, subst}
+use Prim.Native.Nat.{ℕ, _+_, _*_, _≤_}
+use mathlib.Core.Bool.{Bool, true, false, _&&_}
+use mathlib.Core.List.{List, []}
+use lib.ListN.{length}
+use lib.Dec.{eqb, leb}
+use borrow.Author.Tests.{eqb-true, leb-true}
+use Rattle.table.specs.Answers.{Refusal, Result, good, refused, unless, clocksDiffer, beyondLimits, notPlain}
+use Rattle.table.specs.Rows.{Row, Op, input, constant, combine, register, faster, slower, later, head, tail, sample, merge}
+use Rattle.table.proofs.Tests.{and-left, and-right, good-inj, unless-good}
+use Rattle.checker.specs.Clocks.{Clock, every, plain, sameClock, under}
+use Rattle.checker.specs.Rules.{maxDerived, maxConditions, withinLimits, limited, clockOf}
+use Rattle.checker.proofs.ClockLaws.{same-clock}
+
+-- the limits, kept
+pub record Limited (k : Clock) : Type 0 where
+  pub period-fits : k .period ≤ maxDerived
+  pub phase-fits : k .phase ≤ maxDerived
+  pub few : length (k .conditions) ≤ maxConditions
+
+pub limited-good : (f : ℕ) (j k : Clock) → limited f j ≡ good k → (j ≡ k) × Limited j
+limited-good f j k e =
+    let r = unless-good (withinLimits j) beyondLimits f (good j) k e in
+    let s : (leb (j .phase) maxDerived && leb (length (j .conditions)) maxConditions) ≡ true = and-right (leb (j .period) maxDerived) _ (r .0) in (
+      good-inj (r .1),
+      record {
+        period-fits = leb-true _ _ (and-left (leb (j .period) maxDerived) _ (r .0));
+        phase-fits = leb-true _ _ (and-left (leb (j .phase) maxDerived) _ s);
+        few = leb-true _ _ (and-right (leb (j .phase) maxDerived) _ s);
+      },
+    )
+
+-- The rules once more, as what holds where a row has a clock.
+pub data Rule (clk : ℕ → Clock) : Row → Clock → Type 0 where
+  by-input : {n p : ℕ} → Rule clk (input n p) (every n p)
+  by-constant : {v n p : ℕ} → Rule clk (constant v n p) (every n p)
+  by-combine : {op : Op} {a b : ℕ} → clk a ≡ clk b → Rule clk (combine op a b) (clk a)
+  by-register : {v b a : ℕ} → Rule clk (register v b a) (clk b)
+  by-faster : {a k g : ℕ} → plain (clk a) ≡ true → clk a .period ≡ k * g → Rule clk (faster a k g) (every g (clk a .phase))
+  by-slower : {a k : ℕ} → plain (clk a) ≡ true → Limited (every (k * clk a .period) (clk a .phase)) → Rule clk (slower a k) (every (k * clk a .period) (clk a .phase))
+  by-later : {a d : ℕ} → plain (clk a) ≡ true → Limited (every (clk a .period) (clk a .phase + d)) → Rule clk (later a d) (every (clk a .period) (clk a .phase + d))
+  by-head : {a v s : ℕ} → plain (clk a) ≡ true → clk a .phase ≡ s + clk a .period → Rule clk (head a v s) (every (clk a .period) s)
+  by-tail : {a : ℕ} → plain (clk a) ≡ true → Limited (every (clk a .period) (clk a .phase + clk a .period)) → Rule clk (tail a) (every (clk a .period) (clk a .phase + clk a .period))
+  by-sample : {u : Bool} {a c : ℕ} → clk a ≡ clk c → Limited (under (clk a) c u) → Rule clk (sample u a c) (under (clk a) c u)
+  by-merge : {c a b : ℕ} → clk a ≡ under (clk c) c true → clk b ≡ under (clk c) c false → Rule clk (merge c a b) (clk c)
+
+module _ (clk : ℕ → Clock) (f : ℕ) where
+  -- a test, and then a clock or a clock within the limits
+  tested : (b : Bool) (why : Refusal) (j k : Clock) (r : Row) → (b ≡ true → Rule clk r j) → unless b why f (good j) ≡ good k → Rule clk r k
+  tested b why j k r h e =
+      let u = unless-good b why f (good j) k e in
+      subst (Rule clk r) (good-inj (u .1)) (h (u .0))
+
+  within : (b : Bool) (why : Refusal) (j k : Clock) (r : Row) → (b ≡ true → Limited j → Rule clk r j) → unless b why f (limited f j) ≡ good k → Rule clk r k
+  within b why j k r h e =
+      let u = unless-good b why f (limited f j) k e in
+      let l : (j ≡ k) × Limited j = limited-good f j k (u .1) in
+      subst (Rule clk r) (l .0) (h (u .0) (l .1))
+
+  pub rule-of : (r : Row) (k : Clock) → clockOf clk f r ≡ good k → Rule clk r k
+  unfolding clockOf
+  rule-of (input n p) k e = subst (Rule clk (input n p)) (good-inj e) by-input
+  rule-of (constant v n p) k e = subst (Rule clk (constant v n p)) (good-inj e) by-constant
+  rule-of (combine op a b) k e = tested (sameClock (clk a) (clk b)) clocksDiffer (clk a) k (combine op a b) (λ x. by-combine (same-clock _ _ x)) e
+  rule-of (register v b a) k e = subst (Rule clk (register v b a)) (good-inj e) by-register
+  rule-of (faster a m g) k e =
+      let u = unless-good (plain (clk a)) notPlain f _ k e in
+      tested (eqb (clk a .period) (m * g)) clocksDiffer (every g (clk a .phase)) k (faster a m g) (λ x. by-faster (u .0) (eqb-true _ _ x)) (u .1)
+  rule-of (slower a m) k e = within (plain (clk a)) notPlain (every (m * clk a .period) (clk a .phase)) k (slower a m) (λ x l. by-slower x l) e
+  rule-of (later a d) k e = within (plain (clk a)) notPlain (every (clk a .period) (clk a .phase + d)) k (later a d) (λ x l. by-later x l) e
+  rule-of (head a v s) k e =
+      let u = unless-good (plain (clk a)) notPlain f _ k e in
+      tested (eqb (clk a .phase) (s + clk a .period)) clocksDiffer (every (clk a .period) s) k (head a v s) (λ x. by-head (u .0) (eqb-true _ _ x)) (u .1)
+  rule-of (tail a) k e = within (plain (clk a)) notPlain (every (clk a .period) (clk a .phase + clk a .period)) k (tail a) (λ x l. by-tail x l) e
+  rule-of (sample u a c) k e = within (sameClock (clk a) (clk c)) clocksDiffer (under (clk a) c u) k (sample u a c) (λ x l. by-sample (same-clock _ _ x) l) e
+  rule-of (merge c a b) k e =
+      let left : Bool = sameClock (clk a) (under (clk c) c true) in
+      tested (left && sameClock (clk b) (under (clk c) c false)) clocksDiffer (clk c) k (merge c a b)
+      (λ x. by-merge (same-clock _ _ (and-left left _ x)) (same-clock _ _ (and-right left _ x))) e
