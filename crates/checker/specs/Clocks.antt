@@ -15,7 +15,7 @@ pub record Clock : Type 0 where
   pub phase : ℕ
   pub conditions : List Condition
 
--- a plain clock (the paper's word; strictly periodic in the field's terms): one without conditions
+-- a clock without conditions: plain is the paper's word for a strictly periodic clock
 abbrev pub every : ℕ → ℕ → Clock
 every n p = record { period = n; phase = p; conditions = [] }
 

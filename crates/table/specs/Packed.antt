@@ -46,7 +46,7 @@ takeRow m f bs =
     then (kindOf f (n .field)) λ k.
     takeFields m f (n .field) k (n .rest)
 
--- what is left after the rows fills the last byte up with zero bits
+-- what is left after the rows fills the last byte up with zero bits (filling is the paper's word for padding)
 abbrev pub filling : List Bool → Bool
 filling bs = ltb (length bs) 8 && eqb (fromBits bs) 0
 

@@ -1,4 +1,4 @@
--- The plain form: a count of flows, and four words a row.
+-- The plain form (the paper's word for the unpacked encoding): a count of flows, and four words a row.
 use Prim.Native.Nat.{ℕ, zero, suc, _*_}
 use mathlib.Core.Bool.{Bool, _&&_}
 use mathlib.Core.List.{List, [], _∷_, _++_}

@@ -24,8 +24,9 @@ maxValue = 4294967295
 pub data Op : Type 0 where
   add subtract less equal larger : Op
 
--- The row of a flow (the paper's word for a signal; an equation over streams in the field's terms). When and when-not are one
--- row, told apart by the truth that they sample. The paper's beat of a register is the flow that clocks it.
+-- The row of a flow. Flow is the paper's word for a dataflow signal, row for its equation. The paper's operators in the terms of
+-- synchronous languages: register is fby (a unit delay), clocked by its beat; faster is up-sampling (*^), slower down-sampling (/^),
+-- later a phase offset (~>), head concatenation (::). When and when-not are one row, told apart by the truth that they sample.
 pub data Row : Type 0 where
   input : (period phase : ℕ) → Row
   constant : (value period phase : ℕ) → Row
