@@ -6,7 +6,8 @@ use mathlib.Core.Bool.{Bool, true, false}
 use mathlib.Core.List.{List, [], _∷_, append-nil}
 use mathlib.Core.Option.{none}
 use lib.ListN.{length, length-append}
-use Rattle.table.specs.Rows.{Row, input, constant, combine, register, faster, slower, later, head, tail, sample, merge, onRegister, badRegister}
+use Rattle.table.specs.Rows.{Row, input, constant, combine, register, faster, slower, later, head, tail, sample, merge, onRegister}
+use Rattle.table.specs.Rows.{badRegister}
 use Rattle.table.proofs.Lists.{Each, each-map, each-both}
 use Rattle.table.proofs.Registers.{Passes, none-bad}
 use Rattle.table.proofs.Tables.{Fits, AllFit}

@@ -12,7 +12,8 @@ use Rattle.checker.specs.Clocks.{Clock}
 use Rattle.checker.proofs.CheckLaws.{Clocked, AllSane}
 use Rattle.runner.specs.Cells.{Cell}
 use Rattle.runner.specs.Operators.{Step, is, clashes}
-use Rattle.runner.specs.Runs.{Tick, Ticks, cellOf, TickEnd, filled, stopped, onStep, flowsFrom, sourceMeets, sourcedTick, onFlows, tickOf, Ran, done, clashed, onTick, onRun, run}
+use Rattle.runner.specs.Runs.{Tick, Ticks, cellOf, TickEnd, filled, stopped, onStep, flowsFrom, sourceMeets, sourcedTick, onFlows, tickOf}
+use Rattle.runner.specs.Runs.{Ran, done, clashed, onTick, onRun, run}
 use Rattle.calendar.proofs.Keeping.{Kept, Front, front-law, kept-append}
 
 pub not-filled : {f : ℕ} {x now : Tick} {A : Type 0} → stopped f x ≡ filled now → A

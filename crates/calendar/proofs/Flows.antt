@@ -12,7 +12,8 @@ use lib.Dec.{eqb, ltb}
 use borrow.Author.Tests.{eqb-true, eqb-false, eq-eqb, ne-eqb, lt-ltb, le-ltb}
 use Rattle.table.proofs.Tests.{and-left, and-right, and-both, same-test, Tried, passed, failed, try}
 use Rattle.runner.specs.Cells.{Cell, absent, present, mark, History, back, count, Presence, latest, onGrid}
-use Rattle.runner.specs.Operators.{Step, is, clashes, clashUnless, copied, exactly, spaced, fasterOf, slowerOf, laterOf, tailOf, evenly, headFits, headOf}
+use Rattle.runner.specs.Operators.{Step, is, clashes, clashUnless, copied, exactly, spaced, fasterOf, slowerOf, laterOf, tailOf, evenly}
+use Rattle.runner.specs.Operators.{headFits, headOf}
 use Rattle.calendar.proofs.Grid.{On, on-of, of-on, off-grid, next, at-first, at-second}
 
 -- present exactly at phase p plus whole periods n

@@ -10,14 +10,16 @@ use lib.ListN.{length, length-append}
 use lib.Dec.{eqb}
 use borrow.Author.Tests.{eqb-false}
 use Rattle.table.specs.Answers.{Refusal, Result, good, refused, unless, clocksDiffer, beyondLimits, notPlain}
-use Rattle.table.specs.Rows.{Row, Op, input, constant, combine, register, faster, slower, later, head, tail, sample, merge, onRegister, badRegister}
+use Rattle.table.specs.Rows.{Row, Op, input, constant, combine, register, faster, slower, later, head, tail, sample, merge, onRegister}
+use Rattle.table.specs.Rows.{badRegister}
 use Rattle.table.proofs.Lists.{Each, each-front, each-at, below-suc}
 use Rattle.table.proofs.Registers.{Passes, Registers, all-pass, registers}
 use Rattle.table.proofs.Tables.{Fits, AllFit}
 use Rattle.checker.specs.Clocks.{Clock, every, plain, sameClock}
 use Rattle.checker.specs.Rules.{maxDerived, withinLimits, limited, clockOf, clockAt, sourceFits, clocksOf}
 use Rattle.checker.proofs.ClockLaws.{beq-true, plain-differ}
-use Rattle.checker.proofs.RuleLaws.{Rule, by-input, by-constant, by-combine, by-register, by-faster, by-slower, by-later, by-head, by-tail, by-sample, by-merge, rule-of}
+use Rattle.checker.proofs.RuleLaws.{Rule, by-input, by-constant, by-combine, by-register, by-faster, by-slower, by-later, by-head, by-tail}
+use Rattle.checker.proofs.RuleLaws.{by-sample, by-merge, rule-of}
 use Rattle.checker.proofs.CheckLaws.{Clocked, Sane, AllSane, all-sane, Checked, fine, bad-row, bad-source, checked}
 use Rattle.runner.specs.Cells.{mark, onGrid}
 use Rattle.runner.specs.Operators.{clashes}
@@ -27,7 +29,8 @@ use Rattle.calendar.proofs.Grid.{Parted, parted}
 use Rattle.calendar.proofs.Flows.{Regular, faster-clash, head-early, head-clash}
 use Rattle.calendar.proofs.Dues.{due-plain, combined-clash}
 use Rattle.calendar.proofs.Keeping.{Kept, history-length, regular}
-use Rattle.calendar.proofs.Endings.{not-filled, Last, last, ended-before, tick-parts, front-of, front-size, front-kept, front-filled, tick-kept, run-kept}
+use Rattle.calendar.proofs.Endings.{not-filled, Last, last, ended-before, tick-parts, front-of, front-size, front-kept, front-filled}
+use Rattle.calendar.proofs.Endings.{tick-kept, run-kept}
 
 -- a row that neither samples nor merges
 abbrev pub FreeRow : Row → Type 0

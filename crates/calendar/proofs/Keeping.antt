@@ -10,13 +10,15 @@ use Rattle.table.specs.Rows.{Row, Op, input, constant, combine, register, faste
 use Rattle.table.proofs.Lists.{below-suc}
 use Rattle.table.proofs.Tables.{In, Fits, AllFit}
 use Rattle.checker.specs.Clocks.{Clock, every, plain, under}
-use Rattle.checker.proofs.RuleLaws.{Rule, by-input, by-constant, by-combine, by-register, by-faster, by-slower, by-later, by-head, by-tail, by-sample, by-merge, rule-of}
+use Rattle.checker.proofs.RuleLaws.{Rule, by-input, by-constant, by-combine, by-register, by-faster, by-slower, by-later, by-head, by-tail}
+use Rattle.checker.proofs.RuleLaws.{by-sample, by-merge, rule-of}
 use Rattle.checker.proofs.CheckLaws.{Clocked, Sane, AllSane, below-le}
 use Rattle.runner.specs.Cells.{Cell, absent, present, mark, onGrid}
 use Rattle.runner.specs.Operators.{Step, is}
 use Rattle.runner.specs.Runs.{Tick, Ticks, cellIn, history, cellOf, TickEnd, filled, stopped, flowsFrom}
 use Rattle.calendar.proofs.Flows.{Makes, cond-mark, Regular, faster-law, slower-law, later-law, tail-law, head-law}
-use Rattle.calendar.proofs.Dues.{holds, due, due-plain, due-under, due-append, made, combined-law, registered-law, sampled-law, merged-law}
+use Rattle.calendar.proofs.Dues.{holds, due, due-plain, due-under, due-append, made, combined-law, registered-law, sampled-law}
+use Rattle.calendar.proofs.Dues.{merged-law}
 
 -- flow f keeps clock k at each of the ticks
 abbrev pub Keeps : Clock → Ticks → ℕ → Type 0

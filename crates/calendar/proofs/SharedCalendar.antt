@@ -10,7 +10,8 @@ use lib.ListN.{length, getD, drop}
 use lib.Seq.{getD-drop}
 use lib.Dec.{leb, eqb}
 use borrow.Author.Tests.{le-leb, eq-eqb}
-use Rattle.table.specs.Answers.{Refusal, Result, good, refused, unless, then, number, over, answer, noRoom, clocksDiffer, tooManyTicks, wrongLog, shortTrace}
+use Rattle.table.specs.Answers.{Refusal, Result, good, refused, unless, then, number, over, answer, noRoom, clocksDiffer, tooManyTicks}
+use Rattle.table.specs.Answers.{wrongLog, shortTrace}
 use Rattle.table.specs.Rows.{Row, tail, Kind, kinds}
 use Rattle.table.specs.Plain.{four, tableOf}
 use Rattle.table.proofs.Tests.{and-both, good-inj, unless-good, then-good}
@@ -127,8 +128,52 @@ accepted-run m words clocks x log ticks marks values l asked = go (accepted m wo
 -- kinds other than 13 to 15 make rows that neither sample nor merge
 kinds-free : Each (λ (i : ℕ) (k : Kind). (13 ≤ i → i ≤ 15 → ⊥) → (x y z : ℕ) → FreeRow (k .make x y z)) 0 kinds
 unfolding kinds
-kinds-free =
-    (free, (free, (free, (free, (free, (free, (free, (free, (free, (free, (free, (free, (free, (λ h x y z. h (omega arith) (omega arith), (λ h x y z. h (omega arith) (omega arith), (λ h x y z. h (omega arith) (omega arith), tt))))))))))))))))
+kinds-free = (
+  free,
+  (
+    free,
+    (
+      free,
+      (
+        free,
+        (
+          free,
+          (
+            free,
+            (
+              free,
+              (
+                free,
+                (
+                  free,
+                  (
+                    free,
+                    (
+                      free,
+                      (
+                        free,
+                        (
+                          free,
+                          (
+                            λ h x y z. h (omega arith) (omega arith),
+                            (
+                              λ h x y z. h (omega arith) (omega arith),
+                              (λ h x y z. h (omega arith) (omega arith), tt),
+                            ),
+                          ),
+                        ),
+                      ),
+                    ),
+                  ),
+                ),
+              ),
+            ),
+          ),
+        ),
+      ),
+    ),
+  ),
+)
   where
     free : {A : Type 0} → A → (x y z : ℕ) → Unit {0}
     free h x y z = tt

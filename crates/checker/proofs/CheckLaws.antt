@@ -9,13 +9,15 @@ use mathlib.Core.Option.{Option, none, some}
 use lib.ListN.{length, getD, length-append, List·getD-append}
 use lib.Seq.{getD-append-seam}
 use Rattle.table.specs.Answers.{Refusal, Result, good, refused, then, clocksDiffer}
-use Rattle.table.specs.Rows.{Row, Op, input, constant, combine, register, faster, slower, later, head, tail, sample, merge, onRegister, badRegister}
+use Rattle.table.specs.Rows.{Row, Op, input, constant, combine, register, faster, slower, later, head, tail, sample, merge, onRegister}
+use Rattle.table.specs.Rows.{badRegister}
 use Rattle.table.proofs.Lists.{Each, below-suc}
 use Rattle.table.proofs.Registers.{Passes, Registers, all-pass, one-fails, registers}
 use Rattle.table.proofs.Tables.{In, Fits, AllFit}
 use Rattle.checker.specs.Clocks.{Condition, Clock, every}
 use Rattle.checker.specs.Rules.{maxDerived, maxConditions, clockOf, clockAt, clocksFrom, sourced, sourceFits, clocksOf}
-use Rattle.checker.proofs.RuleLaws.{Rule, by-input, by-constant, by-combine, by-register, by-faster, by-slower, by-later, by-head, by-tail, by-sample, by-merge, rule-of}
+use Rattle.checker.proofs.RuleLaws.{Rule, by-input, by-constant, by-combine, by-register, by-faster, by-slower, by-later, by-head}
+use Rattle.checker.proofs.RuleLaws.{by-tail, by-sample, by-merge, rule-of}
 
 -- a rule reads the clocks of lower flows only
 clock-local : (clk clk′ : ℕ → Clock) (m f : ℕ) (r : Row) → Fits m f r → ((a : ℕ) → a < f → clk a ≡ clk′ a) → clockOf clk f r ≡ clockOf clk′ f r

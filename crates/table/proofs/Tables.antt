@@ -11,7 +11,9 @@ use lib.Seq.{drop-drop}
 use lib.Dec.{eqb, leb, ltb}
 use borrow.Author.Tests.{leb-true, ltb-true, eqb-true}
 use Rattle.table.specs.Answers.{Result, good, refused, unless, then, outOfRange, misplaced, unknownKind, badCount}
-use Rattle.table.specs.Rows.{Row, input, constant, combine, register, faster, slower, later, head, tail, sample, merge, Field, operand, source, copies, period, ticks, value, unused, least, most, ranged, placed, Kind, kinds, Words, each, known, kindOf, fieldsOf, rowOf, maxFlows, maxField, maxCopies, maxValue}
+use Rattle.table.specs.Rows.{Row, input, constant, combine, register, faster, slower, later, head, tail, sample, merge, Field}
+use Rattle.table.specs.Rows.{operand, source, copies, period, ticks, value, unused, least, most, ranged, placed, Kind, kinds, Words}
+use Rattle.table.specs.Rows.{each, known, kindOf, fieldsOf, rowOf, maxFlows, maxField, maxCopies, maxValue}
 use Rattle.table.specs.Plain.{four, split, rowsFrom, countFits, tableOf}
 use Rattle.table.proofs.Lists.{Each, each-entry}
 use Rattle.table.proofs.Tests.{and-left, and-right, good-inj, not-good, unless-good, then-good}
