@@ -1,2 +1,4 @@
 pub mod Tests
 pub mod Tables
+mod Entries
+mod Records

@@ -3,3 +3,4 @@ pub mod Rows
 pub mod Plain
 pub mod Bits
 pub mod Packed
+pub mod Codes
