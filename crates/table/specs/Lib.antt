@@ -3,3 +3,6 @@ pub mod Rows
 pub mod Plain
 pub mod Bits
 pub mod Packed
+pub mod Codes
+pub mod Places
+pub mod Steps

@@ -1,0 +1,176 @@
+-- A rule of a table, proved at all of its entries by one test that antt computes. Assumes nothing.
+use mathlib.Core.Path.{_≡_, refl, sym, subst, _∙_, ap}
+use mathlib.Core.Bool.{Bool, true, false, _&&_}
+use mathlib.Core.List.{List, [], _∷_}
+use mathlib.Core.Option.{Option, none, some}
+use Prim.Native.Nat.{ℕ, zero, suc, _+_, _<_, _≤_}
+use native.Mathlib.Omega.{arith}
+use lib.Dec.{eqb}
+use lib.ListN.{length, getD, getElem?}
+use borrow.Author.Tests.{eqb-true}
+use Rattle.table.specs.Rows.{Field, operand, source, copies, period, ticks, value, unused, least, most, width, Kind, kinds, placed}
+use Rattle.table.specs.Codes.{coded, kindAt, fieldList}
+use Rattle.table.proofs.Tests.{and-left, and-right}
+
+module _ {A : Type 0} where
+  -- the test passes at each entry and its place, counted from i
+  abbrev pub every : (ℕ → A → Bool) → ℕ → List A → Bool
+  every test i [] = true
+  every test i (x ∷ xs) = test i x && every test (suc i) xs
+
+  from : (test : ℕ → A → Bool) (xs : List A) (d : A) (i : ℕ) → every test i xs ≡ true → (k : ℕ) → k < length xs → test (i + k) (getD xs k d) ≡ true
+  from test [] d i t k h = absurd (omega arith)
+  from test (x ∷ xs) d i t zero h =
+      let e : i ≡ i + 0 = omega arith in
+      subst (λ (n : ℕ). test n x ≡ true) e (and-left (test i x) (every test (suc i) xs) t)
+  from test (x ∷ xs) d i t (suc k) h =
+      let e : suc i + k ≡ i + suc k = omega arith in
+      subst (λ (n : ℕ). test n (getD xs k d) ≡ true) e (from test xs d (suc i) (and-right (test i x) (every test (suc i) xs) t) k (omega arith))
+
+  pub at : (test : ℕ → A → Bool) (xs : List A) (d : A) → every test 0 xs ≡ true → (k : ℕ) → k < length xs → test k (getD xs k d) ≡ true
+  at test xs d t k h = let e : 0 + k ≡ k = omega arith in subst (λ (n : ℕ). test n (getD xs k d) ≡ true) e (from test xs d 0 t k h)
+
+  -- an entry that is there, and one that is not
+  pub there : (l : List A) (d : A) (n : ℕ) → n < length l → getElem? l n ≡ some (getD l n d)
+  there [] d n h = absurd (omega arith)
+  there (x ∷ l) d zero h = refl
+  there (x ∷ l) d (suc n) h = there l d n (omega arith)
+
+  pub gone : (l : List A) (n : ℕ) → length l ≤ n → getElem? l n ≡ none
+  gone [] n h = refl
+  gone (x ∷ l) zero h = absurd (omega arith)
+  gone (x ∷ l) (suc n) h = gone l n (omega arith)
+
+-- a table of numbers that are those of a function
+pub tabled : (f : ℕ → ℕ) (xs : List ℕ) → every (λ k x. eqb x (f k)) 0 xs ≡ true → (k : ℕ) → k < length xs → getD xs k 0 ≡ f k
+tabled f xs t k h = eqb-true (getD xs k 0) (f k) (at (λ k x. eqb x (f k)) xs 0 t k h)
+
+-- The tables by field.
+abbrev pub leasts : List ℕ
+leasts = 0 ∷ 0 ∷ 1 ∷ 1 ∷ 0 ∷ 0 ∷ 0 ∷ []
+
+abbrev pub mosts : List ℕ
+mosts = 63 ∷ 63 ∷ 63 ∷ 4095 ∷ 4095 ∷ 4294967295 ∷ 0 ∷ []
+
+abbrev pub widths : List ℕ
+widths = 6 ∷ 6 ∷ 6 ∷ 12 ∷ 12 ∷ 32 ∷ 0 ∷ []
+
+pub least-at : (k : ℕ) → k < 7 → getD leasts k 0 ≡ least (coded k)
+least-at k h = tabled (λ k. least (coded k)) leasts refl k h
+
+pub most-at : (k : ℕ) → k < 7 → getD mosts k 0 ≡ most (coded k)
+most-at k h = tabled (λ k. most (coded k)) mosts refl k h
+
+pub width-at : (k : ℕ) → k < 7 → getD widths k 0 ≡ width (coded k)
+width-at k h = tabled (λ k. width (coded k)) widths refl k h
+
+pub width-le : (t : Field) → width t ≤ 32
+width-le operand = omega arith
+width-le source = omega arith
+width-le copies = omega arith
+width-le period = omega arith
+width-le ticks = omega arith
+width-le value = omega arith
+width-le unused = omega arith
+
+-- the number of a field
+abbrev code : Field → ℕ
+code operand = 0
+code source = 1
+code copies = 2
+code period = 3
+code ticks = 4
+code value = 5
+code unused = 6
+
+coded-code : (t : Field) → coded (code t) ≡ t
+coded-code operand = refl
+coded-code source = refl
+coded-code copies = refl
+coded-code period = refl
+coded-code ticks = refl
+coded-code value = refl
+coded-code unused = refl
+
+code-lt : (t : Field) → code t < 7
+code-lt operand = omega arith
+code-lt source = omega arith
+code-lt copies = omega arith
+code-lt period = omega arith
+code-lt ticks = omega arith
+code-lt value = omega arith
+code-lt unused = omega arith
+
+-- The table by kind: a line a kind.
+abbrev pub fields : List (List ℕ)
+fields =
+    (3 ∷ 4 ∷ 6 ∷ [])
+    ∷ (5 ∷ 3 ∷ 4 ∷ [])
+    ∷ (0 ∷ 0 ∷ 6 ∷ [])
+    ∷ (0 ∷ 0 ∷ 6 ∷ [])
+    ∷ (0 ∷ 0 ∷ 6 ∷ [])
+    ∷ (0 ∷ 0 ∷ 6 ∷ [])
+    ∷ (0 ∷ 0 ∷ 6 ∷ [])
+    ∷ (5 ∷ 0 ∷ 1 ∷ [])
+    ∷ (0 ∷ 2 ∷ 3 ∷ [])
+    ∷ (0 ∷ 2 ∷ 6 ∷ [])
+    ∷ (0 ∷ 4 ∷ 6 ∷ [])
+    ∷ (0 ∷ 5 ∷ 4 ∷ [])
+    ∷ (0 ∷ 6 ∷ 6 ∷ [])
+    ∷ (0 ∷ 0 ∷ 6 ∷ [])
+    ∷ (0 ∷ 0 ∷ 6 ∷ [])
+    ∷ (0 ∷ 0 ∷ 0 ∷ [])
+    ∷ []
+
+abbrev fieldCode : ℕ → ℕ → ℕ
+fieldCode k place = code (getD (fieldList (kindAt k)) place unused)
+
+abbrev line : ℕ → List ℕ → Bool
+line k fs = eqb (length fs) 3 && every (λ place x. eqb x (fieldCode k place)) 0 fs
+
+fields-right : every line 0 fields ≡ true
+unfolding kinds
+fields-right = refl
+
+pub kinds-size : length kinds ≡ 16
+unfolding kinds
+kinds-size = refl
+
+-- a field's number in the table, and the field that it is
+module _ (k place : ℕ) (known : k < 16) (within : place < 3) where
+  x : ℕ
+  x = getD (getD fields k []) place 0
+
+  x-code : x ≡ fieldCode k place
+  unfolding x
+  x-code =
+      let l = at line fields [] fields-right k known in
+      let n : length (getD fields k []) ≡ 3 = eqb-true (length (getD fields k [])) 3 (and-left (eqb (length (getD fields k [])) 3) _ l) in
+      tabled (fieldCode k) (getD fields k []) (and-right (eqb (length (getD fields k [])) 3) _ l) place (omega arith)
+
+  pub field-lt : getD (getD fields k []) place 0 < 7
+  unfolding x
+  field-lt = rw x-code (code-lt (getD (fieldList (kindAt k)) place unused))
+
+  pub field-is : coded (getD (getD fields k []) place 0) ≡ getD (fieldList (kindAt k)) place unused
+  unfolding x
+  field-is = ap coded x-code ∙ coded-code (getD (fieldList (kindAt k)) place unused)
+
+-- a kind that is known, and one that is not
+pub kind-there : (n : ℕ) → n < 16 → getElem? kinds n ≡ some (kindAt n)
+kind-there n h = there kinds _ n (omega (arith, kinds-size))
+
+pub kind-gone : (n : ℕ) → 16 ≤ n → getElem? kinds n ≡ none
+kind-gone n h = gone kinds n (omega (arith, kinds-size))
+
+-- a field that is neither operand nor source may hold any flow
+pub placed-else : (m f n x : ℕ) → (n ≡ 0 → ⊥) → (n ≡ 1 → ⊥) → placed m f (coded n) x ≡ true
+unfolding placed
+placed-else m f zero x p q = absurd (p refl)
+placed-else m f (suc zero) x p q = absurd (q refl)
+placed-else m f (suc (suc zero)) x p q = refl
+placed-else m f (suc (suc (suc zero))) x p q = refl
+placed-else m f (suc (suc (suc (suc zero)))) x p q = refl
+placed-else m f (suc (suc (suc (suc (suc zero))))) x p q = refl
+placed-else m f (suc (suc (suc (suc (suc (suc zero)))))) x p q = refl
+placed-else m f (suc (suc (suc (suc (suc (suc (suc n))))))) x p q = refl

@@ -1,0 +1,161 @@
+-- What a row's test says, and the test and the packed size of the rows from one on. Assumes nothing.
+use mathlib.Core.Path.{_≡_, refl, sym, subst, _∙_, ap}
+use mathlib.Core.Bool.{Bool, true, false, _&&_}
+use mathlib.Core.List.{List, [], _∷_, _++_}
+use mathlib.Core.Option.{Option, none, some}
+use Prim.Native.Nat.{ℕ, zero, suc, _+_, _*_, _-_, _<_, _≤_}
+use native.Mathlib.Numerals.{add-one}
+use native.Mathlib.Omega.{arith}
+use lib.Dec.{leb, ltb}
+use lib.ListN.{length, getD, drop, getElem?, length-append}
+use lib.Seq.{drop-drop}
+use borrow.Author.Tests.{leb-true, ltb-true, ltb-false}
+use Rattle.table.specs.declared.Answer.{Answer}
+use Rattle.table.specs.Answers.{Refusal, noRoom, badCount, cutShort, unknownKind, outOfRange, misplaced, badFilling, clocksDiffer, beyondLimits, notPlain, tooManyTicks, wrongLog, shortTrace, clash, number, Result, good, refused, unless, then, answer}
+use Rattle.table.specs.Rows.{Row, width, ranged, placed, Kind, kinds, Words, each, known, fieldsOf, rowOf}
+use Rattle.table.specs.Plain.{four, split, rowsFrom, tableOf}
+use Rattle.table.specs.Bits.{toBits}
+use Rattle.table.specs.Packed.{rowBits, rowsBits, kindWidth}
+use Rattle.table.specs.Codes.{kindAt, rowLength, verdict}
+use Rattle.table.proofs.Tests.{Tried, passed, failed, try}
+use Rattle.table.proofs.Tables.{table-made}
+use Rattle.table.proofs.BitLaws.{length-toBits}
+use Rattle.table.proofs.Entries.{every, at, kinds-size, kind-there, kind-gone}
+
+-- no refusal has the number 0
+pub no-zero : (why : Refusal) → number why ≡ 0 → ⊥
+no-zero noRoom e = omega arith
+no-zero badCount e = omega arith
+no-zero cutShort e = omega arith
+no-zero unknownKind e = omega arith
+no-zero outOfRange e = omega arith
+no-zero misplaced e = omega arith
+no-zero badFilling e = omega arith
+no-zero clocksDiffer e = omega arith
+no-zero beyondLimits e = omega arith
+no-zero notPlain e = omega arith
+no-zero tooManyTicks e = omega arith
+no-zero wrongLog e = omega arith
+no-zero shortTrace e = omega arith
+no-zero clash e = omega arith
+
+-- a result, or a refusal that names f
+pub data Outcome {A : Type 0} (f : ℕ) : Result A → Type 0 where
+  fine : (a : A) → Outcome f (good a)
+  stopped : (why : Refusal) → Outcome f (refused why f)
+
+unless-outcome : {A : Type 0} (b : Bool) (why : Refusal) (f : ℕ) (r : Result A) → Outcome f r → Outcome f (unless b why f r)
+unless-outcome true why f r o = o
+unless-outcome false why f r o = stopped why
+
+pub row-outcome : (m f : ℕ) (w : Words) → Outcome f (rowOf m f w)
+unfolding rowOf fieldsOf
+row-outcome m f w = go (getElem? kinds (w .kind))
+  where
+    fields : (k : Kind) → Outcome f (fieldsOf m f k w)
+    fields k =
+        unless-outcome (each ranged k w) outOfRange f _
+        (unless-outcome (each (placed m f) k w) misplaced f _ (fine (k .make (w .one) (w .two) (w .three))))
+
+    go : (o : Option Kind) → Outcome f (then (known f o) λ k. fieldsOf m f k w)
+    go none = stopped unknownKind
+    go (some k) = fields k
+
+-- a row that is accepted has a known kind
+pub kind-lt : (m f : ℕ) (w : Words) → verdict (rowOf m f w) ≡ 0 → w .kind < 16
+unfolding rowOf
+kind-lt m f w e = go (try (ltb (w .kind) 16))
+  where
+    go : Tried (ltb (w .kind) 16) → w .kind < 16
+    go (passed p) = ltb-true (w .kind) 16 p
+    go (failed p) =
+        let z : verdict (rowOf m f w) ≡ 13 = rw (kind-gone (w .kind) (ltb-false (w .kind) 16 p)) in
+        absurd (omega arith)
+
+-- the answer counts the same rows, whatever they are
+pub answer-then : {A B : Type 0} (n : ℕ) (r : Result A) (g : A → B) → answer (λ x. n) (then r λ a. good (g a)) ≡ answer (λ x. n) r
+answer-then n (good a) g = refl
+answer-then n (refused why f) g = refl
+
+pub rows-next : (m f : ℕ) (w : Words) (ws : List Words) → verdict (rowOf m f w) ≡ 0
+    → answer (λ rs. m) (rowsFrom m f (w ∷ ws)) ≡ answer (λ rs. m) (rowsFrom m (suc f) ws)
+unfolding rowsFrom
+rows-next m f w ws e = go (rowOf m f w) (row-outcome m f w) e
+  where
+    go : (r : Result Row) → Outcome f r → verdict r ≡ 0
+        → answer (λ rs. m) (then r λ x. then (rowsFrom m (suc f) ws) λ rs. good (x ∷ rs)) ≡ answer (λ rs. m) (rowsFrom m (suc f) ws)
+    go r (fine x) e = answer-then m (rowsFrom m (suc f) ws) (λ rs. x ∷ rs)
+    go r (stopped why) e = absurd (no-zero why e)
+
+pub rows-stop : (m f n : ℕ) (w : Words) (ws : List Words) → n ≡ verdict (rowOf m f w) → (n ≡ 0 → ⊥)
+    → answer (λ rs. m) (rowsFrom m f (w ∷ ws)) ≡ record { number = n; flow = f; tick = 0; count = 0 }
+unfolding rowsFrom
+rows-stop m f n w ws e h = go (rowOf m f w) (row-outcome m f w) e
+  where
+    go : (r : Result Row) → Outcome f r → n ≡ verdict r
+        → answer (λ rs. m) (then r λ x. then (rowsFrom m (suc f) ws) λ rs. good (x ∷ rs)) ≡ record { number = n; flow = f; tick = 0; count = 0 }
+    go r (fine x) e = absurd (h e)
+    go r (stopped why) e = rw e
+
+-- the rows from f on are row f and those after it
+pub split-next : (m f : ℕ) (words : List ℕ) → f < m
+    → split (m - f) (drop (4 * f) words) ≡ four (drop (4 * f) words) ∷ split (m - suc f) (drop (4 * suc f) words)
+unfolding split
+split-next m f words h =
+    let p : m - f ≡ suc (m - suc f) = omega arith in
+    let q : 4 * f + 4 ≡ 4 * suc f = omega arith in
+    ap (λ (n : ℕ). split n (drop (4 * f) words)) p
+    ∙ ap (λ (l : List ℕ). four (drop (4 * f) words) ∷ split (m - suc f) l) (drop-drop 4 (4 * f) words ∙ ap (λ (n : ℕ). drop n words) q)
+
+-- the size of a packed row
+pub row-size : (w : Words) → w .kind < 16 → length (rowBits w) ≡ rowLength (w .kind)
+unfolding rowBits rowLength
+row-size w h =
+    let k : Kind = kindAt (w .kind) in
+    rw (kind-there (w .kind) h)
+    (simp (length-append, length-toBits) (omega arith))
+
+-- no record is longer than 61 bits
+short : ℕ → Kind → Bool
+short n k = leb (kindWidth + width (k .one) + width (k .two) + width (k .three)) 61
+
+all-short : every short 0 kinds ≡ true
+unfolding short kinds
+all-short = refl
+
+pub row-le : (n : ℕ) → n < 16 → rowLength n ≤ 61
+unfolding short rowLength
+row-le n h = leb-true _ 61 (at short kinds _ all-short n (omega (arith, kinds-size)))
+
+-- One row of a survey: row f of m, with the words w.
+module _ (m f : ℕ) (words : List ℕ) (w : Words) (is : w ≡ four (drop (4 * f) words)) (below : f < m) where
+  pub survey-stop : (n : ℕ) → n ≡ verdict (rowOf m f w) → (n ≡ 0 → ⊥)
+      → answer (λ rs. m) (rowsFrom m f (split (m - f) (drop (4 * f) words))) ≡ record { number = n; flow = f; tick = 0; count = 0 }
+  survey-stop n e h =
+      rw (split-next m f words below) (rows-stop m f n (four (drop (4 * f) words)) _ (e ∙ ap (λ (x : Words). verdict (rowOf m f x)) is) h)
+
+  pub survey-next : verdict (rowOf m f w) ≡ 0
+      → answer (λ rs. m) (rowsFrom m (f + 1) (split (m - (f + 1)) (drop (4 * (f + 1)) words)))
+      ≡ answer (λ rs. m) (rowsFrom m f (split (m - f) (drop (4 * f) words)))
+  survey-next e =
+      rw (add-one, split-next m f words below)
+      (sym (rows-next m f (four (drop (4 * f) words)) _ (ap (λ (x : Words). verdict (rowOf m f x)) (sym is) ∙ e)))
+
+  pub size-next : verdict (rowOf m f w) ≡ 0
+      → length (rowsBits (split (m - f) (drop (4 * f) words))) ≡ rowLength (w .kind) + length (rowsBits (split (m - (f + 1)) (drop (4 * (f + 1)) words)))
+  unfolding rowsBits
+  size-next e =
+      rw (add-one, split-next m f words below, ← is, length-append, row-size w (kind-lt m f w e))
+
+-- after the last row nothing is left
+pub split-end : (m f : ℕ) (words : List ℕ) → f ≤ m → m ≤ f → split (m - f) (drop (4 * f) words) ≡ []
+unfolding split
+split-end m f words p q = let e : m - f ≡ 0 = omega arith in rw e
+
+-- an accepted table has as many rows as it says
+pub rows-counted : (m : ℕ) (words : List ℕ) → answer length (tableOf m words) ≡ answer (λ rs. m) (tableOf m words)
+rows-counted m words = go (tableOf m words) refl
+  where
+    go : (r : Result (List Row)) → tableOf m words ≡ r → answer length r ≡ answer (λ rs. m) r
+    go (good rows) e = rw (table-made m words rows e .size)
+    go (refused why f) e = refl

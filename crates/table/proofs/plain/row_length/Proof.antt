@@ -1,0 +1,43 @@
+-- `table::plain::row_length` meets its contract. Assumes nothing.
+use Rattle.table.specs.Codes.{rowLength}
+use borrow.Author.Needs.{needs}
+use Rattle.table.proofs.plain.row_length.Statement.{statement}
+use Rattle.table.proofs.plain.row_length.Tie as tie
+
+width-of-requires : tie.Need-width-of-requires
+width-of-requires c κs = search needs
+
+add-result : tie.Need-add-result
+add-result c = search needs
+
+width-of-requires-2 : tie.Need-width-of-requires-2
+width-of-requires-2 c κs = search needs
+
+add-result-2 : tie.Need-add-result-2
+add-result-2 c = search needs
+
+width-of-requires-3 : tie.Need-width-of-requires-3
+width-of-requires-3 c κs = search needs
+
+add-result-3 : tie.Need-add-result-3
+add-result-3 c = search needs
+
+cast-result : tie.Need-cast-result
+cast-result c = search needs
+
+returns : tie.Need-returns
+unfolding rowLength
+returns c = search needs
+
+pub row-length-spec : {M : Type 1} → statement M
+row-length-spec =
+    tie.close
+    (tie.spec
+    width-of-requires
+    add-result
+    width-of-requires-2
+    add-result-2
+    width-of-requires-3
+    add-result-3
+    cast-result
+    returns)

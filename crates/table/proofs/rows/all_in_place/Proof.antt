@@ -1,0 +1,62 @@
+-- `table::rows::all_in_place` meets its contract. Assumes nothing.
+
+use borrow.Author.Needs.{needs}
+use Rattle.table.proofs.rows.all_in_place.Statement.{statement}
+use Rattle.table.proofs.rows.all_in_place.Tie as tie
+
+field-of-requires : tie.Need-field-of-requires
+field-of-requires c κs = search needs
+
+in-place-requires : tie.Need-in-place-requires
+in-place-requires c κs = search needs
+
+field-of-requires-2 : tie.Need-field-of-requires-2
+field-of-requires-2 c κs = search needs
+
+in-place-requires-2 : tie.Need-in-place-requires-2
+in-place-requires-2 c κs = search needs
+
+field-of-requires-3 : tie.Need-field-of-requires-3
+field-of-requires-3 c κs = search needs
+
+in-place-requires-3 : tie.Need-in-place-requires-3
+in-place-requires-3 c κs = search needs
+
+returns : tie.Need-returns
+returns c = rw (
+  ← c .before .before .before .before .before .before .before .field-of .ensures .1,
+  ← c .before .before .before .before .before .before .in-place .ensures,
+  c .before .before .before .before .before .if1 .taken,
+  ← c .before .before .before .before .field-of2 .ensures .1,
+  ← c .before .before .before .in-place2 .ensures,
+  c .before .before .if2 .taken,
+  ← c .before .field-of3 .ensures .1,
+  ← c .in-place3 .ensures,
+)
+
+returns-2 : tie.Need-returns-2
+returns-2 c = rw (
+  ← c .before .before .before .before .before .field-of .ensures .1,
+  ← c .before .before .before .before .in-place .ensures,
+  c .before .before .before .if1 .taken,
+  ← c .before .before .field-of2 .ensures .1,
+  ← c .before .in-place2 .ensures,
+  c .if2 .left,
+)
+
+returns-3 : tie.Need-returns-3
+returns-3 c = rw (← c .before .before .field-of .ensures .1, ← c .before .in-place .ensures, c .if1 .left)
+
+pub all-in-place-spec : {M : Type 1} → statement M
+all-in-place-spec =
+    tie.close
+    (tie.spec
+    field-of-requires
+    in-place-requires
+    field-of-requires-2
+    in-place-requires-2
+    field-of-requires-3
+    in-place-requires-3
+    returns
+    returns-2
+    returns-3)

@@ -1,0 +1,29 @@
+-- `table::rows::width_of` meets its contract. Assumes nothing.
+use Prim.Native.Nat.{_≤_}
+use mathlib.Core.Path.{refl}
+use Rattle.table.specs.Rows.{width, unused}
+use lib.ListN.{getD}
+use Rattle.table.specs.Codes.{kindAt, fieldList}
+use Rattle.table.proofs.Entries.{width-at, width-le}
+use borrow.Author.Needs.{needs}
+use Rattle.table.proofs.rows.width_of.Statement.{statement}
+use Rattle.table.proofs.rows.width_of.Tie as tie
+
+field-of-requires : tie.Need-field-of-requires
+field-of-requires c κs = search needs
+
+cast-result : tie.Need-cast-result
+cast-result c = search needs
+
+mul-result : tie.Need-mul-result
+mul-result c = search needs
+
+array-read-result : tie.Need-array-read-result
+array-read-result c = search needs
+
+returns : tie.Need-returns
+returns c = rw (width-at _ (c .field-of .ensures .0), c .field-of .ensures .1) (width-le (getD (fieldList (kindAt (c .before .args .kind))) (c .before .args .place) unused), refl)
+
+pub width-of-spec : {M : Type 1} → statement M
+width-of-spec =
+    tie.close (tie.spec field-of-requires cast-result mul-result array-read-result returns)

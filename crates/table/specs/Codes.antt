@@ -1,0 +1,45 @@
+-- What the code's own functions are held to: the numbers of fields and kinds in its tables, and what its steps find.
+use mathlib.Core.Path.{_≡_}
+use Prim.Native.Nat.{ℕ, _+_, _≤_}
+use mathlib.Core.List.{List, [], _∷_}
+use lib.ListN.{length, getD}
+use Rattle.table.specs.declared.Answer.{Answer}
+use Rattle.table.specs.declared.Record.{Record}
+use Rattle.table.specs.declared.Survey.{Survey}
+use Rattle.table.specs.declared.Survey.the-variants.{Fits, Refused}
+use Rattle.table.specs.Answers.{Result, good, refused, number, success}
+use Rattle.table.specs.Rows.{Field, operand, source, copies, period, ticks, value, unused, width, Kind, kind, kinds, Words, tail}
+use Rattle.table.specs.Places.{lastPlace}
+use Rattle.table.specs.Packed.{kindWidth, countWidth, rowsBits}
+
+-- the fields in the order of their numbers
+abbrev pub coded : ℕ → Field
+coded n = getD (operand ∷ source ∷ copies ∷ period ∷ ticks ∷ value ∷ unused ∷ []) n unused
+
+-- the kind with a number
+abbrev pub kindAt : ℕ → Kind
+kindAt n = getD kinds n (kind unused unused unused (λ x y z. tail x))
+
+abbrev pub fieldList : Kind → List Field
+fieldList k = k .one ∷ k .two ∷ k .three ∷ []
+
+-- the bits of a row of a kind
+unfoldable pub rowLength : ℕ → ℕ
+rowLength n = kindWidth + width (kindAt n .one) + width (kindAt n .two) + width (kindAt n .three)
+
+abbrev pub wordsOf : Record → Words
+wordsOf r = record { kind = r .kind; one = r .one; two = r .two; three = r .three }
+
+-- the number of a refusal, and 0 where there is none
+abbrev pub verdict : {A : Type 0} → Result A → ℕ
+verdict (good a) = 0
+verdict (refused why f) = number why
+
+-- what a survey says of a table of m flows: what the test answers, and how many bits its rows take
+abbrev pub told : ℕ → Survey → Answer
+told m (Fits n) = success m
+told m (Refused k row) = record { number = k; flow = row; tick = 0; count = 0 }
+
+abbrev pub Sized : List Words → Survey → Type 0
+Sized ws (Fits n) = (n ≡ countWidth + length (rowsBits ws)) × (n ≤ lastPlace)
+Sized ws (Refused k row) = Unit {0}

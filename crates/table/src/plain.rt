@@ -1,0 +1,67 @@
+// The test of a table in plain form.
+use super::Record;
+use super::Survey;
+use super::rows::judge;
+use super::rows::width_of;
+ghost use mathlib.Core.Path.{_≡_};
+ghost use Prim.Native.Nat.{_+_, _*_, _<_, _≤_};
+ghost use lib.ListN.{length, drop};
+ghost use Rattle.table.specs.Answers.{answer};
+ghost use Rattle.table.specs.Plain.{four, split, rowsFrom, tableOf};
+ghost use Rattle.table.specs.Codes.{wordsOf, rowLength, told, Sized};
+
+// The row whose words start at i.
+pub(crate) fn record_at(words: &[u32], i: usize) -> Record
+    requires { ⌜ (i < 65536) × (i + 4 ≤ length (now words)) ⌝ }
+    ensures { λ r. ⌜ wordsOf r ≡ four (drop i (now (words .entry))) ⌝ }
+{
+    Record {
+        kind: words[i],
+        one: words[i + 1],
+        two: words[i + 2],
+        three: words[i + 3],
+    }
+}
+
+// The bits of a row of a known kind in packed form.
+fn row_length(kind: u32) -> usize
+    requires { ⌜ kind < 16 ⌝ }
+    ensures { λ r. ⌜ r ≡ rowLength kind ⌝ }
+{
+    (5 + width_of(kind, 0) + width_of(kind, 1) + width_of(kind, 2)) as usize
+}
+
+// The rows of a table of count flows, from the first on.
+fn survey_rows(count: u32, words: &[u32]) -> Survey
+    requires { ⌜ (count ≤ 64) × (length (now words) ≡ 4 * count) ⌝ }
+    ensures { λ r. ⌜ (answer (λ rs. count) (rowsFrom count 0 (split count (now (words .entry)))) ≡ told count r) × Sized (split count (now (words .entry))) r ⌝ }
+{
+    let mut bits: usize = 8;
+    let mut row: u32 = 0;
+    while row < count {
+        let r = record_at(words, 4 * (row as usize));
+        let n = judge(r, row, count);
+        if n != 0 {
+            return Survey::Refused(n, row);
+        }
+        bits += row_length(r.kind);
+        row += 1;
+    }
+    Survey::Fits(bits)
+}
+
+// A table in plain form: its bits in packed form, or why it is refused.
+pub(crate) fn survey(count: u32, words: &[u32]) -> Survey
+    ensures { λ r. ⌜ (answer (λ rs. count) (tableOf count (now (words .entry))) ≡ told count r) × Sized (split count (now (words .entry))) r ⌝ }
+{
+    if count < 1 {
+        return Survey::Refused(11, 0);
+    }
+    if 64 < count {
+        return Survey::Refused(11, 0);
+    }
+    if words.len() != 4 * (count as usize) {
+        return Survey::Refused(11, 0);
+    }
+    survey_rows(count, words)
+}
