@@ -136,6 +136,9 @@ fn pack(rows: &[Row], packed: &mut [u8]) {
         put(width_y, y);
         put(width_z, z);
     }
-    let last = (window << (32 - held)) as u32;
-    rest.copy_from_slice(&last.to_be_bytes()[..rest.len()]);
+    let last = ((window << (32 - held)) as u32).to_be_bytes();
+    match chunks.next() {
+        Some(chunk) => *chunk = last,
+        None => rest.copy_from_slice(&last[..rest.len()]),
+    }
 }

@@ -1,0 +1,12 @@
+//! The proved library, the paper word by word and the quick implementation against each other.
+
+mod clashes;
+mod demand;
+mod header;
+mod limits;
+mod long;
+mod packed;
+mod paper;
+mod short;
+mod summary;
+mod wrapper;
