@@ -8,8 +8,8 @@ use std::time::{Duration, Instant};
 
 use plans::{mixed, sums, Plan};
 
-/// How often each is measured; the least and the median are printed.
-const REPETITIONS: usize = 21;
+/// How often each is measured, by turns.
+const REPETITIONS: usize = 31;
 
 /// How many calls of check, read and write make one measurement.
 const CALLS: u32 = 2_000;
@@ -17,28 +17,18 @@ const CALLS: u32 = 2_000;
 /// As many ticks as a run may have.
 const MOST_TICKS: usize = 65_535;
 
-/// The least and the median time of several measurements.
-#[derive(Clone, Copy)]
-struct Times {
-    least: Duration,
-    median: Duration,
+/// What was measured of library and peer: the least times, the median of the ratios of all pairs, and the sum of
+/// the results.
+struct Measured {
+    library: Duration,
+    peer: Duration,
+    median_ratio: f64,
+    sum: u64,
 }
 
-impl Times {
-    fn new(mut measured: Vec<Duration>) -> Self {
-        measured.sort();
-        Times { least: measured[0], median: measured[measured.len() / 2] }
-    }
-
-    /// The least time in nanoseconds, shared among so many calls or cells.
-    fn each(self, number: usize) -> f64 {
-        self.least.as_nanos() as f64 / number as f64
-    }
-}
-
-/// Measures both by turns, so that both meet the same state of the machine, and checks that both give one sum.
-fn measure(mut library: impl FnMut() -> u64, mut peer: impl FnMut() -> u64) -> (Times, Times, u64) {
-    let (mut of_library, mut of_peer, mut sum) = (Vec::new(), Vec::new(), 0_u64);
+/// Measures both by turns, so that each pair meets the same state of the machine, and checks that both give one sum.
+fn measure(mut library: impl FnMut() -> u64, mut peer: impl FnMut() -> u64) -> Measured {
+    let (mut pairs, mut sum) = (Vec::new(), 0_u64);
     for repetition in 0..=REPETITIONS {
         let start = Instant::now();
         let library_sum = black_box(library());
@@ -49,30 +39,41 @@ fn measure(mut library: impl FnMut() -> u64, mut peer: impl FnMut() -> u64) -> (
         sum = sum.wrapping_add(library_sum);
         // The first pair warms up caches and pages.
         if repetition > 0 {
-            of_library.push(middle - start);
-            of_peer.push(end - middle);
+            pairs.push((middle - start, end - middle));
         }
     }
-    (Times::new(of_library), Times::new(of_peer), sum)
+    let mut ratios: Vec<f64> = pairs.iter().map(|(library, peer)| ratio(*library, *peer)).collect();
+    ratios.sort_by(f64::total_cmp);
+    Measured {
+        library: pairs.iter().map(|pair| pair.0).min().unwrap_or_default(),
+        peer: pairs.iter().map(|pair| pair.1).min().unwrap_or_default(),
+        median_ratio: ratios[ratios.len() / 2],
+        sum,
+    }
 }
 
-/// One line of the report: both times, what one cell or call takes, and the ratios.
-fn report(what: &str, (library, peer, sum): (Times, Times, u64), number: usize) {
+fn ratio(library: Duration, peer: Duration) -> f64 {
+    library.as_secs_f64() / peer.as_secs_f64()
+}
+
+/// One line of the report: both times, what one of so many cells or calls takes, and the ratios.
+fn report(what: &str, measured: Measured, number: usize) {
+    let Measured { library, peer, median_ratio, sum } = measured;
+    let each = |time: Duration| time.as_nanos() as f64 / number as f64;
     println!(
-        "{what:<34} {:>9.3} {:>9.2}   {:>9.3} {:>9.2}   {:>6.2} {:>6.2}   {sum:016x}",
-        library.least.as_secs_f64() * 1e3,
-        library.each(number),
-        peer.least.as_secs_f64() * 1e3,
-        peer.each(number),
-        library.least.as_secs_f64() / peer.least.as_secs_f64(),
-        library.median.as_secs_f64() / peer.median.as_secs_f64(),
+        "{what:<36} {:>9.3} {:>9.2}   {:>9.3} {:>9.2}   {:>6.2} {median_ratio:>6.2}   {sum:016x}",
+        library.as_secs_f64() * 1e3,
+        each(library),
+        peer.as_secs_f64() * 1e3,
+        each(peer),
+        ratio(library, peer),
     );
 }
 
 fn heading(title: &str, unit: &str) {
     println!("\n{title}");
     println!(
-        "{:<34} {:>9} {:>9}   {:>9} {:>9}   {:>6} {:>6}   {}",
+        "{:<36} {:>9} {:>9}   {:>9} {:>9}   {:>6} {:>6}   {}",
         "", "library", unit, "peer", unit, "ratio", "median", "sum"
     );
 }
@@ -91,13 +92,14 @@ fn run(plan: &Plan, ticks: usize) {
     let (mut marks, mut values) = (vec![0; ticks * flows], vec![0; ticks * flows]);
     let (mut peer_marks, mut peer_values) = (marks.clone(), values.clone());
     let (count, words) = (flows as u32, &plan.words[..]);
-    let (library, peer, _) = measure(
+    let measured = measure(
         || u64::from(baarqidho::run(count, words, &log, ticks as u32, &mut marks, &mut values).count),
         || u64::from(peer::run(count, words, &log, ticks as u32, &mut peer_marks, &mut peer_values).count),
     );
     assert_eq!((&marks, &values), (&peer_marks, &peer_values), "both give the same trace");
     let sum = sum_of(&marks, &values, ticks as u32);
-    report(&format!("{}, {flows} flows, {ticks} ticks", plan.name), (library, peer, sum), ticks * flows);
+    let name = format!("{}, {flows} flows, {ticks} ticks", plan.name);
+    report(&name, Measured { sum, ..measured }, ticks * flows);
 }
 
 /// Calls something many times and sums what it gives.
@@ -139,13 +141,15 @@ fn table(plan: &Plan) {
 }
 
 fn main() {
-    println!("Library against peer, by turns in one process on the same input. Times are the least of {REPETITIONS}");
-    println!("after one to warm up; the last ratio is that of the medians. Buffers are not cleared in between.");
+    println!(
+        "Library against peer, by turns in one process on the same input. Times and the first ratio are the least of"
+    );
+    println!("{REPETITIONS} after one to warm up; the second ratio is the median over the pairs. Buffers are not cleared between.");
 
     heading("The run, all ticks (ms, ns a cell)", "ns");
     for flows in [1, 4, 16, 64] {
         run(&mixed("mixed", flows, 1), MOST_TICKS);
-        run(&mixed("mixed, one tick in ten", flows, 10), MOST_TICKS);
+        run(&mixed("one tick in ten", flows, 10), MOST_TICKS);
         run(&sums(flows), MOST_TICKS);
     }
 

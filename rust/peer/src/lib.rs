@@ -8,6 +8,7 @@ mod listing;
 mod packed;
 mod plan;
 mod run;
+mod steps;
 
 pub use check::check;
 pub use listing::listing;

@@ -87,12 +87,12 @@ fn sound_plans(seed: u64, plans: usize) {
 
 #[test]
 fn sound_plans_first() {
-    sound_plans(1, 150_000);
+    sound_plans(1, 120_000);
 }
 
 #[test]
 fn sound_plans_second() {
-    sound_plans(2, 150_000);
+    sound_plans(2, 120_000);
 }
 
 /// Plans with planted faults.
@@ -112,12 +112,12 @@ fn faulty_plans(seed: u64, plans: usize) {
 
 #[test]
 fn faulty_plans_first() {
-    faulty_plans(3, 150_000);
+    faulty_plans(3, 120_000);
 }
 
 #[test]
 fn faulty_plans_second() {
-    faulty_plans(4, 150_000);
+    faulty_plans(4, 120_000);
 }
 
 /// Small rows that were not made to fit: accepted, refused and clashing in every way.
@@ -134,10 +134,10 @@ fn any_plans(seed: u64, plans: usize) {
 
 #[test]
 fn any_plans_first() {
-    any_plans(5, 150_000);
+    any_plans(5, 120_000);
 }
 
 #[test]
 fn any_plans_second() {
-    any_plans(6, 150_000);
+    any_plans(6, 120_000);
 }
