@@ -19,9 +19,9 @@
  *
  * Every call returns the number of its answer, 0 for success, and puts flow, tick and count through its last three
  * pointers; parts that an answer does not name are 0. A slice is passed as a pointer and then its length in elements.
- * The calls take any arguments and any contents. What C itself asks of the caller: each pointer is valid for its
- * length (it may be anything, NULL too, where the length is 0), no lent buffer overlaps another, and flow, tick and
- * count point to three words. Nothing is allocated or kept, and the calls may be made from several threads at once.
+ * The calls take any numbers, any lengths and any contents. What C itself asks of the caller: each pointer is aligned,
+ * not NULL and valid for its length, no buffer that is written overlaps another, and flow, tick and count point to
+ * three words.
  */
 #ifndef BAARQIDHO_H
 #define BAARQIDHO_H

@@ -72,10 +72,7 @@ fn report(what: &str, measured: Measured, number: usize) {
 
 fn heading(title: &str, unit: &str) {
     println!("\n{title}");
-    println!(
-        "{:<36} {:>9} {:>9}   {:>9} {:>9}   {:>6} {:>6}   {}",
-        "", "library", unit, "peer", unit, "ratio", "median", "sum"
-    );
+    println!("{:<36} {:>9} {unit:>9}   {:>9} {unit:>9}   {:>6} {:>6}   sum", "", "library", "peer", "ratio", "median");
 }
 
 /// A sum over a trace: every mark and value counts.

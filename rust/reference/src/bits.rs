@@ -31,7 +31,7 @@ impl<'a> Bits<'a> {
 
     /// Whether the rest is only what fills up the last byte, and all of it zero.
     pub fn only_filling(mut self) -> bool {
-        while self.place % 8 != 0 {
+        while !self.place.is_multiple_of(8) {
             if self.bit() != Some(false) {
                 return false;
             }

@@ -104,7 +104,7 @@ fn faster(history: &History, a: usize, k: usize, gap: usize, t: usize) -> Result
 /// Presences number 0, k, 2k, .. of a.
 fn slower(history: &History, a: usize, k: usize, t: usize) -> Cell {
     let number = history.earlier_presences(a, t).count();
-    if number % k == 0 {
+    if number.is_multiple_of(k) {
         history.cell(a, t)
     } else {
         None
@@ -165,7 +165,7 @@ fn merge(c: Cell, a: Cell, b: Cell) -> Result<Cell, Clash> {
     match (c, a, b) {
         (None, None, None) => Ok(None),
         (Some(c), Some(a), None) if c != 0 => Ok(Some(a)),
-        (Some(c), None, Some(b)) if c == 0 => Ok(Some(b)),
+        (Some(0), None, Some(b)) => Ok(Some(b)),
         _ => Err(Clash),
     }
 }

@@ -11,7 +11,7 @@ impl Rng {
     }
 
     /// Any 64-bit number.
-    pub fn next(&mut self) -> u64 {
+    pub fn any(&mut self) -> u64 {
         self.0 = self.0.wrapping_add(0x9E37_79B9_7F4A_7C15);
         let mut z = self.0;
         z = (z ^ (z >> 30)).wrapping_mul(0xBF58_476D_1CE4_E5B9);
@@ -21,12 +21,12 @@ impl Rng {
 
     /// Any 32-bit number.
     pub fn word(&mut self) -> u32 {
-        (self.next() >> 32) as u32
+        (self.any() >> 32) as u32
     }
 
     /// A number below `bound`, which is not 0.
     pub fn below(&mut self, bound: usize) -> usize {
-        ((self.next() >> 32) * bound as u64 >> 32) as usize
+        (((self.any() >> 32) * bound as u64) >> 32) as usize
     }
 
     /// A number from `low` to `high`, both included.
