@@ -5,6 +5,7 @@ use std::fmt::{self, Display, Formatter};
 
 /// The answer of a call: a number (0 is success), a flow, a tick and a count. Parts not named are 0.
 #[derive(Clone, Copy, Debug, Default, PartialEq, Eq)]
+#[must_use]
 pub struct Answer {
     /// 0 for success, else the number of the refusal.
     pub number: u32,

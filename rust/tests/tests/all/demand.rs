@@ -14,7 +14,7 @@ fn on_calendar(clock: &[u32], trace: &Outcome, flows: usize, tick: usize) -> boo
         let place = tick * flows + condition as usize / 2;
         trace.bytes[place] == 1 && (trace.words[place] != 0) == (condition % 2 == 1)
     };
-    tick >= phase && (tick - phase) % period == 0 && clock[3..3 + conditions].iter().all(|&word| holds(word))
+    tick >= phase && (tick - phase).is_multiple_of(period) && clock[3..3 + conditions].iter().all(|&word| holds(word))
 }
 
 /// If the check accepts the plan, the run ends and each mark is that of the calendar. Gives whether it was accepted.

@@ -1,7 +1,7 @@
 //! Many plans with short runs: all calls of all implementations, every cell compared.
 
 use tests::compare::{check, listing, read, run, write};
-use tests::faults::{any_rows, plant};
+use tests::faults::{any_rows, disturb, plant};
 use tests::generate::{accepted, Clock, Shape};
 use tests::implementation::ALL;
 use tests::rng::Rng;
@@ -140,4 +140,26 @@ fn any_plans_first() {
 #[test]
 fn any_plans_second() {
     any_plans(6, 120_000);
+}
+
+/// Periods, phases and delays up to 4095, where clocks come close to the limits: sound, or with one number changed.
+#[test]
+fn large_numbers() {
+    let mut rng = Rng::new(7);
+    let mut tally = Tally::default();
+    let plans = 60_000;
+    for round in 0..rounds(plans) {
+        let flows = 1 + rng.below(16);
+        let (mut plan, _) = accepted(&mut rng, Shape { flows, scale: 4095, sampling: round % 4 == 0 });
+        if round % 2 == 0 {
+            disturb(&mut rng, &mut plan);
+        }
+        if let Some(packed) = every_call(&mut rng, &plan, &mut tally) {
+            assert_eq!(read(&ALL, &packed, plan.words.len()).parts, (0, 0, 0, plan.count));
+            listing(&ALL, &packed, LISTING_MAX);
+        }
+    }
+    for number in [21, 22] {
+        assert!(tally.count("check", number) > plans / 500, "number {number} occurs: {tally}");
+    }
 }
