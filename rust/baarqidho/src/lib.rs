@@ -4,7 +4,7 @@
 //! packed form of a table, gives each flow its clock (the check), replays an input log into a trace (the run), and
 //! lists the clocks as text.
 //!
-//! There are two layers. [`read`], [`write`], [`check`], [`run`] and [`listing`] are the library's calls over slices
+//! There are two layers. [`read()`], [`write()`], [`check()`], [`run()`] and [`listing()`] are the library's calls over slices
 //! that the caller lends; each takes any arguments and returns an [`Answer`]. [`Plan`] owns its words and returns
 //! [`Refusal`]s as errors.
 //!
