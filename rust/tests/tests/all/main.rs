@@ -2,6 +2,7 @@
 
 mod clashes;
 mod demand;
+mod extremes;
 mod header;
 mod limits;
 mod long;
