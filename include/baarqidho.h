@@ -1,0 +1,153 @@
+/*
+ * Baarqidho: a checker and runner for bench plans, proved to agree.
+ *
+ * A plan is a table of 1 to 64 flows. In plain form it is its count of flows and, for each row, four 32-bit words:
+ * kind, then up to three fields; unused words are 0.
+ *
+ *   kind      name                                  fields
+ *   0         input                                 period, phase
+ *   1         constant                              value, period, phase
+ *   2 to 6    add, subtract, less, equal, larger    a, b
+ *   7         register                              initial value, beat b, source a
+ *   8         faster                                a, k, gap
+ *   9         slower                                a, k
+ *   10        later                                 a, d
+ *   11        head                                  a, value, tick s
+ *   12        tail                                  a
+ *   13, 14    when, when-not                        a, c
+ *   15        merge                                 c, a, b
+ *
+ * Every call returns the number of its answer, 0 for success, and puts flow, tick and count through its last three
+ * pointers; parts that an answer does not name are 0. A slice is passed as a pointer and then its length in elements.
+ * The calls take any numbers, any lengths and any contents. What C itself asks of the caller: each pointer is aligned,
+ * not NULL and valid for its length, no buffer that is written overlaps another, and flow, tick and count point to
+ * three words.
+ */
+#ifndef BAARQIDHO_H
+#define BAARQIDHO_H
+
+#include <stddef.h>
+#include <stdint.h>
+
+#ifdef __cplusplus
+extern "C" {
+#endif
+
+/* The most flows of a table, and the most ticks of a run. */
+#define BAARQIDHO_MAX_FLOWS 64
+#define BAARQIDHO_MAX_TICKS 65535
+
+/* The words of a row in plain form, and of a clock. */
+#define BAARQIDHO_ROW_WORDS 4
+#define BAARQIDHO_CLOCK_WORDS 7
+
+/* The bytes of the longest packed table. */
+#define BAARQIDHO_PACKED_MAX 489
+
+/* The bytes that a text buffer needs before any listing is made. */
+#define BAARQIDHO_LISTING_MAX 1926
+
+/* The numbers of the answers. */
+enum baarqidho_number {
+    BAARQIDHO_OK = 0,
+    BAARQIDHO_OUTPUT_TOO_SHORT = 10,   /* the output has fewer cells than needed */
+    BAARQIDHO_BAD_COUNT = 11,          /* count not 1 to 64, or plain words not 4 a flow */
+    BAARQIDHO_ENDS_TOO_EARLY = 12,     /* packed bits end too early; the row in flow */
+    BAARQIDHO_UNKNOWN_KIND = 13,       /* kind above 15; the row in flow */
+    BAARQIDHO_FIELD_OUT_OF_RANGE = 14, /* field outside its range, or unused word not 0; the row in flow */
+    BAARQIDHO_BAD_OPERAND = 15,        /* operand not a lower flow, or source not in the table; the row in flow */
+    BAARQIDHO_NOT_THE_END = 16,        /* filling bit not 0, or a further byte */
+    BAARQIDHO_CLOCKS_DIFFER = 21,      /* clocks not as the rules need; names the flow */
+    BAARQIDHO_BEYOND_LIMITS = 22,      /* derived period or phase above 4095, or a fifth condition; names the flow */
+    BAARQIDHO_NOT_PLAIN = 23,          /* kinds 8 to 12 over a clock with conditions; names the flow */
+    BAARQIDHO_TOO_MANY_TICKS = 31,     /* more than 65,535 ticks */
+    BAARQIDHO_BAD_LOG_LENGTH = 32,     /* log length not ticks x inputs */
+    BAARQIDHO_TRACE_TOO_SHORT = 33,    /* mark or value trace below ticks x flows */
+    BAARQIDHO_CLASH = 34               /* operands do not fit together; names tick and flow */
+};
+
+/*
+ * Reads a packed table into plain words.
+ *
+ * Success: count is the number of flows; exactly 4 x count words are written, later ones are left as they were.
+ * Refusals, in this order, each of which leaves all of `words` as it was:
+ *   12  no bytes at all (flow 0)
+ *   11  the count byte is not 1 to 64
+ *   row by row, the row in flow: 12 the bits end within the kind, 13 the kind is above 15, 12 they end within the
+ *       fields, 14 a field is outside its range, 15 an operand is not a lower flow or a source not in the table
+ *   16  a filling bit is not 0, or a further byte follows
+ *   10  `words` has fewer than 4 words a flow
+ */
+uint32_t baarqidho_read(const uint8_t *packed, size_t packed_len,
+                        uint32_t *words, size_t words_len,
+                        uint32_t *flow, uint32_t *tick, uint32_t *count);
+
+/*
+ * Writes a plain table in packed form.
+ *
+ * Success: count is the number of bytes; exactly those are written, later ones are left as they were.
+ * Refusals, in this order, each of which leaves all of `packed` as it was:
+ *   11  plan_count is not 1 to 64, or words_len is not 4 x plan_count
+ *   row by row, the row in flow: 13 the kind is above 15, 14 a field is outside its range or an unused word is not 0,
+ *       15 an operand is not a lower flow or a source not in the table
+ *   10  `packed` has fewer bytes than the table needs (BAARQIDHO_PACKED_MAX is enough for every table)
+ */
+uint32_t baarqidho_write(uint32_t plan_count, const uint32_t *words, size_t words_len,
+                         uint8_t *packed, size_t packed_len,
+                         uint32_t *flow, uint32_t *tick, uint32_t *count);
+
+/*
+ * Gives each flow its clock in seven words: period, phase, how many conditions, and four words 2 x flow + 1 for true
+ * or 2 x flow for false in order of sampling, unused ones 0.
+ *
+ * Success: count is the number of flows; exactly 7 x count words are written, later ones are left as they were.
+ * Refusals, in this order, each of which leaves all of `clocks` as it was:
+ *   11, then row by row 13, 14, 15, as in baarqidho_write
+ *   10  `clocks` has fewer than 7 words a flow
+ *   row by row, the flow named: 23 kinds 8 to 12 over a clock with conditions, 21 the clocks are not as the rules
+ *       need, 22 a derived period or phase above 4095 or a fifth condition
+ *   21  a register whose source has another clock than its beat, lowest register first, the register named
+ */
+uint32_t baarqidho_check(uint32_t plan_count, const uint32_t *words, size_t words_len,
+                         uint32_t *clocks, size_t clocks_len,
+                         uint32_t *flow, uint32_t *tick, uint32_t *count);
+
+/*
+ * Runs a table over a log. The log has, for each tick from 0, one word per input row in row order. The trace has one
+ * cell per tick and flow, tick after tick: a mark (1 present, 0 absent) and a value, 0 where absent.
+ *
+ * Success: count is `ticks`; exactly ticks x plan_count cells are written in each trace, later ones are left as they
+ * were. Refusals, in this order:
+ *   11, then row by row 13, 14, 15, as in baarqidho_write
+ *   31  more than 65,535 ticks
+ *   32  log_len is not ticks x the number of input rows
+ *   33  marks_len or values_len is below ticks x plan_count
+ *   34  a clash: tick and flow are named
+ * All but 34 leave both traces as they were. A clash has every cell before it written. One found at a flow leaves that
+ * flow's cell and all later ones as they were; one found after all flows of a tick, which names a register, has that
+ * tick written and leaves all later ones.
+ */
+uint32_t baarqidho_run(uint32_t plan_count, const uint32_t *words, size_t words_len,
+                       const uint32_t *log, size_t log_len, uint32_t ticks,
+                       uint8_t *marks, size_t marks_len,
+                       uint32_t *values, size_t values_len,
+                       uint32_t *flow, uint32_t *tick, uint32_t *count);
+
+/*
+ * Lists a packed table as text: a line `ok COUNT` and for each flow a line `FLOW PERIOD PHASE CONDITIONS`, or the one
+ * line `no NUMBER FLOW` of a refusal. Every line ends in a line feed; no zero byte follows.
+ *
+ * The answer has the number and flow of reading (11 to 16) or of the check (21 to 23), 0 and 0 where it accepts the
+ * plan. In both cases count is the length of the text; exactly that many bytes are written, later ones are left as
+ * they were. Refusal of the call itself, before all others:
+ *   10  `text` has fewer than BAARQIDHO_LISTING_MAX bytes; all of it is left as it was, count is 0
+ */
+uint32_t baarqidho_listing(const uint8_t *packed, size_t packed_len,
+                           uint8_t *text, size_t text_len,
+                           uint32_t *flow, uint32_t *tick, uint32_t *count);
+
+#ifdef __cplusplus
+}
+#endif
+
+#endif /* BAARQIDHO_H */

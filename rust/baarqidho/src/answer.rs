@@ -1,0 +1,181 @@
+//! What a call answers, and refusals in words.
+
+use std::error::Error;
+use std::fmt::{self, Display, Formatter};
+
+/// The answer of a call: a number (0 is success), a flow, a tick and a count. Parts not named are 0.
+#[derive(Clone, Copy, Debug, Default, PartialEq, Eq)]
+#[must_use]
+pub struct Answer {
+    /// 0 for success, else the number of the refusal.
+    pub number: u32,
+    /// The flow, or the row, that the refusal names.
+    pub flow: u32,
+    /// The tick of a clash.
+    pub tick: u32,
+    /// On success the count of flows, bytes or ticks; of a listing the length of the text.
+    pub count: u32,
+}
+
+impl Answer {
+    /// The count of a success, or the refusal.
+    ///
+    /// ```
+    /// use baarqidho::{check, Refusal};
+    ///
+    /// // Inputs (10, 0) and (20, 0), and their sum: the clocks differ.
+    /// let words = [0, 10, 0, 0, 0, 20, 0, 0, 2, 0, 1, 0];
+    /// let refusal = check(3, &words, &mut [0; 21]).result().unwrap_err();
+    /// assert_eq!(refusal, Refusal::ClocksDiffer { flow: 2 });
+    /// assert_eq!(refusal.to_string(), "flow 2: the clocks are not as the rules need (21)");
+    /// ```
+    pub fn result(self) -> Result<usize, Refusal> {
+        let Answer { number, flow, tick, count } = self;
+        Err(match number {
+            0 => return Ok(count as usize),
+            10 => Refusal::OutputTooShort,
+            11 => Refusal::BadCount,
+            12 => Refusal::EndsTooEarly { row: flow },
+            13 => Refusal::UnknownKind { row: flow },
+            14 => Refusal::FieldOutOfRange { row: flow },
+            15 => Refusal::BadOperand { row: flow },
+            16 => Refusal::NotTheEnd,
+            21 => Refusal::ClocksDiffer { flow },
+            22 => Refusal::BeyondLimits { flow },
+            23 => Refusal::NotPlain { flow },
+            31 => Refusal::TooManyTicks,
+            32 => Refusal::BadLogLength,
+            33 => Refusal::TraceTooShort,
+            34 => Refusal::Clash { tick, flow },
+            _ => Refusal::Other { number },
+        })
+    }
+}
+
+/// Why a plan comes back.
+#[derive(Clone, Copy, Debug, PartialEq, Eq, Hash)]
+#[non_exhaustive]
+pub enum Refusal {
+    /// 10: the output has fewer cells than needed.
+    OutputTooShort,
+    /// 11: the count is not 1 to 64, or the plain words are not four a flow.
+    BadCount,
+    /// 12: the packed bits end too early.
+    EndsTooEarly {
+        /// The row in which they end.
+        row: u32,
+    },
+    /// 13: a kind above 15.
+    UnknownKind {
+        /// The row of that kind.
+        row: u32,
+    },
+    /// 14: a field outside its range or width, or an unused word that is not 0.
+    FieldOutOfRange {
+        /// The row of that field.
+        row: u32,
+    },
+    /// 15: an operand that is not a lower flow, or a source that is not in the table.
+    BadOperand {
+        /// The row of that operand.
+        row: u32,
+    },
+    /// 16: a filling bit that is not 0, or a further byte.
+    NotTheEnd,
+    /// 21: the clocks are not as the rules need.
+    ClocksDiffer {
+        /// The flow whose rule is broken.
+        flow: u32,
+    },
+    /// 22: a derived period or phase above 4095, or a fifth condition.
+    BeyondLimits {
+        /// The flow that would have that clock.
+        flow: u32,
+    },
+    /// 23: faster, slower, later, head or tail over a clock with conditions.
+    NotPlain {
+        /// The flow of that kind.
+        flow: u32,
+    },
+    /// 31: more than 65,535 ticks.
+    TooManyTicks,
+    /// 32: the log has not one word per tick and input.
+    BadLogLength,
+    /// 33: the mark trace or the value trace has less than one cell per tick and flow.
+    TraceTooShort,
+    /// 34: operands that do not fit together.
+    Clash {
+        /// The tick of the clash.
+        tick: u32,
+        /// The flow at which it was found.
+        flow: u32,
+    },
+    /// A number that the interface does not name.
+    Other {
+        /// That number.
+        number: u32,
+    },
+}
+
+impl Refusal {
+    /// The number of the refusal.
+    pub fn number(self) -> u32 {
+        match self {
+            Refusal::OutputTooShort => 10,
+            Refusal::BadCount => 11,
+            Refusal::EndsTooEarly { .. } => 12,
+            Refusal::UnknownKind { .. } => 13,
+            Refusal::FieldOutOfRange { .. } => 14,
+            Refusal::BadOperand { .. } => 15,
+            Refusal::NotTheEnd => 16,
+            Refusal::ClocksDiffer { .. } => 21,
+            Refusal::BeyondLimits { .. } => 22,
+            Refusal::NotPlain { .. } => 23,
+            Refusal::TooManyTicks => 31,
+            Refusal::BadLogLength => 32,
+            Refusal::TraceTooShort => 33,
+            Refusal::Clash { .. } => 34,
+            Refusal::Other { number } => number,
+        }
+    }
+
+    /// What it means, in words.
+    pub fn meaning(self) -> &'static str {
+        match self {
+            Refusal::OutputTooShort => "the output has fewer cells than needed",
+            Refusal::BadCount => "the count is not 1 to 64, or the words are not four a flow",
+            Refusal::EndsTooEarly { .. } => "the packed bits end too early",
+            Refusal::UnknownKind { .. } => "the kind is above 15",
+            Refusal::FieldOutOfRange { .. } => "a field is outside its range, or an unused word is not 0",
+            Refusal::BadOperand { .. } => "an operand is not a lower flow, or a source is not in the table",
+            Refusal::NotTheEnd => "a filling bit is not 0, or a further byte follows",
+            Refusal::ClocksDiffer { .. } => "the clocks are not as the rules need",
+            Refusal::BeyondLimits { .. } => "a period or phase above 4095, or a fifth condition",
+            Refusal::NotPlain { .. } => "this kind needs a clock without conditions",
+            Refusal::TooManyTicks => "more than 65,535 ticks",
+            Refusal::BadLogLength => "the log has not one word per tick and input",
+            Refusal::TraceTooShort => "a trace has less than one cell per tick and flow",
+            Refusal::Clash { .. } => "its operands do not fit together: clash",
+            Refusal::Other { .. } => "a number that the interface does not name",
+        }
+    }
+}
+
+impl Display for Refusal {
+    fn fmt(&self, f: &mut Formatter) -> fmt::Result {
+        match *self {
+            Refusal::EndsTooEarly { row }
+            | Refusal::UnknownKind { row }
+            | Refusal::FieldOutOfRange { row }
+            | Refusal::BadOperand { row } => write!(f, "row {row}: ")?,
+            Refusal::ClocksDiffer { flow } | Refusal::BeyondLimits { flow } | Refusal::NotPlain { flow } => {
+                write!(f, "flow {flow}: ")?
+            }
+            Refusal::Clash { tick, flow } => write!(f, "tick {tick}, flow {flow}: ")?,
+            _ => {}
+        }
+        write!(f, "{} ({})", self.meaning(), self.number())
+    }
+}
+
+impl Error for Refusal {}

@@ -1,0 +1,174 @@
+//! The calls into the static library. All unsafe code is here.
+#![allow(unsafe_code)]
+
+use crate::Answer;
+
+extern "C" {
+    fn baarqidho_read(
+        packed: *const u8,
+        packed_len: usize,
+        words: *mut u32,
+        words_len: usize,
+        flow: *mut u32,
+        tick: *mut u32,
+        count: *mut u32,
+    ) -> u32;
+
+    fn baarqidho_write(
+        plan_count: u32,
+        words: *const u32,
+        words_len: usize,
+        packed: *mut u8,
+        packed_len: usize,
+        flow: *mut u32,
+        tick: *mut u32,
+        count: *mut u32,
+    ) -> u32;
+
+    fn baarqidho_check(
+        plan_count: u32,
+        words: *const u32,
+        words_len: usize,
+        clocks: *mut u32,
+        clocks_len: usize,
+        flow: *mut u32,
+        tick: *mut u32,
+        count: *mut u32,
+    ) -> u32;
+
+    fn baarqidho_run(
+        plan_count: u32,
+        words: *const u32,
+        words_len: usize,
+        log: *const u32,
+        log_len: usize,
+        ticks: u32,
+        marks: *mut u8,
+        marks_len: usize,
+        values: *mut u32,
+        values_len: usize,
+        flow: *mut u32,
+        tick: *mut u32,
+        count: *mut u32,
+    ) -> u32;
+
+    fn baarqidho_listing(
+        packed: *const u8,
+        packed_len: usize,
+        text: *mut u8,
+        text_len: usize,
+        flow: *mut u32,
+        tick: *mut u32,
+        count: *mut u32,
+    ) -> u32;
+}
+
+/// Makes a call that returns its number and puts flow, tick and count through the three pointers.
+fn answer(call: impl FnOnce(*mut u32, *mut u32, *mut u32) -> u32) -> Answer {
+    let (mut flow, mut tick, mut count) = (0, 0, 0);
+    let number = call(&mut flow, &mut tick, &mut count);
+    Answer { number, flow, tick, count }
+}
+
+/// Reads a packed table into plain words, four a flow.
+///
+/// Success gives the count of flows and writes exactly `4 * count` words. Refusals, none of which touches `words`:
+/// 11, 12, 13, 14, 15, 16, and 10 where `words` is too short.
+///
+/// ```
+/// let mut words = [7; 9];
+/// let answer = baarqidho::read(&[0x02, 0x00, 0x05, 0x00, 0x02, 0x40, 0x08], &mut words);
+/// assert_eq!((answer.number, answer.count), (0, 2));
+/// assert_eq!(words, [0, 10, 0, 0, 9, 0, 2, 0, 7]);
+/// ```
+pub fn read(packed: &[u8], words: &mut [u32]) -> Answer {
+    answer(|flow, tick, count| {
+        // SAFETY: pointers and lengths are those of live slices, `words` lent to this call alone.
+        unsafe { baarqidho_read(packed.as_ptr(), packed.len(), words.as_mut_ptr(), words.len(), flow, tick, count) }
+    })
+}
+
+/// Writes a plain table in packed form.
+///
+/// Success gives the count of bytes and writes exactly those. Refusals, none of which touches `packed`: 11, 13, 14,
+/// 15, and 10 where `packed` is too short. [`PACKED_MAX`](crate::PACKED_MAX) bytes are enough for every table.
+pub fn write(plan_count: u32, words: &[u32], packed: &mut [u8]) -> Answer {
+    answer(|flow, tick, count| {
+        // SAFETY: pointers and lengths are those of live slices, `packed` lent to this call alone.
+        unsafe {
+            baarqidho_write(
+                plan_count,
+                words.as_ptr(),
+                words.len(),
+                packed.as_mut_ptr(),
+                packed.len(),
+                flow,
+                tick,
+                count,
+            )
+        }
+    })
+}
+
+/// Gives each flow of a plain table its clock, in seven words: period, phase, how many conditions, and four words
+/// `2 * flow + 1` for true or `2 * flow` for false, unused ones 0.
+///
+/// Success gives the count of flows and writes exactly `7 * count` words. Refusals, none of which touches `clocks`:
+/// 11, 13, 14, 15, 10 where `clocks` is too short, 23, 21 and 22.
+pub fn check(plan_count: u32, words: &[u32], clocks: &mut [u32]) -> Answer {
+    answer(|flow, tick, count| {
+        // SAFETY: pointers and lengths are those of live slices, `clocks` lent to this call alone.
+        unsafe {
+            baarqidho_check(
+                plan_count,
+                words.as_ptr(),
+                words.len(),
+                clocks.as_mut_ptr(),
+                clocks.len(),
+                flow,
+                tick,
+                count,
+            )
+        }
+    })
+}
+
+/// Runs a plain table over a log for some ticks. The log has, for each tick, one word per input row in row order;
+/// the trace has one cell per tick and flow, a mark (1 present, 0 absent) and a value.
+///
+/// Success gives the count of ticks and writes exactly `ticks * plan_count` cells. Refusals that touch nothing: 11,
+/// 13, 14, 15, 31, 32 and 33. A clash, 34, names tick and flow: the cells worked out before it are written, all
+/// later ones are left as they were.
+pub fn run(plan_count: u32, words: &[u32], log: &[u32], ticks: u32, marks: &mut [u8], values: &mut [u32]) -> Answer {
+    answer(|flow, tick, count| {
+        // SAFETY: pointers and lengths are those of live slices, `marks` and `values` lent to this call alone.
+        unsafe {
+            baarqidho_run(
+                plan_count,
+                words.as_ptr(),
+                words.len(),
+                log.as_ptr(),
+                log.len(),
+                ticks,
+                marks.as_mut_ptr(),
+                marks.len(),
+                values.as_mut_ptr(),
+                values.len(),
+                flow,
+                tick,
+                count,
+            )
+        }
+    })
+}
+
+/// Lists a packed table as text: its clocks, or the one line `no NUMBER FLOW` of its refusal.
+///
+/// Number and flow are those of reading and check; the count is the length of the text, and exactly those bytes are
+/// written. A text buffer below [`LISTING_MAX`](crate::LISTING_MAX) bytes is answered by 10 and left as it was.
+pub fn listing(packed: &[u8], text: &mut [u8]) -> Answer {
+    answer(|flow, tick, count| {
+        // SAFETY: pointers and lengths are those of live slices, `text` lent to this call alone.
+        unsafe { baarqidho_listing(packed.as_ptr(), packed.len(), text.as_mut_ptr(), text.len(), flow, tick, count) }
+    })
+}

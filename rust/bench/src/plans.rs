@@ -1,0 +1,65 @@
+//! The plans that are measured, and a log for them.
+
+/// A plan in plain form.
+pub struct Plan {
+    /// What it is called.
+    pub name: &'static str,
+    /// Its words, four a flow.
+    pub words: Vec<u32>,
+}
+
+impl Plan {
+    fn new(name: &'static str, rows: &[[u32; 4]]) -> Self {
+        Plan { name, words: rows.concat() }
+    }
+
+    /// How many flows it has.
+    pub fn flows(&self) -> usize {
+        self.words.len() / 4
+    }
+
+    /// A log for some ticks: small numbers and large ones in turn.
+    pub fn log(&self, ticks: usize) -> Vec<u32> {
+        let inputs = self.words.chunks_exact(4).filter(|row| row[0] == 0).count();
+        let mut state = 1_u32;
+        let mut next = || {
+            state = state.wrapping_mul(1_664_525).wrapping_add(1_013_904_223);
+            state >> (state >> 28 & 31)
+        };
+        (0..ticks * inputs).map(|_| next()).collect()
+    }
+}
+
+/// Blocks of sixteen rows with every kind, all flows on or next to the clock (period, 0).
+pub fn mixed(name: &'static str, flows: usize, period: u32) -> Plan {
+    let mut rows = Vec::new();
+    for block in 0..4 {
+        let at = |row: u32| 16 * block + row;
+        rows.extend([
+            [0, period, 0, 0],
+            [1, 3, period, 0],
+            [2, at(0), at(1), 0],
+            [4, at(0), at(1), 0],
+            [13, at(2), at(3), 0],
+            [14, at(0), at(3), 0],
+            [15, at(3), at(4), at(5)],
+            [7, 7, at(6), at(15)],
+            [9, at(7), 2, 0],
+            [8, at(8), 2, period],
+            [10, at(9), period, 0],
+            [11, at(10), 5, 0],
+            [12, at(11), 0, 0],
+            [3, at(11), at(0), 0],
+            [5, at(13), at(11), 0],
+            [6, at(14), at(7), 0],
+        ]);
+    }
+    Plan::new(name, &rows[..flows])
+}
+
+/// One input, and sums over it and the flow before.
+pub fn sums(flows: usize) -> Plan {
+    let mut rows = vec![[0, 1, 0, 0]];
+    rows.extend((1..flows as u32).map(|flow| [2, flow - 1, 0, 0]));
+    Plan::new("sums", &rows)
+}

@@ -1,0 +1,3 @@
+/// The bytes that a text buffer needs before any listing is made: a line `ok 64`, and 64 lines of at most 30
+/// bytes (flow 2, period 4, phase 4, four conditions of 4, three spaces, a line feed).
+pub const LISTING_MAX: usize = 6 + 64 * 30;

@@ -1,0 +1,54 @@
+//! Bench plans, quick: read, write, check, run and listing with constant work a cell and no heap.
+//!
+//! The run carries between ticks only what each kind of row needs, so that no cell looks through the trace again.
+//! It is what the proved library is measured against.
+
+mod check;
+mod listing;
+mod packed;
+mod plan;
+mod run;
+mod steps;
+
+pub use check::check;
+pub use listing::listing;
+pub use packed::{read, write};
+pub use run::run;
+
+include!("../../listing_max.rs");
+
+/// An answer: a number (0 is success), a flow, a tick and a count. Parts not named are 0.
+#[derive(Clone, Copy, Debug, Default, PartialEq, Eq)]
+pub struct Answer {
+    /// 0 for success, else the number of the refusal.
+    pub number: u32,
+    /// The flow, or the row, that the refusal names.
+    pub flow: u32,
+    /// The tick of a clash.
+    pub tick: u32,
+    /// On success the count of flows, bytes or ticks.
+    pub count: u32,
+}
+
+impl Answer {
+    /// Success, with its count.
+    fn success(count: usize) -> Self {
+        Answer { number: 0, flow: 0, tick: 0, count: count as u32 }
+    }
+
+    /// A refusal of which only the number is returned.
+    fn number(number: u32) -> Self {
+        Answer { number, flow: 0, tick: 0, count: 0 }
+    }
+
+    /// A refusal that names a row or flow.
+    fn at(number: u32, flow: usize) -> Self {
+        Answer { number, flow: flow as u32, tick: 0, count: 0 }
+    }
+}
+
+/// The most flows a table has.
+const MOST_FLOWS: usize = 64;
+
+/// The greatest period and phase.
+const LIMIT: u32 = 4095;

@@ -1,0 +1,60 @@
+//! The tests that every plain table has to pass: numbers 11, 13, 14 and 15.
+
+use crate::{Answer, LIMIT, MOST_FLOWS};
+
+/// A row in plain form: kind and three fields.
+pub type Row = [u32; 4];
+
+/// The count as a number of flows.
+#[inline]
+pub fn flows(count: u32) -> Result<usize, Answer> {
+    match count as usize {
+        flows @ 1..=MOST_FLOWS => Ok(flows),
+        _ => Err(Answer::number(11)),
+    }
+}
+
+/// The rows of a plain table, all of them tested.
+#[inline]
+pub fn rows(plan_count: u32, words: &[u32]) -> Result<&[Row], Answer> {
+    let flows = flows(plan_count)?;
+    let (rows, rest) = words.as_chunks::<4>();
+    if rows.len() != flows || !rest.is_empty() {
+        return Err(Answer::number(11));
+    }
+    for (flow, row) in rows.iter().enumerate() {
+        test_row(flow, flows, row)?;
+    }
+    Ok(rows)
+}
+
+/// Numbers 13, 14 and 15 of one row.
+#[inline]
+pub fn test_row(flow: usize, flows: usize, &[kind, x, y, z]: &Row) -> Result<(), Answer> {
+    let is_flow = |word: u32| word < MOST_FLOWS as u32;
+    let is_copies = |word: u32| (1..=63).contains(&word);
+    let is_period = |word: u32| (1..=LIMIT).contains(&word);
+    let is_phase = |word: u32| word <= LIMIT;
+    let lower = |word: u32| (word as usize) < flow;
+    // In range, and then the operands lower.
+    let (fits, known) = match kind {
+        0 => (is_period(x) && is_phase(y) && z == 0, true),
+        1 => (is_period(y) && is_phase(z), true),
+        2..=6 | 13 | 14 => (is_flow(x) && is_flow(y) && z == 0, lower(x) && lower(y)),
+        7 => (is_flow(y) && is_flow(z), lower(y) && (z as usize) < flows),
+        8 => (is_flow(x) && is_copies(y) && is_period(z), lower(x)),
+        9 => (is_flow(x) && is_copies(y) && z == 0, lower(x)),
+        10 => (is_flow(x) && is_phase(y) && z == 0, lower(x)),
+        11 => (is_flow(x) && is_phase(z), lower(x)),
+        12 => (is_flow(x) && y == 0 && z == 0, lower(x)),
+        15 => (is_flow(x) && is_flow(y) && is_flow(z), lower(x) && lower(y) && lower(z)),
+        _ => return Err(Answer::at(13, flow)),
+    };
+    if !fits {
+        return Err(Answer::at(14, flow));
+    }
+    if !known {
+        return Err(Answer::at(15, flow));
+    }
+    Ok(())
+}

@@ -1,0 +1,57 @@
+//! Bench plans as the paper words them: read, write, check, run and listing, each rule one function.
+//!
+//! Nothing here is quick. Packed tables are read and written bit by bit, and the run keeps no state: it looks
+//! through the history of the trace for everything it needs. It is what the other implementations are held
+//! against.
+
+mod bits;
+mod check;
+mod clock;
+mod listing;
+mod operators;
+mod packed;
+mod rows;
+mod run;
+
+pub use check::check;
+pub use listing::listing;
+pub use packed::{read, write};
+pub use run::run;
+
+include!("../../listing_max.rs");
+
+/// An answer: a number (0 is success), a flow, a tick and a count. Parts not named are 0.
+#[derive(Clone, Copy, Debug, Default, PartialEq, Eq)]
+pub struct Answer {
+    /// 0 for success, else the number of the refusal.
+    pub number: u32,
+    /// The flow, or the row, that the refusal names.
+    pub flow: u32,
+    /// The tick of a clash.
+    pub tick: u32,
+    /// On success the count of flows, bytes or ticks.
+    pub count: u32,
+}
+
+/// Why a plan comes back: the answer that is given in place of a result.
+type Refused<T> = Result<T, Answer>;
+
+/// Success, with its count.
+fn success(count: usize) -> Answer {
+    Answer { count: count as u32, ..Answer::default() }
+}
+
+/// A refusal of which only the number is returned.
+fn refuse<T>(number: u32) -> Refused<T> {
+    Err(Answer { number, ..Answer::default() })
+}
+
+/// A refusal that names a row or flow.
+fn refuse_at<T>(number: u32, flow: usize) -> Refused<T> {
+    Err(Answer { number, flow: flow as u32, ..Answer::default() })
+}
+
+/// The answer itself, success or refusal.
+fn answer(result: Refused<Answer>) -> Answer {
+    result.unwrap_or_else(|refusal| refusal)
+}

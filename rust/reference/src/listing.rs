@@ -1,0 +1,47 @@
+//! The listing of a packed table: its clocks, or the one line of its refusal.
+
+use crate::check::clocks_of;
+use crate::clock::Clock;
+use crate::packed::unpack;
+use crate::rows::table;
+use crate::{answer, refuse, Answer, Refused, LISTING_MAX};
+
+/// Lists a packed table as text. The number and flow are those of reading and check; the count is the length of
+/// the text. A text buffer below [`LISTING_MAX`] is answered by 10 and left as it was.
+pub fn listing(packed: &[u8], text: &mut [u8]) -> Answer {
+    if text.len() < LISTING_MAX {
+        return answer(refuse(10));
+    }
+    let clocks = clocks_of_packed(packed);
+    let lines = match &clocks {
+        Ok(clocks) => accepted(clocks),
+        Err(refusal) => format!("no {} {}\n", refusal.number, refusal.flow),
+    };
+    text[..lines.len()].copy_from_slice(lines.as_bytes());
+    let refusal = clocks.err().unwrap_or_default();
+    Answer { count: lines.len() as u32, ..refusal }
+}
+
+/// Reading, and then the check.
+fn clocks_of_packed(packed: &[u8]) -> Refused<Vec<Clock>> {
+    let words = unpack(packed)?;
+    let rows = table(words.len() as u32 / 4, &words)?;
+    clocks_of(&rows)
+}
+
+/// Count first, then flow, period, phase, conditions, or a lone `-` where there are none.
+fn accepted(clocks: &[Clock]) -> String {
+    let mut lines = format!("ok {}\n", clocks.len());
+    for (flow, clock) in clocks.iter().enumerate() {
+        lines += &format!("{} {} {} {}\n", flow, clock.period, clock.phase, conditions(clock));
+    }
+    lines
+}
+
+/// The letter `c`, the flow, and `+` for true or `-` for false; several follow each other without spaces.
+fn conditions(clock: &Clock) -> String {
+    if clock.conditions.is_empty() {
+        return "-".to_string();
+    }
+    clock.conditions.iter().map(|&(flow, truth)| format!("c{flow}{}", if truth { '+' } else { '-' })).collect()
+}

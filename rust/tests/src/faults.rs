@@ -1,0 +1,226 @@
+//! Faults planted in plans and in packed bytes.
+
+use crate::rng::Rng;
+use crate::Plan;
+
+/// The fields of each kind: f a flow, s a source, k copies, p a period or gap, t a phase, delay or tick, v a value.
+const FIELDS: [&str; 16] =
+    ["pt", "vpt", "ff", "ff", "ff", "ff", "ff", "vfs", "fkp", "fk", "ft", "fvt", "f", "ff", "ff", "fff"];
+
+/// Plants one to three faults of any kind.
+pub fn plant(rng: &mut Rng, plan: &mut Plan) {
+    for _ in 0..rng.pick(&[1, 1, 1, 2, 3]) {
+        match rng.below(15) {
+            0 => wrong_kind(rng, plan),
+            1 => wrong_field(rng, plan),
+            2 => unused_word(rng, plan),
+            3 => wrong_operand(rng, plan),
+            4 => wrong_count(rng, plan),
+            5 => other_source(rng, plan),
+            6 => beyond(rng, plan),
+            7 => swap_rows(rng, plan),
+            8 => any_word(rng, plan),
+            9 => not_plain(rng, plan),
+            10 => fifth_condition(rng, plan),
+            _ => disturb(rng, plan),
+        }
+    }
+}
+
+/// The place of the first word of a random row, if there is a row.
+fn some_row(rng: &mut Rng, plan: &Plan) -> Option<usize> {
+    match plan.words.len() / 4 {
+        0 => None,
+        rows => Some(4 * rng.below(rows)),
+    }
+}
+
+/// The fields of the row at a place.
+fn fields(plan: &Plan, row: usize) -> &'static str {
+    FIELDS.get(plan.words[row] as usize).copied().unwrap_or("")
+}
+
+/// The place of a random field of one of the given sorts, with its row and sort.
+fn some_field(rng: &mut Rng, plan: &Plan, sorts: &str) -> Option<(usize, usize, char)> {
+    let rows = plan.words.len() / 4;
+    let has = |row: usize| fields(plan, 4 * row).chars().any(|sort| sorts.contains(sort));
+    let row = 4 * rng.pick_where(rows, has)?;
+    let of: Vec<(usize, char)> = fields(plan, row).char_indices().filter(|(_, sort)| sorts.contains(*sort)).collect();
+    let (place, sort) = rng.pick(&of);
+    Some((row, row + 1 + place, sort))
+}
+
+fn wrong_kind(rng: &mut Rng, plan: &mut Plan) {
+    if let Some(row) = some_row(rng, plan) {
+        plan.words[row] = rng.pick(&[16, 17, 31, 32, 255, 1 << 16, u32::MAX]);
+    }
+}
+
+/// A field outside its range: one past either end, or far away.
+fn wrong_field(rng: &mut Rng, plan: &mut Plan) {
+    if let Some((_, place, sort)) = some_field(rng, plan, "fskpt") {
+        let far = rng.word() | 1 << 20;
+        plan.words[place] = match sort {
+            'f' | 's' => rng.pick(&[64, 65, 128, far, u32::MAX]),
+            'k' => rng.pick(&[0, 64, far]),
+            'p' => rng.pick(&[0, 4096, far]),
+            _ => rng.pick(&[4096, 4097, far]),
+        };
+    }
+}
+
+fn unused_word(rng: &mut Rng, plan: &mut Plan) {
+    if let Some(row) = some_row(rng, plan) {
+        let used = fields(plan, row).len();
+        if used < 3 {
+            plan.words[row + 1 + used + rng.below(3 - used)] = rng.pick(&[1, 63, u32::MAX]);
+        }
+    }
+}
+
+/// An operand that is the flow itself or above, or a source behind the table; both within 6 bits.
+fn wrong_operand(rng: &mut Rng, plan: &mut Plan) {
+    if let Some((row, place, sort)) = some_field(rng, plan, "fs") {
+        let lowest = if sort == 'f' { row / 4 } else { plan.words.len() / 4 };
+        if lowest < 64 {
+            plan.words[place] = match rng.percent(60) {
+                true => lowest as u32,
+                false => rng.range(lowest as u32, 63),
+            };
+        }
+    }
+}
+
+fn wrong_count(rng: &mut Rng, plan: &mut Plan) {
+    match rng.below(6) {
+        0 => plan.count = rng.pick(&[0, 65, 64, 256, 1 << 30, (1 << 30) + 1, u32::MAX]),
+        1 => plan.count = plan.count.wrapping_add(1),
+        2 => plan.count = plan.count.wrapping_sub(1),
+        3 => plan.words.truncate(plan.words.len().saturating_sub(1 + rng.below(4))),
+        4 => plan.words.push(0),
+        _ => plan.words.clear(),
+    }
+}
+
+/// Another source within the table.
+fn other_source(rng: &mut Rng, plan: &mut Plan) {
+    if let Some((_, place, _)) = some_field(rng, plan, "s") {
+        plan.words[place] = rng.below(plan.words.len() / 4) as u32;
+    }
+}
+
+/// The greatest copies, delay, period or phase that a field has, or a long delay where there was another row.
+fn beyond(rng: &mut Rng, plan: &mut Plan) {
+    let flow = some_row(rng, plan).unwrap_or(0) / 4;
+    if flow > 0 && rng.percent(50) {
+        let a = rng.below(flow) as u32;
+        let row = rng.pick(&[[9, a, 63, 0], [10, a, 4095, 0], [10, a, 4090, 0]]);
+        plan.words[4 * flow..][..4].copy_from_slice(&row);
+    } else if let Some((_, place, sort)) = some_field(rng, plan, "kpt") {
+        plan.words[place] = match sort {
+            'k' => 63,
+            _ => rng.pick(&[4095, 4094, 2048]),
+        };
+    }
+}
+
+/// One of kinds 8 to 12 over a when or when-not.
+fn not_plain(rng: &mut Rng, plan: &mut Plan) {
+    let rows = plan.words.len() / 4;
+    let sampled = rng.pick_where(rows, |row| matches!(plan.words[4 * row], 13 | 14));
+    if let Some(a) = sampled.filter(|a| a + 1 < rows) {
+        let flow = a + 1 + rng.below(rows - a - 1);
+        let a = a as u32;
+        let row = rng.pick(&[[8, a, 2, 1], [9, a, 2, 0], [10, a, 0, 0], [11, a, 5, 0], [12, a, 0, 0]]);
+        plan.words[4 * flow..][..4].copy_from_slice(&row);
+    }
+}
+
+/// Five rows that each sample the one before.
+fn fifth_condition(rng: &mut Rng, plan: &mut Plan) {
+    let rows = plan.words.len() / 4;
+    if rows > 5 {
+        let first = 1 + rng.below(rows - 5);
+        for flow in first..first + 5 {
+            let before = flow as u32 - 1;
+            let row = [rng.range(13, 14), before, before, 0];
+            plan.words[4 * flow..][..4].copy_from_slice(&row);
+        }
+    }
+}
+
+fn swap_rows(rng: &mut Rng, plan: &mut Plan) {
+    if let (Some(row), Some(other)) = (some_row(rng, plan), some_row(rng, plan)) {
+        for place in 0..4 {
+            plan.words.swap(row + place, other + place);
+        }
+    }
+}
+
+fn any_word(rng: &mut Rng, plan: &mut Plan) {
+    if !plan.words.is_empty() {
+        let place = rng.below(plan.words.len());
+        plan.words[place] = rng.pick(&[0, 1, 2, 3, 7, 8, 12, 13, 14, 15, 63, 64, 4095, 4096, u32::MAX]);
+    }
+}
+
+/// Another number within the range of a field, or a like kind: what the check and the run have to find.
+pub fn disturb(rng: &mut Rng, plan: &mut Plan) {
+    if rng.percent(25) {
+        if let Some(row) = some_row(rng, plan) {
+            let like: &[u32] = match plan.words[row] {
+                2..=6 | 13 | 14 => &[2, 3, 4, 5, 6, 13, 14],
+                9 | 10 => &[9, 10],
+                kind => &[kind],
+            };
+            plan.words[row] = rng.pick(like);
+        }
+    } else if let Some((row, place, sort)) = some_field(rng, plan, "ffkpt") {
+        plan.words[place] = match sort {
+            'f' => rng.below((row / 4).max(1)) as u32,
+            'k' => rng.range(1, 6),
+            'p' => rng.range(1, 12),
+            _ => rng.range(0, 12),
+        };
+    }
+}
+
+/// Small random rows of any kind: operands mostly lower, numbers small, nothing meant to fit.
+pub fn any_rows(rng: &mut Rng) -> Plan {
+    let flows = 1 + rng.below(8);
+    let mut rows = Vec::new();
+    for flow in 0..flows {
+        let kind = if flow == 0 || rng.percent(25) { rng.range(0, 1) } else { rng.range(2, 15) };
+        let mut row = [kind, 0, 0, 0];
+        for (word, sort) in row[1..].iter_mut().zip(FIELDS[kind as usize].chars()) {
+            *word = match sort {
+                'f' => rng.below(flow) as u32,
+                's' => rng.below(flows) as u32,
+                'k' => rng.range(1, 3),
+                'p' => rng.range(1, 3),
+                't' => rng.range(0, 2),
+                _ => rng.value(),
+            };
+        }
+        rows.push(row);
+    }
+    Plan::of(&rows)
+}
+
+/// Damages packed bytes: bits turned over, cut, lengthened, or filled up wrongly.
+pub fn damage(rng: &mut Rng, packed: &mut Vec<u8>) {
+    match rng.below(8) {
+        0 => packed.truncate(rng.below(packed.len() + 1)),
+        1 => packed.truncate(packed.len().saturating_sub(1)),
+        2 => packed.push(rng.pick(&[0, 0, 1, 128, 255])),
+        3 => packed.extend(vec![0; 1 + rng.below(600)]),
+        4 => *packed.last_mut().expect("packed bytes are not empty") |= 1 << rng.below(3),
+        5 => packed[0] = rng.pick(&[0, 1, 63, 64, 65, 255, packed[0].wrapping_add(1), packed[0].wrapping_sub(1)]),
+        _ => {
+            for _ in 0..rng.pick(&[1, 1, 1, 2, 5]) {
+                let bit = rng.below(8 * packed.len());
+                packed[bit / 8] ^= 0x80 >> (bit % 8);
+            }
+        }
+    }
+}

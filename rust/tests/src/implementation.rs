@@ -1,0 +1,57 @@
+//! The three implementations behind one set of signatures.
+
+/// Number, flow, tick and count of an answer.
+pub type Parts = (u32, u32, u32, u32);
+
+/// An implementation of the five calls.
+#[derive(Debug)]
+pub struct Implementation {
+    /// Its name, for messages.
+    pub name: &'static str,
+    /// Packed bytes to words.
+    pub read: fn(&[u8], &mut [u32]) -> Parts,
+    /// Count and words to packed bytes.
+    pub write: fn(u32, &[u32], &mut [u8]) -> Parts,
+    /// Count and words to clocks.
+    pub check: fn(u32, &[u32], &mut [u32]) -> Parts,
+    /// Count, words, log and ticks to marks and values.
+    #[allow(clippy::type_complexity)]
+    pub run: fn(u32, &[u32], &[u32], u32, &mut [u8], &mut [u32]) -> Parts,
+    /// Packed bytes to text.
+    pub listing: fn(&[u8], &mut [u8]) -> Parts,
+}
+
+macro_rules! implementation {
+    ($krate:ident) => {
+        Implementation {
+            name: stringify!($krate),
+            read: |packed, words| parts!($krate::read(packed, words)),
+            write: |count, words, packed| parts!($krate::write(count, words, packed)),
+            check: |count, words, clocks| parts!($krate::check(count, words, clocks)),
+            run: |count, words, log, ticks, marks, values| parts!($krate::run(count, words, log, ticks, marks, values)),
+            listing: |packed, text| parts!($krate::listing(packed, text)),
+        }
+    };
+}
+
+macro_rules! parts {
+    ($answer:expr) => {{
+        let answer = $answer;
+        (answer.number, answer.flow, answer.tick, answer.count)
+    }};
+}
+
+/// The proved library.
+pub static LIBRARY: Implementation = implementation!(baarqidho);
+
+/// The paper word by word.
+pub static REFERENCE: Implementation = implementation!(reference);
+
+/// The quick one.
+pub static PEER: Implementation = implementation!(peer);
+
+/// All, for short runs: the first is what the others are held against.
+pub static ALL: [&Implementation; 3] = [&REFERENCE, &LIBRARY, &PEER];
+
+/// Those that are quick enough for long runs.
+pub static QUICK: [&Implementation; 2] = [&PEER, &LIBRARY];

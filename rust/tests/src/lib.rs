@@ -1,0 +1,46 @@
+//! Random plans, faults planted in them, and comparisons of the implementations cell by cell.
+//!
+//! Seeds are fixed. BAARQIDHO_ROUNDS multiplies the number of plans of each test.
+
+pub mod compare;
+pub mod faults;
+pub mod generate;
+pub mod implementation;
+pub mod rng;
+pub mod tally;
+
+pub use baarqidho::LISTING_MAX;
+
+/// A plain table as it is handed to a call: any count, any words.
+#[derive(Clone, Debug, PartialEq, Eq)]
+pub struct Plan {
+    /// The count of flows that is claimed.
+    pub count: u32,
+    /// Its words, four a flow if nothing is wrong with it.
+    pub words: Vec<u32>,
+}
+
+impl Plan {
+    /// The plan of rows, with the right count.
+    pub fn of(rows: &[[u32; 4]]) -> Self {
+        Plan { count: rows.len() as u32, words: rows.concat() }
+    }
+
+    /// How many rows of kind 0 its words have.
+    pub fn inputs(&self) -> usize {
+        self.words.chunks_exact(4).filter(|row| row[0] == 0).count()
+    }
+
+    /// Whether it has no row of kinds 13 to 15.
+    pub fn free_of_sampling(&self) -> bool {
+        self.words.chunks_exact(4).all(|row| !(13..=15).contains(&row[0]))
+    }
+}
+
+/// The plans of a test: its own number, times BAARQIDHO_ROUNDS.
+pub fn rounds(plans: usize) -> usize {
+    match std::env::var("BAARQIDHO_ROUNDS") {
+        Ok(factor) => plans * factor.parse::<usize>().expect("BAARQIDHO_ROUNDS is a whole number"),
+        Err(_) => plans,
+    }
+}

@@ -1,0 +1,79 @@
+//! A small generator of pseudo-random numbers (splitmix64).
+
+/// A generator with a fixed seed.
+#[derive(Clone, Debug)]
+pub struct Rng(u64);
+
+impl Rng {
+    /// The generator of a seed.
+    pub fn new(seed: u64) -> Self {
+        Rng(seed)
+    }
+
+    /// Any 64-bit number.
+    pub fn any(&mut self) -> u64 {
+        self.0 = self.0.wrapping_add(0x9E37_79B9_7F4A_7C15);
+        let mut z = self.0;
+        z = (z ^ (z >> 30)).wrapping_mul(0xBF58_476D_1CE4_E5B9);
+        z = (z ^ (z >> 27)).wrapping_mul(0x94D0_49BB_1331_11EB);
+        z ^ (z >> 31)
+    }
+
+    /// Any 32-bit number.
+    pub fn word(&mut self) -> u32 {
+        (self.any() >> 32) as u32
+    }
+
+    /// A number below `bound`, which is not 0.
+    pub fn below(&mut self, bound: usize) -> usize {
+        (((self.any() >> 32) * bound as u64) >> 32) as usize
+    }
+
+    /// A number from `low` to `high`, both included.
+    pub fn range(&mut self, low: u32, high: u32) -> u32 {
+        low + self.below((high - low) as usize + 1) as u32
+    }
+
+    /// True `chances` times out of a hundred.
+    pub fn percent(&mut self, chances: usize) -> bool {
+        self.below(100) < chances
+    }
+
+    /// One of some things.
+    pub fn pick<T: Copy>(&mut self, things: &[T]) -> T {
+        things[self.below(things.len())]
+    }
+
+    /// One of the things that pass a test, or nothing if none does.
+    pub fn pick_where(&mut self, things: usize, test: impl Fn(usize) -> bool) -> Option<usize> {
+        let start = self.below(things.max(1));
+        (start..things).chain(0..start).find(|&thing| test(thing))
+    }
+
+    /// A value: often small, sometimes at an edge, sometimes any.
+    pub fn value(&mut self) -> u32 {
+        match self.below(8) {
+            0..=2 => 0,
+            3 | 4 => self.range(1, 3),
+            5 => self.pick(&[u32::MAX, u32::MAX - 1, 1 << 31, (1 << 31) - 1]),
+            _ => self.word(),
+        }
+    }
+
+    /// A log of that many words.
+    pub fn log(&mut self, words: usize) -> Vec<u32> {
+        let truths = self.percent(50);
+        (0..words).map(|_| if truths { self.word() >> 31 } else { self.value() }).collect()
+    }
+
+    /// A length that is mostly the one needed, else close to it or far off.
+    pub fn around(&mut self, needed: usize) -> usize {
+        match self.below(20) {
+            0 => needed.saturating_sub(1),
+            1 | 2 => needed + 1,
+            3 => needed + self.below(40),
+            4 => self.below(needed + 1),
+            _ => needed,
+        }
+    }
+}

@@ -1,0 +1,127 @@
+//! Clashes: where each is found, what is written before it, and that nothing is written after it.
+
+use tests::compare::{run, run_exactly, written_up_to};
+use tests::faults::{any_rows, plant};
+use tests::implementation::ALL;
+use tests::rng::Rng;
+use tests::{rounds, Plan};
+
+use crate::short::sound;
+
+/// A run of some ticks over a log of zeros clashes at this tick and flow, with so many cells written.
+fn clashes(rows: &[[u32; 4]], ticks: u32, tick: u32, flow: u32, written: usize) {
+    let plan = Plan::of(rows);
+    let log = vec![0; ticks as usize * plan.inputs()];
+    let outcome = run_exactly(&ALL, &plan, &log, ticks);
+    assert_eq!(outcome.parts, (34, flow, tick, 0), "{rows:?}");
+    assert!(written_up_to(&outcome, written), "{rows:?}");
+}
+
+/// A run of some ticks over a log of zeros ends without a clash.
+fn ends(rows: &[[u32; 4]], ticks: u32) {
+    let plan = Plan::of(rows);
+    let log = vec![0; ticks as usize * plan.inputs()];
+    assert_eq!(run_exactly(&ALL, &plan, &log, ticks).parts, (0, 0, 0, ticks), "{rows:?}");
+}
+
+#[test]
+fn two_operands() {
+    for kind in [2, 3, 4, 5, 6, 13, 14] {
+        clashes(&[[0, 2, 0, 0], [0, 3, 0, 0], [kind, 0, 1, 0], [0, 1, 0, 0]], 9, 2, 2, 10);
+        clashes(&[[0, 3, 0, 0], [0, 2, 0, 0], [kind, 0, 1, 0], [0, 1, 0, 0]], 9, 2, 2, 10);
+        ends(&[[0, 2, 0, 0], [0, 3, 0, 0], [kind, 0, 1, 0], [0, 1, 0, 0]], 2);
+    }
+}
+
+#[test]
+fn faster() {
+    clashes(&[[0, 5, 1, 0], [8, 0, 2, 3]], 20, 6, 1, 13);
+    clashes(&[[0, 7, 1, 0], [8, 0, 2, 3]], 20, 8, 1, 17);
+    clashes(&[[0, 3, 0, 0], [8, 0, 2, 3]], 20, 3, 1, 7);
+    ends(&[[0, 6, 1, 0], [8, 0, 2, 3]], 40);
+    ends(&[[0, 5, 1, 0], [8, 0, 2, 3]], 6);
+}
+
+#[test]
+fn head() {
+    // Present before s, at s, and too early or too late after it.
+    clashes(&[[0, 9, 1, 0], [11, 0, 5, 3]], 20, 1, 1, 3);
+    clashes(&[[0, 9, 3, 0], [11, 0, 5, 3]], 20, 3, 1, 7);
+    clashes(&[[0, 3, 5, 0], [11, 0, 5, 3]], 20, 8, 1, 17);
+    clashes(&[[0, 3, 7, 0], [11, 0, 5, 3]], 20, 10, 1, 21);
+    ends(&[[0, 3, 6, 0], [11, 0, 5, 3]], 40);
+    ends(&[[0, 3, 5, 0], [11, 0, 5, 3]], 8);
+}
+
+#[test]
+fn merge() {
+    // c, a and b as constants at tick 0 or absent there: only three of the twelve cases fit together.
+    let constant = |cell: Option<u32>| match cell {
+        Some(value) => [1, value, 1, 0],
+        None => [1, 0, 1, 1],
+    };
+    for c in [None, Some(0), Some(4)] {
+        for a in [None, Some(8)] {
+            for b in [None, Some(9)] {
+                let rows = [constant(c), constant(a), constant(b), [15, 0, 1, 2]];
+                match (c, a, b) {
+                    (None, None, None) | (Some(0), None, Some(_)) | (Some(4), Some(_), None) => ends(&rows, 1),
+                    _ => clashes(&rows, 1, 0, 3, 3),
+                }
+            }
+        }
+    }
+}
+
+#[test]
+fn registers() {
+    // The tick is filled; the lowest register is named, whichever way round source and beat differ.
+    let rows = [[0, 2, 0, 0], [0, 3, 0, 0], [7, 5, 0, 1], [7, 6, 1, 0], [0, 1, 0, 0]];
+    clashes(&rows, 9, 2, 2, 15);
+    let rows = [[0, 2, 0, 0], [0, 3, 0, 0], [7, 5, 0, 0], [7, 6, 1, 0], [0, 1, 0, 0]];
+    clashes(&rows, 9, 2, 3, 15);
+    // A source above the register.
+    clashes(&[[0, 2, 0, 0], [7, 5, 0, 2], [0, 2, 1, 0]], 9, 0, 1, 3);
+    ends(&[[0, 2, 0, 0], [7, 5, 0, 2], [0, 2, 0, 0]], 9);
+    ends(&[[0, 2, 0, 0], [7, 5, 0, 1]], 9);
+    // A clash at a higher flow comes before that of a register in the same tick.
+    clashes(&[[0, 2, 0, 0], [0, 3, 0, 0], [7, 5, 0, 1], [2, 0, 1, 0]], 9, 2, 3, 11);
+}
+
+/// Random clashes: exactly the cells before it are written, and they are those of a run that stops before its tick.
+#[test]
+fn what_a_clash_leaves() {
+    let mut rng = Rng::new(41);
+    let mut seen = [0; 16];
+    for round in 0..rounds(60_000) {
+        let plan = match round % 2 {
+            0 => any_rows(&mut rng),
+            _ => {
+                let (mut plan, _) = sound(&mut rng);
+                plant(&mut rng, &mut plan);
+                plan
+            }
+        };
+        let log = rng.log(30 * plan.inputs());
+        let flows = plan.words.len() / 4;
+        let extra = rng.below(5);
+        let outcome = run(&ALL, &plan, &log, 30, (30 * flows + extra, 30 * flows + 4 - extra));
+        let (number, flow, tick, count) = outcome.parts;
+        if number != 34 {
+            continue;
+        }
+        assert!(count == 0 && (flow as usize) < flows && tick < 30);
+        let kind = plan.words[4 * flow as usize] as usize;
+        seen[kind] += 1;
+        let before = tick as usize * flows;
+        let written = before + if kind == 7 { flows } else { flow as usize };
+        assert!(written_up_to(&outcome, written), "{plan:?}");
+        let shorter = run_exactly(&ALL[..2], &plan, &log[..tick as usize * plan.inputs()], tick);
+        assert_eq!(shorter.parts, (0, 0, 0, tick));
+        assert_eq!(shorter.bytes[..before], outcome.bytes[..before]);
+        assert_eq!(shorter.words[..before], outcome.words[..before]);
+    }
+    for (kind, &count) in seen.iter().enumerate() {
+        assert_eq!(count > 0, matches!(kind, 2..=8 | 11 | 13..=15), "clashes by kind: {seen:?}");
+    }
+}

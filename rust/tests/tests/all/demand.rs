@@ -1,0 +1,126 @@
+//! Demand 3 on random plans: check and run share one calendar.
+
+use tests::compare::{check, run_exactly, Outcome};
+use tests::faults::{any_rows, disturb, plant};
+use tests::generate::{accepted, Shape};
+use tests::implementation::{Implementation, ALL, LIBRARY, QUICK};
+use tests::rng::Rng;
+use tests::{rounds, Plan};
+
+/// Whether a flow has to have a value at a tick: its clock words, the conditions read from that tick's cells.
+fn on_calendar(clock: &[u32], trace: &Outcome, flows: usize, tick: usize) -> bool {
+    let (period, phase, conditions) = (clock[0] as usize, clock[1] as usize, clock[2] as usize);
+    let holds = |condition: u32| {
+        let place = tick * flows + condition as usize / 2;
+        trace.bytes[place] == 1 && (trace.words[place] != 0) == (condition % 2 == 1)
+    };
+    tick >= phase && (tick - phase).is_multiple_of(period) && clock[3..3 + conditions].iter().all(|&word| holds(word))
+}
+
+/// If the check accepts the plan, the run ends and each mark is that of the calendar. Gives whether it was accepted.
+fn first_half(rng: &mut Rng, of: &[&Implementation], plan: &Plan, ticks: u32) -> bool {
+    let flows = plan.words.len() / 4;
+    let clocks = check(of, plan, 7 * flows);
+    if clocks.parts.0 != 0 {
+        return false;
+    }
+    let log = rng.log(ticks as usize * plan.inputs());
+    let trace = run_exactly(of, plan, &log, ticks);
+    assert_eq!(trace.parts, (0, 0, 0, ticks), "{plan:?}");
+    for tick in 0..ticks as usize {
+        for flow in 0..flows {
+            let expected = on_calendar(&clocks.words[7 * flow..7 * flow + 7], &trace, flows, tick);
+            let mark = trace.bytes[tick * flows + flow];
+            assert_eq!(mark, u8::from(expected), "tick {tick}, flow {flow} of {plan:?}");
+        }
+    }
+    true
+}
+
+#[test]
+fn marks_are_the_calendar_short() {
+    let mut rng = Rng::new(51);
+    let (mut taken, plans) = (0, rounds(60_000));
+    for round in 0..plans {
+        let shape = Shape::short(&mut rng);
+        let (mut plan, _) = accepted(&mut rng, shape);
+        match round % 3 {
+            0 => plant(&mut rng, &mut plan),
+            1 => plan = any_rows(&mut rng),
+            _ => {}
+        }
+        let ticks = rng.range(0, 40);
+        taken += usize::from(first_half(&mut rng, &[&LIBRARY], &plan, ticks));
+    }
+    assert!(taken > plans * 2 / 5, "{taken} of {plans} accepted");
+}
+
+#[test]
+fn marks_are_the_calendar_long() {
+    let mut rng = Rng::new(52);
+    for _ in 0..rounds(300) {
+        let shape = Shape::long(&mut rng);
+        let (plan, _) = accepted(&mut rng, shape);
+        assert!(first_half(&mut rng, &QUICK, &plan, 8_191));
+    }
+}
+
+/// A plan without sampling and merging that the check answers by 0 or 21: accepted exactly when a run of 8,191 ticks
+/// ends. Gives the answer's number, if the plan is such a one.
+fn second_half(rng: &mut Rng, plan: &Plan) -> Option<u32> {
+    let number = check(&ALL, plan, 7 * plan.words.len() / 4).parts.0;
+    if !plan.free_of_sampling() || !matches!(number, 0 | 21) {
+        return None;
+    }
+    let log = rng.log(8_191 * plan.inputs());
+    let ended = run_exactly(&[&LIBRARY], plan, &log, 8_191).parts.0;
+    assert!(matches!(ended, 0 | 34));
+    assert_eq!(number == 0, ended == 0, "{plan:?}");
+    Some(number)
+}
+
+#[test]
+fn accepted_exactly_when_the_run_ends() {
+    let mut rng = Rng::new(53);
+    let (mut yes, mut no) = (0, 0);
+    for round in 0..rounds(20_000) {
+        let flows = 1 + rng.below(9);
+        let scale = rng.pick(&[2, 6, 100, 4095, 4095]);
+        let (mut plan, _) = accepted(&mut rng, Shape { flows, scale, sampling: false });
+        match round % 8 {
+            0 => {}
+            1 | 2 => plan = any_rows(&mut rng),
+            3 => plant(&mut rng, &mut plan),
+            _ => disturb(&mut rng, &mut plan),
+        }
+        match second_half(&mut rng, &plan) {
+            Some(0) => yes += 1,
+            Some(_) => no += 1,
+            None => {}
+        }
+    }
+    assert!(yes > 2_000 && no > 2_000, "{yes} accepted, {no} refused by 21");
+}
+
+/// 8,191 ticks are needed: these clash in the last of them.
+#[test]
+fn the_last_of_8191_ticks() {
+    let latest = [0, 4095, 4095, 0];
+    let constant = |period| [1, 3, period, 4095];
+    let plans = [
+        vec![latest, [8, 0, 1, 4094]],
+        vec![latest, [8, 0, 63, 64]],
+        vec![latest, [11, 0, 5, 1]],
+        vec![latest, constant(4094), [2, 0, 1, 0]],
+        vec![latest, constant(4094), [7, 5, 0, 1]],
+    ];
+    for rows in plans {
+        let last = rows.len() as u32 - 1;
+        let tick = if rows.len() == 2 { 8_190 } else { 8_189 };
+        let plan = Plan::of(&rows);
+        assert_eq!(check(&ALL, &plan, 7 * rows.len()).parts, (21, last, 0, 0));
+        let log = vec![1; tick as usize + 1];
+        assert_eq!(run_exactly(&QUICK, &plan, &log, tick + 1).parts, (34, last, tick, 0));
+        assert_eq!(run_exactly(&QUICK, &plan, &log[1..], tick).parts, (0, 0, 0, tick));
+    }
+}

@@ -1,0 +1,282 @@
+//! Every limit, and one past it.
+
+use tests::compare::{check, listing, read, run, run_exactly, write, written_up_to};
+use tests::implementation::{Parts, ALL, QUICK};
+use tests::rng::Rng;
+use tests::{Plan, LISTING_MAX};
+
+/// What the check answers.
+fn checked(rows: &[[u32; 4]]) -> Parts {
+    check(&ALL, &Plan::of(rows), 7 * rows.len()).parts
+}
+
+/// What write, check and run answer to a plain table, all the same: number and row.
+fn refused(rows: &[[u32; 4]], number: u32, row: u32) {
+    let plan = Plan::of(rows);
+    let expected = (number, row, 0, 0);
+    assert_eq!(write(&ALL, &plan, 489).parts, expected, "{rows:?}");
+    assert_eq!(checked(rows), expected, "{rows:?}");
+    assert_eq!(run(&ALL, &plan, &[], 0, (0, 0)).parts, expected, "{rows:?}");
+}
+
+/// The table is one: it can be written, and is read back.
+fn is_table(rows: &[[u32; 4]]) {
+    let plan = Plan::of(rows);
+    let written = write(&ALL, &plan, 489);
+    assert_eq!(written.parts.0, 0, "{rows:?}");
+    let plain = read(&ALL, &written.bytes[..written.parts.3 as usize], plan.words.len());
+    assert_eq!(plain.words[..plan.words.len()], plan.words, "{rows:?}");
+}
+
+/// Fields of each sort, at each place where a row has one: the ends of the range, and one past them.
+#[test]
+fn ranges_of_fields() {
+    let base = [0, 1, 0, 0];
+    // A row, the place of the word that varies, the words that fit and those that do not.
+    let period = (&[1, 4095][..], &[0, 4096, u32::MAX][..]);
+    let phase = (&[0, 4095][..], &[4096, u32::MAX][..]);
+    let copies = (&[1, 63][..], &[0, 64, u32::MAX][..]);
+    let value = (&[0, u32::MAX][..], &[][..]);
+    let flow = (&[0][..], &[64, 65, u32::MAX][..]);
+    let unused = (&[0][..], &[1, u32::MAX][..]);
+    let rows: [([u32; 4], [_; 3]); 16] = [
+        ([0, 1, 0, 0], [period, phase, unused]),
+        ([1, 0, 1, 0], [value, period, phase]),
+        ([2, 0, 0, 0], [flow, flow, unused]),
+        ([3, 0, 0, 0], [flow, flow, unused]),
+        ([4, 0, 0, 0], [flow, flow, unused]),
+        ([5, 0, 0, 0], [flow, flow, unused]),
+        ([6, 0, 0, 0], [flow, flow, unused]),
+        ([7, 0, 0, 0], [value, flow, flow]),
+        ([8, 0, 1, 1], [flow, copies, period]),
+        ([9, 0, 1, 0], [flow, copies, unused]),
+        ([10, 0, 0, 0], [flow, phase, unused]),
+        ([11, 0, 0, 0], [flow, value, phase]),
+        ([12, 0, 0, 0], [flow, unused, unused]),
+        ([13, 0, 0, 0], [flow, flow, unused]),
+        ([14, 0, 0, 0], [flow, flow, unused]),
+        ([15, 0, 0, 0], [flow, flow, flow]),
+    ];
+    for (row, fields) in rows {
+        for (place, (fitting, outside)) in fields.into_iter().enumerate() {
+            for &word in fitting {
+                let mut row = row;
+                row[1 + place] = word;
+                is_table(&[base, row]);
+            }
+            for &word in outside {
+                let mut row = row;
+                row[1 + place] = word;
+                refused(&[base, row], 14, 1);
+            }
+        }
+    }
+    refused(&[base, [16, 0, 0, 0]], 13, 1);
+    refused(&[base, [u32::MAX, 1, 1, 1]], 13, 1);
+}
+
+#[test]
+fn operands_and_sources() {
+    let base = [0, 1, 0, 0];
+    for kind in [2, 3, 4, 5, 6, 13, 14, 15] {
+        refused(&[base, [kind, 1, 0, 0], base], 15, 1);
+        refused(&[base, [kind, 0, 1, 0], base], 15, 1);
+        refused(&[base, [kind, 63, 0, 0], base], 15, 1);
+    }
+    refused(&[base, [15, 0, 0, 1], base], 15, 1);
+    for row in [[8, 1, 1, 1], [9, 1, 1, 0], [10, 1, 0, 0], [11, 1, 0, 0], [12, 1, 0, 0]] {
+        refused(&[base, row], 15, 1);
+        let mut first = row;
+        first[1] = 0;
+        refused(&[first, base], 15, 0);
+    }
+    // A register's beat is lower; its source is any flow of the table, itself and the last included.
+    refused(&[base, [7, 0, 1, 0]], 15, 1);
+    is_table(&[base, [7, 0, 0, 1], base]);
+    is_table(&[base, [7, 0, 0, 2], base]);
+    refused(&[base, [7, 0, 0, 3], base], 15, 1);
+    refused(&[base, [7, 0, 0, 63], base], 15, 1);
+    // A field outside its range comes before an operand that is not lower, a lower row before both.
+    refused(&[base, [8, 1, 0, 1]], 14, 1);
+    refused(&[base, [2, 1, 0, 0], [16, 0, 0, 0]], 15, 1);
+}
+
+#[test]
+fn counts_and_lengths() {
+    let rows = vec![[1, 5, 1, 0]; 65];
+    is_table(&rows[..64]);
+    assert_eq!(checked(&rows[..64]), (0, 0, 0, 64));
+    refused(&rows, 11, 0);
+    refused(&[], 11, 0);
+    let words = rows[..2].concat();
+    for (count, len) in [(2, 7), (1, 8), (3, 8), (2, 4), (2, 0), (0, 0), (u32::MAX, 8), ((1 << 30) + 2, 8)] {
+        let plan = Plan { count, words: words[..len].to_vec() };
+        assert_eq!(write(&ALL, &plan, 489).parts, (11, 0, 0, 0));
+        assert_eq!(check(&ALL, &plan, 489).parts, (11, 0, 0, 0));
+        assert_eq!(run(&ALL, &plan, &[], 0, (9, 9)).parts, (11, 0, 0, 0));
+    }
+    let plan = Plan { count: 2, words: [words, vec![0]].concat() };
+    assert_eq!(check(&ALL, &plan, 489).parts, (11, 0, 0, 0));
+}
+
+#[test]
+fn derived_clocks() {
+    let two = |period, phase, row| checked(&[[0, period, phase, 0], row]).0;
+    assert_eq!(two(4095, 0, [9, 0, 1, 0]), 0);
+    assert_eq!(two(2048, 0, [9, 0, 2, 0]), 22);
+    assert_eq!(two(4095, 0, [9, 0, 63, 0]), 22);
+    assert_eq!(two(1, 1, [10, 0, 4094, 0]), 0);
+    assert_eq!(two(1, 4095, [10, 0, 0, 0]), 0);
+    assert_eq!(two(1, 4095, [10, 0, 1, 0]), 22);
+    assert_eq!(two(4095, 0, [12, 0, 0, 0]), 0);
+    assert_eq!(two(4095, 1, [12, 0, 0, 0]), 22);
+    assert_eq!(two(1, 4094, [12, 0, 0, 0]), 0);
+    assert_eq!(two(1, 4095, [12, 0, 0, 0]), 22);
+    assert_eq!(two(4032, 0, [8, 0, 63, 64]), 0);
+    assert_eq!(two(4095, 4095, [8, 0, 1, 4095]), 0);
+    assert_eq!(two(4095, 4095, [8, 0, 63, 4095]), 21);
+    assert_eq!(two(4095, 4095, [11, 0, 9, 0]), 0);
+    assert_eq!(two(1, 4095, [11, 0, 9, 4094]), 0);
+    assert_eq!(two(1, 4095, [11, 0, 9, 4095]), 21);
+}
+
+#[test]
+fn five_conditions() {
+    let mut rows = vec![[0, 4, 0, 0]];
+    for flow in 0..4 {
+        rows.push([13 + flow % 2, flow, flow, 0]);
+        assert_eq!(checked(&rows), (0, 0, 0, flow + 2));
+    }
+    let four = rows.clone();
+    rows.push([13, 4, 4, 0]);
+    assert_eq!(checked(&rows), (22, 5, 0, 0));
+    // Clocks that differ come before the fifth condition; a merge over four finds no clock with five.
+    rows[5] = [13, 4, 3, 0];
+    assert_eq!(checked(&rows), (21, 5, 0, 0));
+    let merge = [four, vec![[15, 4, 4, 4]]].concat();
+    assert_eq!(checked(&merge), (21, 5, 0, 0));
+    // Kinds 8 to 12 over conditions come before all else.
+    for row in [[8, 4, 1, 1], [9, 4, 63, 0], [10, 4, 4095, 0], [11, 4, 0, 9], [12, 4, 0, 0]] {
+        rows[5] = row;
+        assert_eq!(checked(&rows), (23, 5, 0, 0));
+    }
+}
+
+/// Conditions in another order are another clock.
+#[test]
+fn order_of_conditions() {
+    let rows = [[0, 1, 0, 0], [0, 1, 0, 0], [13, 1, 0, 0], [13, 0, 0, 0], [13, 1, 1, 0], [13, 0, 1, 0]];
+    let both = |a, b| [rows.to_vec(), vec![[2, a, b, 0]]].concat();
+    assert_eq!(checked(&both(2, 3)).0, 0);
+    assert_eq!(checked(&both(4, 5)).0, 0);
+    assert_eq!(checked(&both(2, 4)), (21, 6, 0, 0));
+    let truth = [[0, 1, 0, 0], [13, 0, 0, 0], [14, 0, 0, 0], [2, 1, 2, 0]];
+    assert_eq!(checked(&truth), (21, 3, 0, 0));
+}
+
+#[test]
+fn sources_after_all_rows() {
+    // A later row is refused before an earlier register's source; of two registers the lower is named.
+    let base = [[0, 2, 0, 0], [0, 3, 0, 0], [7, 0, 0, 1]];
+    assert_eq!(checked(&base), (21, 2, 0, 0));
+    assert_eq!(checked(&[base.to_vec(), vec![[2, 0, 1, 0]]].concat()), (21, 3, 0, 0));
+    assert_eq!(checked(&[base.to_vec(), vec![[10, 0, 4095, 0], [12, 3, 0, 0]]].concat()), (22, 4, 0, 0));
+    assert_eq!(checked(&[base.to_vec(), vec![[7, 0, 1, 0]]].concat()), (21, 2, 0, 0));
+    // A register's clock is its beat's, so that a source above it may rest on it.
+    assert_eq!(checked(&[[0, 2, 0, 0], [7, 5, 0, 2], [2, 0, 1, 0]]), (0, 0, 0, 3));
+}
+
+#[test]
+fn outputs_one_short_exact_and_one_long() {
+    let plan = Plan::of(&[[0, 1, 0, 0], [1, 7, 2, 3], [9, 0, 2, 0]]);
+    for (len, number) in [(20, 10), (21, 0), (22, 0), (0, 10)] {
+        assert_eq!(check(&ALL, &plan, len).parts, (number, 0, 0, if number == 0 { 3 } else { 0 }));
+    }
+    // 8 + 29 + 61 + 17 bits.
+    let packed = write(&ALL, &plan, 489).bytes[..15].to_vec();
+    for (len, number) in [(14, 10), (15, 0), (16, 0), (0, 10)] {
+        assert_eq!(write(&ALL, &plan, len).parts, (number, 0, 0, if number == 0 { 15 } else { 0 }));
+    }
+    for (len, number) in [(11, 10), (12, 0), (13, 0), (0, 10)] {
+        assert_eq!(read(&ALL, &packed, len).parts, (number, 0, 0, if number == 0 { 3 } else { 0 }));
+    }
+    // 10 comes after all that is wrong with the table, and before the clocks.
+    let wrong = Plan::of(&[[0, 1, 0, 0], [2, 0, 1, 0]]);
+    assert_eq!(check(&ALL, &wrong, 0).parts, (15, 1, 0, 0));
+    let differ = Plan::of(&[[0, 1, 0, 0], [0, 2, 0, 0], [2, 0, 1, 0]]);
+    assert_eq!(check(&ALL, &differ, 20).parts, (10, 0, 0, 0));
+    assert_eq!(read(&ALL, &[packed, vec![0]].concat(), 0).parts, (16, 0, 0, 0));
+}
+
+#[test]
+fn logs_and_traces_one_short_exact_and_one_long() {
+    let plan = Plan::of(&[[0, 1, 0, 0], [0, 1, 0, 0], [2, 0, 1, 0]]);
+    for ticks in [0_u32, 1, 9] {
+        let (words, cells) = (2 * ticks as usize, 3 * ticks as usize);
+        for log in 0..words + 3 {
+            let number = if log == words { 0 } else { 32 };
+            assert_eq!(run(&ALL, &plan, &vec![1; log], ticks, (cells, cells)).parts.0, number);
+        }
+        for (marks, values) in [(0, 0), (0, 1), (1, 0), (1, 1), (2, 2), (2, 9), (9, 2)] {
+            // One short, exact, one long, and far longer, each for itself.
+            let lengths = ((cells + marks).saturating_sub(1), (cells + values).saturating_sub(1));
+            let fits = lengths.0 >= cells && lengths.1 >= cells;
+            let outcome = run(&ALL, &plan, &vec![1; words], ticks, lengths);
+            assert_eq!(outcome.parts, if fits { (0, 0, 0, ticks) } else { (33, 0, 0, 0) });
+            assert!(written_up_to(&outcome, if fits { cells } else { 0 }));
+        }
+    }
+    // 31 before 32 before 33.
+    assert_eq!(run(&ALL, &plan, &[1], 65_536, (0, 0)).parts, (31, 0, 0, 0));
+    assert_eq!(run(&ALL, &plan, &[1], u32::MAX, (0, 0)).parts, (31, 0, 0, 0));
+    assert_eq!(run(&ALL, &plan, &[1], 65_535, (0, 0)).parts, (32, 0, 0, 0));
+    assert_eq!(run(&ALL, &plan, &[1, 1], 1, (0, 0)).parts, (33, 0, 0, 0));
+}
+
+/// 64 inputs over 65,535 ticks, each buffer one short, exact, and one long; and one tick more.
+#[test]
+fn the_greatest_run() {
+    let mut rng = Rng::new(61);
+    let plan = Plan::of(&[[0, 1, 0, 0]; 64]);
+    let cells = 64 * 65_535;
+    let log = rng.log(cells);
+    let outcome = run(&QUICK, &plan, &log, 65_535, (cells, cells + 1));
+    assert_eq!(outcome.parts, (0, 0, 0, 65_535));
+    assert_eq!(outcome.words[..cells], log);
+    assert_eq!(run(&QUICK, &plan, &log, 65_535, (cells - 1, cells)).parts, (33, 0, 0, 0));
+    assert_eq!(run(&QUICK, &plan, &log, 65_535, (cells, cells - 1)).parts, (33, 0, 0, 0));
+    assert_eq!(run(&QUICK, &plan, &log[1..], 65_535, (cells, cells)).parts, (32, 0, 0, 0));
+    let log = rng.log(cells + 64);
+    assert_eq!(run(&QUICK, &plan, &log, 65_536, (cells + 64, cells + 64)).parts, (31, 0, 0, 0));
+    assert_eq!(run(&QUICK, &plan, &log[..cells + 1], 65_535, (cells, cells)).parts, (32, 0, 0, 0));
+}
+
+/// The whole count of ticks against the paper word by word, with the longest period.
+#[test]
+fn all_ticks_word_by_word() {
+    let plan = Plan::of(&[[0, 4095, 4095, 0], [10, 0, 0, 0]]);
+    let log: Vec<u32> = (0..65_535).collect();
+    let outcome = run_exactly(&ALL, &plan, &log, 65_535);
+    assert_eq!(outcome.parts, (0, 0, 0, 65_535));
+    assert_eq!((outcome.bytes[2 * 61_425], outcome.words[2 * 61_425 + 1]), (1, 61_425));
+}
+
+/// The longest packed table and the longest listing.
+#[test]
+fn the_longest_forms() {
+    let rows = [[1, u32::MAX, 4095, 4095]; 64];
+    let outcome = write(&ALL, &Plan::of(&rows), 489);
+    assert_eq!(outcome.parts, (0, 0, 0, 489));
+    assert_eq!(write(&ALL, &Plan::of(&rows), 488).parts, (10, 0, 0, 0));
+    let mut rows = vec![[0, 4095, 4095, 0]; 11];
+    rows.extend((10..14).map(|flow| [13, flow, flow, 0]));
+    rows.extend([[2, 14, 14, 0]; 49]);
+    let written = write(&ALL, &Plan::of(&rows), 489);
+    let packed = &written.bytes[..written.parts.3 as usize];
+    // A line `ok 64`, 10 inputs below 10 and one above, lines of 1 to 4 conditions, and 49 more of 4.
+    let length = 6 + 10 * 14 + 15 + (18 + 22 + 26 + 30) + 49 * 30;
+    assert_eq!(listing(&ALL, packed, LISTING_MAX).parts, (0, 0, 0, length));
+    assert_eq!(listing(&ALL, packed, LISTING_MAX + 1).parts, (0, 0, 0, length));
+    assert_eq!(listing(&ALL, packed, LISTING_MAX - 1).parts, (10, 0, 0, 0));
+    assert_eq!(listing(&ALL, &[], LISTING_MAX - 1).parts, (10, 0, 0, 0));
+}

@@ -1,0 +1,13 @@
+//! The proved library, the paper word by word and the quick implementation against each other.
+
+mod clashes;
+mod demand;
+mod extremes;
+mod header;
+mod limits;
+mod long;
+mod packed;
+mod paper;
+mod short;
+mod summary;
+mod wrapper;

@@ -1,0 +1,88 @@
+//! Packed bytes: valid, damaged, cut, lengthened, and any.
+
+use tests::compare::{listing, read, write};
+use tests::faults::damage;
+use tests::implementation::ALL;
+use tests::rng::Rng;
+use tests::tally::Tally;
+use tests::{rounds, Plan, LISTING_MAX};
+
+use crate::short::sound;
+
+/// Reads bytes into buffers of several lengths; what is read is written again as the same bytes.
+pub fn read_and_back(rng: &mut Rng, packed: &[u8], tally: &mut Tally) {
+    let plain = read(&ALL, packed, 256);
+    tally.add("read", plain.parts.0);
+    tally.add("listing", listing(&ALL, packed, LISTING_MAX).parts.0);
+    if plain.parts.0 != 0 {
+        assert!(plain.is_untouched());
+        return;
+    }
+    let count = plain.parts.3;
+    let words = plain.words[..4 * count as usize].to_vec();
+    tally.add("read", read(&ALL, packed, rng.around(words.len())).parts.0);
+    let written = write(&ALL, &Plan { count, words }, packed.len());
+    assert_eq!(written.parts, (0, 0, 0, packed.len() as u32));
+    assert_eq!(&written.bytes[..packed.len()], packed);
+}
+
+/// The packed bytes of a sound plan.
+pub fn packed(rng: &mut Rng) -> Vec<u8> {
+    let (plan, _) = sound(rng);
+    let written = write(&ALL[..1], &plan, 520);
+    written.bytes[..written.parts.3 as usize].to_vec()
+}
+
+#[test]
+fn damaged_bytes() {
+    let mut rng = Rng::new(11);
+    let mut tally = Tally::default();
+    let plans = 150_000;
+    for _ in 0..rounds(plans) {
+        let mut packed = packed(&mut rng);
+        damage(&mut rng, &mut packed);
+        read_and_back(&mut rng, &packed, &mut tally);
+    }
+    for number in [0, 10, 11, 12, 13, 14, 15, 16] {
+        assert!(tally.count("read", number) > plans / 500, "number {number} occurs: {tally}");
+    }
+    for number in [21, 22, 23] {
+        assert!(tally.count("listing", number) > 20, "number {number} occurs: {tally}");
+    }
+}
+
+#[test]
+fn any_bytes() {
+    let mut rng = Rng::new(12);
+    let mut tally = Tally::default();
+    for _ in 0..rounds(100_000) {
+        let mut packed: Vec<u8> = (0..rng.below(40)).map(|_| rng.word() as u8 & rng.word() as u8).collect();
+        if let (Some(count), true) = (packed.first_mut(), rng.percent(80)) {
+            *count = rng.range(1, 4) as u8;
+        }
+        read_and_back(&mut rng, &packed, &mut tally);
+    }
+}
+
+/// Every length that bytes can be cut to, every bit turned over, and every filling bit.
+#[test]
+fn every_cut_and_every_bit() {
+    let mut rng = Rng::new(13);
+    let mut tally = Tally::default();
+    for _ in 0..rounds(60) {
+        let whole = packed(&mut rng);
+        for len in 0..whole.len() {
+            let outcome = read(&ALL, &whole[..len], 256);
+            assert_eq!(outcome.parts.0, 12, "a cut table ends too early");
+        }
+        for bit in 0..8 * whole.len() {
+            let mut other = whole.clone();
+            other[bit / 8] ^= 0x80 >> (bit % 8);
+            read_and_back(&mut rng, &other, &mut tally);
+        }
+        let mut longer = whole.clone();
+        longer.push(0);
+        assert_eq!(read(&ALL, &longer, 256).parts, (16, 0, 0, 0));
+    }
+    assert!(tally.count("read", 16) > 0, "{tally}");
+}

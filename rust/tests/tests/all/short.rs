@@ -1,0 +1,165 @@
+//! Many plans with short runs: all calls of all implementations, every cell compared.
+
+use tests::compare::{check, listing, read, run, write};
+use tests::faults::{any_rows, disturb, plant};
+use tests::generate::{accepted, Clock, Shape};
+use tests::implementation::ALL;
+use tests::rng::Rng;
+use tests::tally::Tally;
+use tests::{rounds, Plan, LISTING_MAX};
+
+/// A plan that is meant to be accepted, with its clocks.
+pub fn sound(rng: &mut Rng) -> (Plan, Vec<Clock>) {
+    let shape = Shape::short(rng);
+    accepted(rng, shape)
+}
+
+/// A plan with planted faults.
+pub fn faulty(rng: &mut Rng) -> Plan {
+    let (mut plan, _) = sound(rng);
+    plant(rng, &mut plan);
+    plan
+}
+
+/// All calls on one plan, with buffers and logs of right and wrong lengths. Gives the packed bytes if there are any.
+pub fn every_call(rng: &mut Rng, plan: &Plan, tally: &mut Tally) -> Option<Vec<u8>> {
+    let flows = plan.words.len() / 4;
+    let checked = check(&ALL, plan, rng.around(7 * flows));
+    tally.add("check", checked.parts.0);
+    assert!(checked.parts.0 == 0 || checked.is_untouched());
+
+    short_run(rng, plan, tally);
+
+    let written = write(&ALL, plan, 520);
+    tally.add("write", written.parts.0);
+    if written.parts.0 != 0 {
+        assert!(written.is_untouched());
+        return None;
+    }
+    let bytes = written.parts.3 as usize;
+    let again = write(&ALL, plan, rng.around(bytes));
+    tally.add("write", again.parts.0);
+    Some(written.bytes[..bytes].to_vec())
+}
+
+/// A run of few ticks, its log and traces now and then of the wrong length, its ticks now and then too many.
+fn short_run(rng: &mut Rng, plan: &Plan, tally: &mut Tally) {
+    let flows = plan.words.len() / 4;
+    let ticks = match rng.below(50) {
+        0 => 0,
+        1 => 1,
+        2 => rng.pick(&[65_535, 65_536, 65_537, u32::MAX]),
+        _ => rng.below(rng.clone().pick(&[8, 24, 48])) as u32,
+    };
+    let held = ticks.min(64) as usize;
+    let log_len = if rng.percent(95) { held * plan.inputs() } else { rng.around(held * plan.inputs()) };
+    let log = rng.log(log_len);
+    let cells = held * flows;
+    let lengths = match rng.percent(80) {
+        true => (cells, cells),
+        false => (rng.around(cells), rng.around(cells)),
+    };
+    let outcome = run(&ALL, plan, &log, ticks, lengths);
+    tally.add("run", outcome.parts.0);
+    assert!(matches!(outcome.parts.0, 0 | 34) || outcome.is_untouched());
+}
+
+/// Sound plans: accepted with the clocks that they were made to have, read back as written, and never a clash.
+fn sound_plans(seed: u64, plans: usize) {
+    let mut rng = Rng::new(seed);
+    let mut tally = Tally::default();
+    for _ in 0..rounds(plans) {
+        let (plan, clocks) = sound(&mut rng);
+        let checked = check(&ALL, &plan, 7 * clocks.len());
+        assert_eq!(checked.parts, (0, 0, 0, clocks.len() as u32), "{plan:?}");
+        let words: Vec<u32> = clocks.iter().flat_map(Clock::words).collect();
+        assert_eq!(checked.words[..words.len()], words, "{plan:?}");
+
+        let packed = every_call(&mut rng, &plan, &mut tally).expect("a sound plan is written");
+        let plain = read(&ALL, &packed, plan.words.len());
+        assert_eq!(plain.parts, (0, 0, 0, plan.count));
+        assert_eq!(plain.words[..plan.words.len()], plan.words);
+        listing(&ALL, &packed, rng.around(LISTING_MAX));
+    }
+    assert_eq!(tally.count("run", 34), 0);
+    assert!(tally.count("run", 0) > rounds(plans) * 3 / 4);
+}
+
+#[test]
+fn sound_plans_first() {
+    sound_plans(1, 120_000);
+}
+
+#[test]
+fn sound_plans_second() {
+    sound_plans(2, 120_000);
+}
+
+/// Plans with planted faults.
+fn faulty_plans(seed: u64, plans: usize) {
+    let mut rng = Rng::new(seed);
+    let mut tally = Tally::default();
+    for _ in 0..rounds(plans) {
+        let plan = faulty(&mut rng);
+        if let Some(packed) = every_call(&mut rng, &plan, &mut tally) {
+            listing(&ALL, &packed, LISTING_MAX + 9);
+        }
+    }
+    for number in [11, 13, 14, 15, 21, 22, 23, 34] {
+        assert!(tally.total(number) > plans / 500, "number {number} occurs: {tally}");
+    }
+}
+
+#[test]
+fn faulty_plans_first() {
+    faulty_plans(3, 120_000);
+}
+
+#[test]
+fn faulty_plans_second() {
+    faulty_plans(4, 120_000);
+}
+
+/// Small rows that were not made to fit: accepted, refused and clashing in every way.
+fn any_plans(seed: u64, plans: usize) {
+    let mut rng = Rng::new(seed);
+    let mut tally = Tally::default();
+    for _ in 0..rounds(plans) {
+        let plan = any_rows(&mut rng);
+        every_call(&mut rng, &plan, &mut tally);
+    }
+    assert!(tally.count("check", 0) > plans / 20, "{tally}");
+    assert!(tally.count("run", 34) > plans / 10, "{tally}");
+}
+
+#[test]
+fn any_plans_first() {
+    any_plans(5, 120_000);
+}
+
+#[test]
+fn any_plans_second() {
+    any_plans(6, 120_000);
+}
+
+/// Periods, phases and delays up to 4095, where clocks come close to the limits: sound, or with one number changed.
+#[test]
+fn large_numbers() {
+    let mut rng = Rng::new(7);
+    let mut tally = Tally::default();
+    let plans = 60_000;
+    for round in 0..rounds(plans) {
+        let flows = 1 + rng.below(16);
+        let (mut plan, _) = accepted(&mut rng, Shape { flows, scale: 4095, sampling: round % 4 == 0 });
+        if round % 2 == 0 {
+            disturb(&mut rng, &mut plan);
+        }
+        if let Some(packed) = every_call(&mut rng, &plan, &mut tally) {
+            assert_eq!(read(&ALL, &packed, plan.words.len()).parts, (0, 0, 0, plan.count));
+            listing(&ALL, &packed, LISTING_MAX);
+        }
+    }
+    for number in [21, 22] {
+        assert!(tally.count("check", number) > plans / 500, "number {number} occurs: {tally}");
+    }
+}
