@@ -137,9 +137,8 @@ uint32_t baarqidho_run(uint32_t plan_count, const uint32_t *words, size_t words_
  * Lists a packed table as text: a line `ok COUNT` and for each flow a line `FLOW PERIOD PHASE CONDITIONS`, or the one
  * line `no NUMBER FLOW` of a refusal. Every line ends in a line feed; no zero byte follows.
  *
- * The answer has the number and flow of reading (11 to 16) or of the check (21 to 23), 0 and 0 where it accepts the
- * plan. In both cases count is the length of the text; exactly that many bytes are written, later ones are left as
- * they were. Refusal of the call itself, before all others:
+ * In both cases the number is 0 and count is the length of the text; exactly that many bytes are written, later ones
+ * are left as they were. Refusal:
  *   10  `text` has fewer than BAARQIDHO_LISTING_MAX bytes; all of it is left as it was, count is 0
  */
 uint32_t baarqidho_listing(const uint8_t *packed, size_t packed_len,

@@ -164,8 +164,7 @@ pub fn run(plan_count: u32, words: &[u32], log: &[u32], ticks: u32, marks: &mut 
 
 /// Lists a packed table as text: its clocks, or the one line `no NUMBER FLOW` of its refusal.
 ///
-/// Number and flow are those of reading and check; the count is the length of the text, and exactly those bytes are
-/// written. A text buffer below [`LISTING_MAX`](crate::LISTING_MAX) bytes is answered by 10 and left as it was.
+/// The count is the length of the text, and exactly those bytes are written. A text buffer below [`LISTING_MAX`](crate::LISTING_MAX) bytes is answered by 10 and left as it was.
 pub fn listing(packed: &[u8], text: &mut [u8]) -> Answer {
     answer(|flow, tick, count| {
         // SAFETY: pointers and lengths are those of live slices, `text` lent to this call alone.

@@ -19,7 +19,7 @@
 //!
 //! let clocks = plan.clocks()?;
 //! assert_eq!(clocks[1], Clock { period: 20, phase: 0, conditions: vec![] });
-//! assert_eq!(baarqidho::list(&packed)?, "ok 2\n0 10 0 -\n1 20 0 -\n");
+//! assert_eq!(baarqidho::list(&packed), "ok 2\n0 10 0 -\n1 20 0 -\n");
 //!
 //! // One input, so the log has one word a tick.
 //! let log: Vec<u32> = (100..131).collect();

@@ -129,11 +129,11 @@ impl Trace {
     }
 }
 
-/// The listing of a packed table that the check accepts: its count of flows, then a line for each clock.
-pub fn list(packed: &[u8]) -> Result<String, Refusal> {
+/// The listing of a packed table: its count of flows, then a line for each clock; or the one line `no NUMBER FLOW` of
+/// its refusal.
+pub fn list(packed: &[u8]) -> String {
     let mut text = vec![0; LISTING_MAX];
     let answer = listing(packed, &mut text);
     text.truncate(answer.count as usize);
-    answer.result()?;
-    Ok(text.into_iter().map(char::from).collect())
+    text.into_iter().map(char::from).collect()
 }

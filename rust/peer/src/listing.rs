@@ -6,22 +6,21 @@ use crate::check::{derive, Clock};
 use crate::packed::unpack;
 use crate::{Answer, LISTING_MAX, MOST_FLOWS};
 
-/// Lists a packed table as text. The number and flow are those of reading and check; the count is the length of
-/// the text. A text buffer below [`LISTING_MAX`] is answered by 10 and left as it was.
+/// Lists a packed table as text: its clocks, or the one line of its refusal. The count is the length of the text. A
+/// text buffer below [`LISTING_MAX`] is answered by 10 and left as it was.
 pub fn listing(packed: &[u8], text: &mut [u8]) -> Answer {
     if text.len() < LISTING_MAX {
         return Answer::number(10);
     }
     let mut clocks = [Clock::default(); MOST_FLOWS];
-    let accepted = clocks_of(packed, &mut clocks);
     let mut rest = &mut text[..];
-    let written = match accepted {
+    let written = match clocks_of(packed, &mut clocks) {
         Ok(flows) => lines(&clocks[..flows], &mut rest),
         Err(refusal) => writeln!(rest, "no {} {}", refusal.number, refusal.flow),
     };
     debug_assert!(written.is_ok(), "a listing fits into LISTING_MAX bytes");
     let left = rest.len();
-    Answer { count: (text.len() - left) as u32, ..accepted.err().unwrap_or_default() }
+    Answer { count: (text.len() - left) as u32, ..Answer::default() }
 }
 
 /// Reading, and then the check; gives how many flows there are.

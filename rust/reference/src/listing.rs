@@ -4,22 +4,20 @@ use crate::check::clocks_of;
 use crate::clock::Clock;
 use crate::packed::unpack;
 use crate::rows::table;
-use crate::{answer, refuse, Answer, Refused, LISTING_MAX};
+use crate::{answer, refuse, success, Answer, Refused, LISTING_MAX};
 
-/// Lists a packed table as text. The number and flow are those of reading and check; the count is the length of
-/// the text. A text buffer below [`LISTING_MAX`] is answered by 10 and left as it was.
+/// Lists a packed table as text: its clocks, or the one line of its refusal. The count is the length of the text. A
+/// text buffer below [`LISTING_MAX`] is answered by 10 and left as it was.
 pub fn listing(packed: &[u8], text: &mut [u8]) -> Answer {
     if text.len() < LISTING_MAX {
         return answer(refuse(10));
     }
-    let clocks = clocks_of_packed(packed);
-    let lines = match &clocks {
-        Ok(clocks) => accepted(clocks),
+    let lines = match clocks_of_packed(packed) {
+        Ok(clocks) => accepted(&clocks),
         Err(refusal) => format!("no {} {}\n", refusal.number, refusal.flow),
     };
     text[..lines.len()].copy_from_slice(lines.as_bytes());
-    let refusal = clocks.err().unwrap_or_default();
-    Answer { count: lines.len() as u32, ..refusal }
+    success(lines.len())
 }
 
 /// Reading, and then the check.

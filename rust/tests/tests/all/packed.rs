@@ -1,6 +1,6 @@
 //! Packed bytes: valid, damaged, cut, lengthened, and any.
 
-use tests::compare::{listing, read, write};
+use tests::compare::{check, listing, read, write};
 use tests::faults::damage;
 use tests::implementation::ALL;
 use tests::rng::Rng;
@@ -13,7 +13,7 @@ use crate::short::sound;
 pub fn read_and_back(rng: &mut Rng, packed: &[u8], tally: &mut Tally) {
     let plain = read(&ALL, packed, 256);
     tally.add("read", plain.parts.0);
-    tally.add("listing", listing(&ALL, packed, LISTING_MAX).parts.0);
+    listing(&ALL, packed, LISTING_MAX);
     if plain.parts.0 != 0 {
         assert!(plain.is_untouched());
         return;
@@ -21,7 +21,9 @@ pub fn read_and_back(rng: &mut Rng, packed: &[u8], tally: &mut Tally) {
     let count = plain.parts.3;
     let words = plain.words[..4 * count as usize].to_vec();
     tally.add("read", read(&ALL, packed, rng.around(words.len())).parts.0);
-    let written = write(&ALL, &Plan { count, words }, packed.len());
+    let plan = Plan { count, words };
+    tally.add("check", check(&ALL, &plan, 7 * count as usize).parts.0);
+    let written = write(&ALL, &plan, packed.len());
     assert_eq!(written.parts, (0, 0, 0, packed.len() as u32));
     assert_eq!(&written.bytes[..packed.len()], packed);
 }
@@ -47,7 +49,7 @@ fn damaged_bytes() {
         assert!(tally.count("read", number) > plans / 500, "number {number} occurs: {tally}");
     }
     for number in [21, 22, 23] {
-        assert!(tally.count("listing", number) > 20, "number {number} occurs: {tally}");
+        assert!(tally.count("check", number) > 20, "number {number} occurs: {tally}");
     }
 }
 

@@ -22,9 +22,9 @@ fn clocks_with_conditions() {
 fn packed_and_listed() {
     let packed = merged().to_packed().expect("a table");
     assert_eq!(Plan::from_packed(&packed).expect("packed just now"), merged());
-    assert_eq!(list(&packed).expect("accepted"), "ok 5\n0 4 0 -\n1 4 0 -\n2 4 0 c1+\n3 4 0 c1-\n4 4 0 -\n");
-    assert_eq!(list(&packed[1..]), Err(Refusal::BadCount));
-    assert_eq!(list(&packed[..3]), Err(Refusal::EndsTooEarly { row: 0 }));
+    assert_eq!(list(&packed), "ok 5\n0 4 0 -\n1 4 0 -\n2 4 0 c1+\n3 4 0 c1-\n4 4 0 -\n");
+    assert_eq!(list(&packed[1..]), "no 11 0\n");
+    assert_eq!(list(&packed[..3]), "no 12 0\n");
 }
 
 #[test]
