@@ -19,6 +19,7 @@ use Rattle.table.specs.Packed.{rowBits, rowsBits, kindWidth}
 use Rattle.table.specs.Codes.{kindAt, rowLength, verdict}
 use Rattle.table.proofs.Tests.{Tried, passed, failed, try}
 use Rattle.table.proofs.Tables.{table-made}
+use Rattle.table.proofs.BitLaws.{length-toBits}
 use Rattle.table.proofs.Entries.{every, at, kinds-size, kind-there, kind-gone}
 
 -- no refusal has the number 0
@@ -105,12 +106,6 @@ split-next m f words h =
     let q : 4 * f + 4 ≡ 4 * suc f = omega arith in
     ap (λ (n : ℕ). split n (drop (4 * f) words)) p
     ∙ ap (λ (l : List ℕ). four (drop (4 * f) words) ∷ split (m - suc f) l) (drop-drop 4 (4 * f) words ∙ ap (λ (n : ℕ). drop n words) q)
-
--- a number has as many bits as asked
-pub length-toBits : (w x : ℕ) → length (toBits w x) ≡ w
-unfolding toBits
-length-toBits zero x = refl
-length-toBits (suc w) x = ap suc (length-toBits w x)
 
 -- the size of a packed row
 pub row-size : (w : Words) → w .kind < 16 → length (rowBits w) ≡ rowLength (w .kind)

@@ -1,6 +1,6 @@
 -- What the code's own functions are held to: the numbers of fields and kinds in its tables, and what its steps find.
 use mathlib.Core.Path.{_≡_}
-use Prim.Native.Nat.{ℕ, _+_}
+use Prim.Native.Nat.{ℕ, _+_, _≤_}
 use mathlib.Core.List.{List, [], _∷_}
 use lib.ListN.{length, getD}
 use Rattle.table.specs.declared.Answer.{Answer}
@@ -9,6 +9,7 @@ use Rattle.table.specs.declared.Survey.{Survey}
 use Rattle.table.specs.declared.Survey.the-variants.{Fits, Refused}
 use Rattle.table.specs.Answers.{Result, good, refused, number, success}
 use Rattle.table.specs.Rows.{Field, operand, source, copies, period, ticks, value, unused, width, Kind, kind, kinds, Words, tail}
+use Rattle.table.specs.Places.{lastPlace}
 use Rattle.table.specs.Packed.{kindWidth, countWidth, rowsBits}
 
 -- the fields in the order of their numbers
@@ -40,5 +41,5 @@ told m (Fits n) = success m
 told m (Refused k row) = record { number = k; flow = row; tick = 0; count = 0 }
 
 abbrev pub Sized : List Words → Survey → Type 0
-Sized ws (Fits n) = n ≡ countWidth + length (rowsBits ws)
+Sized ws (Fits n) = (n ≡ countWidth + length (rowsBits ws)) × (n ≤ lastPlace)
 Sized ws (Refused k row) = Unit {0}

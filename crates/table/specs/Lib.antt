@@ -4,3 +4,5 @@ pub mod Plain
 pub mod Bits
 pub mod Packed
 pub mod Codes
+pub mod Places
+pub mod Steps

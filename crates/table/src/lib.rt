@@ -1,9 +1,15 @@
 // A plan's table, in plain form and in packed form.
 ghost use mathlib.Core.Path.{_≡_};
+ghost use lib.ListN.{length};
+ghost use Rattle.table.specs.Answers.{parts};
 ghost use Rattle.table.specs.Plain.{plainAnswer};
+ghost use Rattle.table.specs.Packed.{readAnswer, wordsAfter, writeAnswer, bytesAfter};
 
 mod rows; // rows.rt: the fields of a row, and its tests
+mod bits; // bits.rt: fields taken and put at a bit place
 mod plain; // plain.rt: the test of a table in plain form
+mod unpack; // unpack.rt: reading the packed form
+mod pack; // pack.rt: writing the packed form
 
 // What a call answers: number 0 is success. A row is given in the flow part; parts that are not named are 0.
 pub struct Answer {
@@ -17,6 +23,17 @@ pub struct Answer {
 pub enum Reading {
     Table { count: u32 },
     Refused { number: u32, row: u32 },
+}
+
+// A bit place in packed bytes.
+pub struct Cursor {
+    pub at: usize,
+}
+
+// A field with the place after it, or too few bits.
+pub enum Taking {
+    Got(u32, Cursor),
+    Short,
 }
 
 // The four words of a row.
@@ -33,6 +50,21 @@ pub enum Survey {
     Refused(u32, u32),
 }
 
+// A row with the place after it, or the number of a refusal.
+pub enum Step {
+    Row(Record, Cursor),
+    Refused(u32),
+}
+
+// The place after the last row, or the number of the first refusal and its row.
+pub enum Scan {
+    End(Cursor),
+    Stopped(u32, u32),
+}
+
+// The bytes of the longest packed table.
+pub const LONGEST_TABLE: usize = (Cursor::LAST + 7) / 8;
+
 // The test of a table in plain form: the count of flows, or the first refusal.
 pub fn examine(count: u32, words: &[u32]) -> Answer
     ensures { λ r. ⌜ r ≡ plainAnswer count (now (words .entry)) ⌝ }
@@ -45,11 +77,60 @@ pub fn examine(count: u32, words: &[u32]) -> Answer
             tick: 0,
             count,
         },
-        Survey::Refused(number, flow) => Answer {
-            number,
-            flow,
-            tick: 0,
-            count: 0,
-        },
+        Survey::Refused(number, flow) => refused(number, flow),
+    }
+}
+
+// Reads a packed table into plain form: the count of flows, and four words a flow from the first word on.
+pub fn read(packed: &[u8], words: &mut [u32]) -> Reading
+    ensures answered { λ r. ⌜ parts r ≡ readAnswer (now (packed .entry)) (length (now (words .entry))) ⌝ }
+    ensures stored { λ r. ⌜ now (words .exit) ≡ wordsAfter (now (packed .entry)) (now (words .entry)) ⌝ }
+{
+    let found = unpack::inspect(packed);
+    let Reading::Table { count } = found else {
+        return found;
+    };
+    if words.len() < 4 * (count as usize) {
+        return Reading::Refused { number: 10, row: 0 };
+    }
+    unpack::store_rows(packed, count, words);
+    Reading::Table { count }
+}
+
+// An answer that names a refusal and a row.
+fn refused(number: u32, flow: u32) -> Answer
+    ensures { λ r. ⌜ r ≡ record { number = number; flow = flow; tick = 0; count = 0 } ⌝ }
+{
+    Answer {
+        number,
+        flow,
+        tick: 0,
+        count: 0,
+    }
+}
+
+// Writes a table in plain form as a packed table: the count of bytes, and the bytes from the first on.
+pub fn write(count: u32, words: &[u32], packed: &mut [u8]) -> Answer
+    ensures answered { λ r. ⌜ r ≡ writeAnswer count (now (words .entry)) (length (now (packed .entry))) ⌝ }
+    ensures stored { λ r. ⌜ now (packed .exit) ≡ bytesAfter count (now (words .entry)) (now (packed .entry)) ⌝ }
+{
+    let found = plain::survey(count, words);
+    match found {
+        Survey::Refused(number, flow) => {
+            return refused(number, flow);
+        }
+        Survey::Fits(bits) => {
+            let bytes = (bits + 7) / 8;
+            if packed.len() < bytes {
+                return refused(10, 0);
+            }
+            pack::put_table(count, words, packed);
+            return Answer {
+                number: 0,
+                flow: 0,
+                tick: 0,
+                count: bytes as u32,
+            };
+        }
     }
 }

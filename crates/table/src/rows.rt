@@ -27,7 +27,7 @@ const MOST: [u32; 7] = [63, 63, 63, 4095, 4095, 4294967295, 0];
 
 const WIDTH: [u32; 7] = [6, 6, 6, 12, 12, 32, 0];
 
-const KINDS: u32 = 16;
+pub(crate) const KINDS: u32 = 16;
 
 // By kind: its three fields.
 const FIELDS: [[u32; 3]; 16] = [

@@ -1,0 +1,74 @@
+-- `table::Cursor::take` meets its contract. Assumes nothing.
+use mathlib.Core.Path.{ap, _∙_}
+use Prim.Native.Nat.{ℕ, _-_, _/_, _%_, _^_}
+use native.Mathlib.Omega.{arith}
+use denote.Ref.{now}
+use Rattle.table.specs.Bits.{bits}
+use Rattle.table.proofs.Windows.{take-far, take-wide, take-short, take-got}
+use borrow.Author.Needs.{needs}
+use Rattle.table.proofs.Cursor.take.Statement.{statement}
+use Rattle.table.proofs.Cursor.take.Tie as tie
+
+returns : tie.Need-returns
+returns c =
+    let a = c .before .before .args in
+    take-far (bits (now (a .s))) (a .self .at) (a .width) (c .if1 .taken)
+
+returns-2 : tie.Need-returns-2
+returns-2 c =
+    let a = c .before .before .before .args in
+    take-wide (bits (now (a .s))) (a .self .at) (a .width) (c .before .if1 .left) (c .if2 .taken)
+
+add-if3 : tie.Need-add-if3
+add-if3 c = search needs
+
+add-if3-2 : tie.Need-add-if3-2
+add-if3-2 c = search needs
+
+returns-3 : tie.Need-returns-3
+returns-3 c =
+    let a = c .before .before .before .before .args in
+    take-short (now (a .s)) (a .self .at) (a .width) (c .before .before .if1 .left) (c .before .if2 .left) (c .if3 .taken)
+
+sub-past : tie.Need-sub-past
+sub-past c = search needs
+
+sub-past-2 : tie.Need-sub-past-2
+sub-past-2 c = search needs
+
+window-at-requires : tie.Need-window-at-requires
+window-at-requires c κs = search needs
+
+shr-low-bits : tie.Need-shr-low-bits
+shr-low-bits c = search needs
+
+low-bits-requires : tie.Need-low-bits-requires
+low-bits-requires c κs = search needs
+
+add-t10 : tie.Need-add-t10
+add-t10 c = search needs
+
+returns-4 : tie.Need-returns-4
+returns-4 c =
+    let a = c .before .before .before .before .before .before .args in
+    take-got (now (a .s)) (a .self .at) (a .width) (c .low-bits .result)
+    (λ k. omega (arith, c .before .before .before .before .before .shared-slice-known .given k))
+    (c .before .before .before .before .if1 .left) (c .before .before .before .if2 .left) (c .before .before .if3 .left)
+    (c .low-bits .ensures .0 ∙ ap (λ (n : ℕ). n / 2 ^ (40 - a .self .at % 8 - a .width) % 2 ^ a .width) (c .before .window-at .ensures))
+
+pub take-spec : {M : Type 1} → statement M
+take-spec =
+    tie.close
+    (tie.spec
+    returns
+    returns-2
+    add-if3
+    add-if3-2
+    returns-3
+    sub-past
+    sub-past-2
+    window-at-requires
+    shr-low-bits
+    low-bits-requires
+    add-t10
+    returns-4)

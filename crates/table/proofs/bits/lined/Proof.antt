@@ -1,0 +1,72 @@
+-- `table::bits::lined` meets its contract. Assumes nothing.
+use Prim.Native.Nat.{_+_, _-_, _%_}
+use native.Mathlib.Omega.{arith}
+use denote.Ref.{now}
+use Rattle.table.proofs.Puts.{lined-word, lined-law}
+use borrow.Author.Needs.{needs}
+use Rattle.table.proofs.bits.lined.Statement.{statement}
+use Rattle.table.proofs.bits.lined.Tie as tie
+
+byte-at-requires : tie.Need-byte-at-requires
+byte-at-requires c κs = search needs
+
+sub-before : tie.Need-sub-before
+sub-before c = search needs
+
+shr-before : tie.Need-shr-before
+shr-before c = search needs
+
+low-bits-requires : tie.Need-low-bits-requires
+low-bits-requires c κs = search needs
+
+cast-field : tie.Need-cast-field
+cast-field c = search needs
+
+shl-result : tie.Need-shl-result
+shl-result c = search needs
+
+add-up : tie.Need-add-up
+add-up c = search needs
+
+up-requires : tie.Need-up-requires
+up-requires c κs = search needs
+
+add-result : tie.Need-add-result
+add-result c = search needs
+
+sub-result : tie.Need-sub-result
+sub-result c = search needs
+
+shl-result-2 : tie.Need-shl-result-2
+shl-result-2 c = search needs
+
+returns : tie.Need-returns
+returns c =
+    let a = c .before .before .before .before .args in
+    let p = c .before .before .before .before .pre in
+    let b = c .before .before .byte-at in
+    rw (
+      lined-word (b .result) (a .at % 8) (a .w) (c .before .low-bits .result) (c .up .result - (a .at + a .w)) (b .ensures .1) (p .1)
+          (c .before .low-bits .ensures .1) (omega arith),
+      c .before .low-bits .ensures .0,
+      b .ensures .0,
+      c .up .ensures,
+    )
+    (lined-law (now (a .s)) (a .at) (a .w) (a .v) (p .2))
+
+pub lined-spec : {M : Type 1} → statement M
+lined-spec =
+    tie.close
+    (tie.spec
+    byte-at-requires
+    sub-before
+    shr-before
+    low-bits-requires
+    cast-field
+    shl-result
+    add-up
+    up-requires
+    add-result
+    sub-result
+    shl-result-2
+    returns)

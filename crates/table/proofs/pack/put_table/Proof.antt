@@ -1,0 +1,129 @@
+-- `table::pack::put_table` meets its contract. Assumes nothing.
+use mathlib.Core.Path.{_≡_, refl, sym, ap, _∙_, subst}
+use Prim.Native.Nat.{ℕ, _+_, _-_, _*_, _≤_, _<_}
+use native.Mathlib.Omega.{arith}
+use lib.ListN.{length, drop}
+use denote.Ref.{now}
+use mathlib.Core.List.{_++_}
+use Rattle.table.specs.Plain.{split}
+use Rattle.table.specs.Bits.{bits, toBits}
+use Rattle.table.specs.Packed.{countWidth, rowsBits}
+use Rattle.table.specs.Codes.{wordsOf}
+use Rattle.table.specs.Places.{putAt}
+use Rattle.table.proofs.BitLaws.{length-toBits, length-bits}
+use Rattle.table.proofs.Records.{row-le}
+use Rattle.table.proofs.Puts.{put-next}
+use Rattle.table.proofs.WriteLaws.{Putting, putting-starts, putting-ends, known-row, room-row, putting-goes}
+use borrow.Author.Needs.{needs}
+use Rattle.table.proofs.pack.put_table.Statement.{statement}
+use Rattle.table.proofs.pack.put_table.Tie as tie
+
+abbrev Inv-loop : tie.InvT-loop
+Inv-loop count words out₀ at₀ row₀ out at row =
+    (row ≤ count) × (at ≤ 8 + 61 * row) × (length out ≡ length out₀) × Putting count row at at₀ words out out₀
+
+abbrev μ-loop : tie.MeasureT-loop
+μ-loop count words out₀ at₀ row₀ out at row = count - row
+
+new-requires : tie.Need-new-requires Inv-loop μ-loop
+new-requires c κs = search needs
+
+put-requires : tie.Need-put-requires Inv-loop μ-loop
+put-requires c κs = search needs
+
+loop-holds : tie.Need-loop-holds Inv-loop μ-loop
+loop-holds c =
+    let a = c .before .before .before .before .before .before .before .args in
+    let p = c .before .before .put in
+    let n = c .before .before .before .before .new .ensures in
+    let e : p .result .at ≡ 0 + length (toBits countWidth (a .count)) = omega (arith, p .ensures .0, n, length-toBits countWidth (a .count)) in (
+      search needs,
+      omega (arith, p .ensures .0, n),
+      refl,
+      putting-starts (a .count) (p .result .at) (now (a .words)) (p .last .1 .0) (bits (now (a .out))) (toBits countWidth (a .count)) (c .before .before .before .before .before .before .before .pre .2)
+          (p .ensures .1 ∙ ap (λ (x : ℕ). putAt (bits (now (a .out))) x (toBits countWidth (a .count))) n) e,
+    )
+
+cast-record-at : tie.Need-cast-record-at Inv-loop μ-loop
+cast-record-at c = search needs
+
+mul-record-at : tie.Need-mul-record-at Inv-loop μ-loop
+mul-record-at c = search needs
+
+record-at-requires : tie.Need-record-at-requires Inv-loop μ-loop
+record-at-requires c κs = search needs
+
+put-row-requires : tie.Need-put-row-requires Inv-loop μ-loop
+put-row-requires c κs =
+    let a = c .before .before .before .before .before .before .before .before .before .before .before .args in
+    let p = c .before .before .before .before .before .before .before .before .before .before .before .pre in
+    let l = c .before .before .before .loop in
+    let r = c .before .record-at in
+    let f : l .row < a .count = c .before .before .loop-test .taken in
+    let q = c .before .before .before .before .before .before .put in
+    let w = wordsOf (r .result) in
+    let k = known-row (a .count) (l .row) (l .at) (q .result .at) (now (a .words)) (l .out) (q .last .1 .0) (l .inv .3) w (r .ensures) f in
+    let m = room-row (a .count) (l .row) (l .at) (q .result .at) (now (a .words)) (l .out) (q .last .1 .0) (l .inv .3) w (r .ensures) f in (
+      omega (arith, l .inv .1, p .0, f),
+      k,
+      omega (arith, m, p .3, q .kept .1 .0, l .inv .2, q .ensures .0, c .before .before .before .before .before .before .before .before .new .ensures),
+    )
+
+add-row : tie.Need-add-row Inv-loop μ-loop
+add-row c = search needs
+
+loop-less : tie.Need-loop-less Inv-loop μ-loop
+loop-less c = search needs
+
+loop-again : tie.Need-loop-again Inv-loop μ-loop
+loop-again c =
+    let a = c .before .before .before .before .before .before .before .before .before .before .before .before .before .before .args in
+    let p = c .before .before .before .before .before .before .before .before .before .before .before .before .before .before .pre in
+    let l = c .before .before .before .before .before .before .loop in
+    let r = c .before .before .before .before .record-at in
+    let f : l .row < a .count = c .before .before .before .before .before .loop-test .taken in
+    let q = c .before .before .before .before .before .before .before .before .before .put in
+    let t = c .before .before .put-row in
+    let w = wordsOf (r .result) in
+    let k = known-row (a .count) (l .row) (l .at) (q .result .at) (now (a .words)) (l .out) (q .last .1 .0) (l .inv .3) w (r .ensures) f in
+    let m = room-row (a .count) (l .row) (l .at) (q .result .at) (now (a .words)) (l .out) (q .last .1 .0) (l .inv .3) w (r .ensures) f in (
+      search needs,
+      omega (arith, l .inv .1, t .ensures .0, row-le (w .kind) k),
+      t .kept .1 .0 ∙ l .inv .2,
+      putting-goes (a .count) (l .row) (l .at) (q .result .at) (now (a .words)) (l .out) (q .last .1 .0) (l .inv .3) w (r .ensures) f (t .result .at) (t .last .1 .0)
+          (omega (arith, length-bits (l .out), m, p .3, q .kept .1 .0, l .inv .2, q .ensures .0, c .before .before .before .before .before .before .before .before .before .before .before .new .ensures)) (t .ensures .0) (t .ensures .1),
+    )
+
+same-length : tie.Need-same-length Inv-loop μ-loop
+same-length c = search needs
+
+returns : tie.Need-returns Inv-loop μ-loop
+returns c =
+    let a = c .before .before .before .before .before .before .before .before .before .args in
+    let l = c .before .loop in
+    let q = c .before .before .before .before .put in
+    let n = c .before .before .before .before .before .before .new .ensures in
+    let old = bits (now (a .out)) in
+    let f = toBits countWidth (a .count) in
+    putting-ends (a .count) (l .row) (l .at) (q .result .at) (now (a .words)) (l .out) (q .last .1 .0) (l .inv .3) (omega arith)
+    ∙ put-next old (bits (q .last .1 .0)) f (rowsBits (split (a .count) (now (a .words)))) 0 (q .result .at) (omega arith)
+    (q .ensures .1 ∙ ap (λ (x : ℕ). putAt old x f) n) (omega (arith, q .ensures .0, n, length-toBits countWidth (a .count)))
+
+pub put-table-spec : {M : Type 1} → statement M
+put-table-spec =
+    tie.close
+    (tie.spec
+    Inv-loop
+    μ-loop
+    new-requires
+    put-requires
+    loop-holds
+    cast-record-at
+    mul-record-at
+    record-at-requires
+    put-row-requires
+    add-row
+    loop-less
+    loop-again
+    same-length
+    returns)

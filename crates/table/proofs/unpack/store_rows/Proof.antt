@@ -1,0 +1,104 @@
+-- `table::unpack::store_rows` meets its contract. Assumes nothing.
+use mathlib.Core.Path.{_≡_, refl, sym, ap, _∙_, subst}
+use Prim.Native.Nat.{ℕ, _+_, _-_, _*_, _≤_, _<_}
+use native.Mathlib.Omega.{arith}
+use lib.ListN.{length, drop}
+use denote.Ref.{now}
+use Rattle.table.specs.Bits.{bits}
+use Rattle.table.specs.Steps.{Stepped, Found, Missing}
+use Rattle.table.proofs.StoreLaws.{Storing, storing-starts, storing-ends, storing-found, storing-goes}
+use borrow.Author.Needs.{needs}
+use Rattle.table.proofs.unpack.store_rows.Statement.{statement}
+use Rattle.table.proofs.unpack.store_rows.Tie as tie
+
+abbrev Inv-loop : tie.InvT-loop
+Inv-loop s count words₀ at₀ row₀ words at row =
+    (row ≤ count) × (at ≤ 8 + 61 * row) × (at ≤ length (bits s)) × (length words ≡ length words₀) × Storing (bits s) count row at words words₀
+
+abbrev μ-loop : tie.MeasureT-loop
+μ-loop s count words₀ at₀ row₀ words at row = count - row
+
+loop-holds : tie.Need-loop-holds Inv-loop μ-loop
+loop-holds c =
+    let a = c .before .before .args in
+    let p = c .before .before .pre in
+    (search needs, search needs, p .2 .within, refl, storing-starts (bits (now (a .s))) (a .count) (now (a .words)) (p .2))
+
+row-requires : tie.Need-row-requires Inv-loop μ-loop
+row-requires c κs = search needs
+
+enum-known-step : tie.Need-enum-known-step Inv-loop μ-loop
+enum-known-step c = search needs
+
+enum-told : tie.Need-enum-told Inv-loop μ-loop
+enum-told c = search needs
+
+same-length : tie.Need-same-length Inv-loop μ-loop
+same-length c = search needs
+
+returns : tie.Need-returns Inv-loop μ-loop
+returns c =
+    let a = c .before .before .before .before .before .before .before .args in
+    let l = c .before .before .before .before .loop in
+    let g = c .enum-told .given in
+    absurd (storing-found (bits (now (a .s))) (a .count) (l .row) (l .at) (l .words) (now (a .words)) (l .inv .4) (c .before .before .before .loop-test .taken) (g .0 .0) (subst (Stepped (bits (now (a .s))) (l .at)) (g .1) (c .before .before .row .ensures)))
+
+cast-store-row : tie.Need-cast-store-row Inv-loop μ-loop
+cast-store-row c = search needs
+
+mul-store-row : tie.Need-mul-store-row Inv-loop μ-loop
+mul-store-row c = search needs
+
+store-row-requires : tie.Need-store-row-requires Inv-loop μ-loop
+store-row-requires c κs = search needs
+
+add-row : tie.Need-add-row Inv-loop μ-loop
+add-row c = search needs
+
+loop-less : tie.Need-loop-less Inv-loop μ-loop
+loop-less c = search needs
+
+loop-again : tie.Need-loop-again Inv-loop μ-loop
+loop-again c =
+    let a = c .before .before .before .before .before .before .before .before .before .before .before .before .args in
+    let p = c .before .before .before .before .before .before .before .before .before .before .before .before .pre in
+    let l = c .before .before .before .before .before .before .before .before .before .loop in
+    let g = c .before .before .before .before .before .step .given in
+    let s = c .before .before .store-row in
+    let d : Found (bits (now (a .s))) (l .at) (g .0 .0) (g .0 .1 .0) = subst (Stepped (bits (now (a .s))) (l .at)) (g .1) (c .before .before .before .before .before .before .before .row .ensures) in (
+      search needs,
+      omega (arith, d .near, l .inv .1),
+      d .within,
+      s .kept .0 ∙ l .inv .3,
+      storing-goes (bits (now (a .s))) (a .count) (l .row) (l .at) (l .words) (now (a .words)) (l .inv .4) (c .before .before .before .before .before .before .before .before .loop-test .taken) (g .0 .0) (g .0 .1 .0) (s .last .0) d (omega (arith, p .1, l .inv .3)) (s .ensures),
+    )
+
+same-length-2 : tie.Need-same-length-2 Inv-loop μ-loop
+same-length-2 c = search needs
+
+returns-2 : tie.Need-returns-2 Inv-loop μ-loop
+returns-2 c =
+    let a = c .before .before .before .before .args in
+    let l = c .before .loop in
+    storing-ends (bits (now (a .s))) (a .count) (l .row) (l .at) (l .words) (now (a .words)) (l .inv .4) (omega arith)
+
+pub store-rows-spec : {M : Type 1} → statement M
+store-rows-spec =
+    tie.close
+    (tie.spec
+    Inv-loop
+    μ-loop
+    loop-holds
+    row-requires
+    enum-known-step
+    enum-told
+    same-length
+    returns
+    cast-store-row
+    mul-store-row
+    store-row-requires
+    add-row
+    loop-less
+    loop-again
+    same-length-2
+    returns-2)

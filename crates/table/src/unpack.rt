@@ -1,0 +1,153 @@
+// Reading the packed form: a pass that judges, and a pass that stores.
+use super::Cursor;
+use super::Reading;
+use super::Record;
+use super::Scan;
+use super::Step;
+use super::Taking;
+use super::bits::up;
+use super::rows::KINDS;
+use super::rows::judge;
+use super::rows::width_of;
+ghost use mathlib.Core.Path.{_≡_};
+ghost use mathlib.Core.List.{_++_};
+ghost use Prim.Native.Nat.{_+_, _*_, _<_, _≤_};
+ghost use lib.ListN.{length, take, drop};
+ghost use Rattle.table.specs.Answers.{answer, parts, leaves};
+ghost use Rattle.table.specs.Plain.{joined};
+ghost use Rattle.table.specs.Bits.{bits};
+ghost use Rattle.table.specs.Packed.{filling, takeRows, unpacked};
+ghost use Rattle.table.specs.Places.{lastPlace, longestRecord};
+ghost use Rattle.table.specs.Steps.{Stepped, Scanned, plainWords, Taken};
+
+impl Cursor {
+    // The words of the row at the cursor, with the place after it: its kind, which is to be known, and its fields.
+    fn row(self, s: &[u8]) -> Step
+        requires { ⌜ (self .at + longestRecord ≤ lastPlace) × (self .at ≤ length (bits (now s))) ⌝ }
+        ensures { λ r. ⌜ Stepped (bits (now (s .entry))) (self .at) r ⌝ }
+    {
+        let Taking::Got(kind, first) = self.take(s, 5) else {
+            return Step::Refused(12);
+        };
+        if KINDS <= kind {
+            return Step::Refused(13);
+        }
+        let Taking::Got(one, second) = first.take(s, width_of(kind, 0)) else {
+            return Step::Refused(12);
+        };
+        let Taking::Got(two, third) = second.take(s, width_of(kind, 1)) else {
+            return Step::Refused(12);
+        };
+        let Taking::Got(three, next) = third.take(s, width_of(kind, 2)) else {
+            return Step::Refused(12);
+        };
+        Step::Row(
+            Record {
+                kind,
+                one,
+                two,
+                three,
+            },
+            next,
+        )
+    }
+}
+
+// The rows of a table of count flows: the place after them, or the first refusal with its row.
+fn scan_rows(s: &[u8], count: u32) -> Scan
+    requires { ⌜ (count ≤ 64) × (8 ≤ length (bits (now s))) ⌝ }
+    ensures { λ r. ⌜ Scanned (bits (now (s .entry))) count r ⌝ }
+{
+    let mut at: usize = 8;
+    let mut row: u32 = 0;
+    while row < count {
+        let cursor = Cursor { at };
+        let step = cursor.row(s);
+        match step {
+            Step::Row(r, next) => {
+                let n = judge(r, row, count);
+                if n != 0 {
+                    return Scan::Stopped(n, row);
+                }
+                at = next.at;
+                row += 1;
+            }
+            Step::Refused(n) => {
+                return Scan::Stopped(n, row);
+            }
+        }
+    }
+    Scan::End(Cursor { at })
+}
+
+// Whether zero bits up to a whole byte, and nothing else, follow the place at.
+fn ends(s: &[u8], at: usize) -> bool
+    requires { ⌜ (at ≤ lastPlace) × (at ≤ length (bits (now s))) ⌝ }
+    ensures { λ r. ⌜ r ≡ filling (drop at (bits (now (s .entry)))) ⌝ }
+{
+    if (at + 7) / 8 < s.len() {
+        return false;
+    }
+    let cursor = Cursor { at };
+    let Taking::Got(fill, _) = cursor.take(s, (up(at) - at) as u32) else {
+        return false;
+    };
+    fill == 0
+}
+
+// The count, the rows and the end: what reading comes to, whatever room there is.
+pub(crate) fn inspect(s: &[u8]) -> Reading
+    ensures { λ r. ⌜ answer length (unpacked (now (s .entry))) ≡ parts r ⌝ }
+{
+    let Taking::Got(count, _) = Cursor::new().take(s, 8) else {
+        return Reading::Refused { number: 12, row: 0 };
+    };
+    if count < 1 {
+        return Reading::Refused { number: 11, row: 0 };
+    }
+    if 64 < count {
+        return Reading::Refused { number: 11, row: 0 };
+    }
+    let scan = scan_rows(s, count);
+    match scan {
+        Scan::Stopped(number, row) => Reading::Refused { number, row },
+        Scan::End(p) => {
+            let at = p.at;
+            if ends(s, at) {
+                Reading::Table { count }
+            } else {
+                Reading::Refused { number: 16, row: 0 }
+            }
+        }
+    }
+}
+
+// A row's four words at i.
+fn store_row(words: &mut [u32], i: usize, r: Record)
+    requires { ⌜ (i < 65536) × (i + 4 ≤ length (now words)) ⌝ }
+    ensures { λ u. ⌜ now (words .exit) ≡ take i (now (words .entry)) ++ (plainWords r ++ drop (i + 4) (now (words .entry))) ⌝ }
+{
+    words[i] = r.kind;
+    words[i + 1] = r.one;
+    words[i + 2] = r.two;
+    words[i + 3] = r.three;
+}
+
+// The words of the rows of a table that is not refused.
+pub(crate) fn store_rows(s: &[u8], count: u32, words: &mut [u32])
+    requires { ⌜ (count ≤ 64) × (4 * count ≤ length (now words)) × Taken (bits (now s)) count ⌝ }
+    ensures { λ u. ⌜ now (words .exit) ≡ leaves joined (takeRows count count 0 (drop 8 (bits (now (s .entry))))) (now (words .entry)) ⌝ }
+{
+    let mut at: usize = 8;
+    let mut row: u32 = 0;
+    while row < count {
+        let cursor = Cursor { at };
+        let step = cursor.row(s);
+        let Step::Row(r, next) = step else {
+            return;
+        };
+        store_row(words, 4 * (row as usize), r);
+        at = next.at;
+        row += 1;
+    }
+}
