@@ -20,7 +20,7 @@ use Rattle.checker.specs.Kept as Kept
 
 -- A verdict of row f and the rule's result: the same clock, within the limits, or the same refusal, which names f.
 abbrev pub Agrees : ℕ → Verdict → Result Clock → Type 0
-Agrees f v (good k) = (v ≡ Is (Kept.kept k)) × (withinLimits k ≡ true)
+Agrees f v (good k) = (v ≡ Is (Kept.kept k)) × Kept.Within k
 Agrees f v (refused why g) = (v ≡ Refused (number why)) × (g ≡ f)
 
 -- a test on both sides
@@ -31,8 +31,8 @@ agree-guard f true false why v r e h = absurd (false≢true e)
 agree-guard f false true why v r e h = absurd (true≢false e)
 agree-guard f false false why v r e h = (refl, refl)
 
-pub few : (k : Clock) → withinLimits k ≡ true → length (k .conditions) ≤ 4
-few k e = leb-true (length (k .conditions)) 4 (and-right (leb (k .phase) maxDerived) _ (and-right (leb (k .period) maxDerived) _ e))
+pub few : (k : Clock) → Kept.Within k → length (k .conditions) ≤ 4
+few k e = leb-true (length (k .conditions)) 4 (and-right (leb (k .phase) maxDerived) _ (and-right (leb (k .period) maxDerived) _ (e .0)))
 
 -- ---- clocks without conditions
 
@@ -44,7 +44,7 @@ within-every : (n p : ℕ) → leb n maxDerived ≡ true → leb p maxDerived �
 within-every n p a b = rw (a, b)
 
 pub agree-every : (f n p : ℕ) → n ≤ maxDerived → p ≤ maxDerived → Agrees f (Is (Kept.every n p)) (good (every n p))
-agree-every f n p a b = (refl, within-every n p (le-leb n maxDerived a) (le-leb p maxDerived b))
+agree-every f n p a b = (refl, (within-every n p (le-leb n maxDerived a) (le-leb p maxDerived b), tt))
 
 pub agree-limited : (f n p : ℕ) → Agrees f (Kept.limited n p) (limited f (every n p))
 unfolding Kept.limited
@@ -52,7 +52,7 @@ agree-limited f n p = go (leb n maxDerived) (leb p maxDerived) refl refl
   where
     go : (a b : Bool) → leb n maxDerived ≡ a → leb p maxDerived ≡ b
         → Agrees f (Kept.guard a 22 (Kept.guard b 22 (Is (Kept.every n p)))) (unless (a && (b && true)) beyondLimits f (good (every n p)))
-    go true true a b = (refl, within-every n p a b)
+    go true true a b = (refl, (within-every n p a b, tt))
     go true false a b = (refl, refl)
     go false b a e = (refl, refl)
 
@@ -168,15 +168,19 @@ under-kept k c u l h =
 one-more : (cs : List Condition) (d : Condition) → length (cs ++ (d ∷ [])) ≡ length cs + 1
 one-more cs d = length-append cs (d ∷ [])
 
-pub agree-under : (f : ℕ) (k : Clock) (c : ℕ) (u : Bool) → withinLimits k ≡ true → c < 64
+named-snoc : (cs : List Condition) (d : Condition) → Kept.Named cs → d .flow < 64 → Kept.Named (cs ++ (d ∷ []))
+named-snoc [] d h l = (l, tt)
+named-snoc (c ∷ cs) d h l = (h .0, named-snoc cs d (h .1) l)
+
+pub agree-under : (f : ℕ) (k : Clock) (c : ℕ) (u : Bool) → Kept.Within k → c < 64
     → Agrees f (Kept.under (Kept.kept k) (Kept.condition c u)) (limited f (under k c u))
 agree-under f k c u w h =
     let l = length (k .conditions) + 1 in
-    let p : leb (k .period) maxDerived ≡ true = and-left (leb (k .period) maxDerived) _ w in
-    let q : leb (k .phase) maxDerived ≡ true = and-left (leb (k .phase) maxDerived) _ (and-right (leb (k .period) maxDerived) _ w) in
+    let p : leb (k .period) maxDerived ≡ true = and-left (leb (k .period) maxDerived) _ (w .0) in
+    let q : leb (k .phase) maxDerived ≡ true = and-left (leb (k .phase) maxDerived) _ (and-right (leb (k .period) maxDerived) _ (w .0)) in
     let e : withinLimits (under k c u) ≡ leb l 4 = rw (p, q, one-more (k .conditions) (record { flow = c; truth = u })) in
     rw (under-kept k c u (few k w) h)
-    (agree-guard f (leb l 4) (withinLimits (under k c u)) beyondLimits (Is (Kept.kept (under k c u))) (good (under k c u)) e (λ (t : leb l 4 ≡ true). (refl, e ∙ t)))
+    (agree-guard f (leb l 4) (withinLimits (under k c u)) beyondLimits (Is (Kept.kept (under k c u))) (good (under k c u)) e (λ (t : leb l 4 ≡ true). (refl, (e ∙ t, named-snoc (k .conditions) (record { flow = c; truth = u }) (w .1) h))))
 
 pub extends-kept : (a c : Clock) (f : ℕ) (u : Bool) → length (a .conditions) ≤ 4 → length (c .conditions) ≤ 4 → f < 64
     → sameClock a (under c f u) ≡ Kept.extends (Kept.kept a) (Kept.kept c) (Kept.condition f u)

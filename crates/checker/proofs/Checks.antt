@@ -16,7 +16,7 @@ use Rattle.table.specs.Plain.{tableOf, plainAnswer}
 use Rattle.table.proofs.Tests.{not-good, good-inj, then-good}
 use Rattle.table.proofs.Tables.{Table, table-made, Fits, AllFit}
 use Rattle.checker.specs.Clocks.{Clock}
-use Rattle.checker.specs.Rules.{clockOf, clockAt, clocksFrom, clocksOf, sourced, sourceFits, withinLimits}
+use Rattle.checker.specs.Rules.{clockOf, clockAt, clocksFrom, clocksOf, sourced, sourceFits}
 use Rattle.checker.specs.Answers.{clocksWords, checking, checkAnswer, clocksAfter}
 use Rattle.checker.specs.declared.Found.{Found}
 use Rattle.checker.specs.declared.Found.the-variants.{At, Nothing}
@@ -125,11 +125,14 @@ sourced-good : (ks js : List Clock) (o : Option ℕ) → sourced ks o ≡ good j
 sourced-good ks js none e = good-inj e
 sourced-good ks js (some f) e = not-good e
 
-all-clocks : (rows : List Row) (ks : List Clock) → clocksOf rows ≡ good ks → length ks ≡ length rows
+pub clocks-found : (rows : List Row) (ks : List Clock) → clocksOf rows ≡ good ks → clocksFrom [] rows ≡ good ks
 unfolding clocksOf
-all-clocks rows ks e =
+clocks-found rows ks e =
     let x = then-good (clocksFrom [] rows) (λ js. sourced js (badRegister (sourceFits js) 0 rows)) ks e in
-    omega (arith, clocks-length [] rows (x .0) (x .1), ap length (sourced-good (x .0) ks (badRegister (sourceFits (x .0)) 0 rows) (x .2)))
+    x .1 ∙ ap good (sourced-good (x .0) ks (badRegister (sourceFits (x .0)) 0 rows) (x .2))
+
+pub all-clocks : (rows : List Row) (ks : List Clock) → clocksOf rows ≡ good ks → length ks ≡ length rows
+all-clocks rows ks e = omega (arith, clocks-length [] rows ks (clocks-found rows ks e))
 
 -- a refusal leaves the buffer
 pub whole-refused : (m : ℕ) (words old : List ℕ) (why : Refusal) (f : ℕ) → checking m words (length old) ≡ refused why f

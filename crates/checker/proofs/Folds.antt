@@ -15,7 +15,7 @@ use Rattle.table.specs.Rows.{Row, tail, Words, badRegister, onRegister}
 use Rattle.table.specs.Plain.{four}
 use Rattle.table.proofs.Tables.{Table, Made, rowAt, Fits, AllFit}
 use Rattle.checker.specs.Clocks.{Condition, Clock, every}
-use Rattle.checker.specs.Rules.{clockOf, clockAt, clocksFrom, withinLimits}
+use Rattle.checker.specs.Rules.{clockOf, clockAt, clocksFrom}
 use Rattle.checker.specs.Answers.{conditionWord, clockWords, clocksWords}
 use Rattle.checker.specs.declared.Clock.{Clock as Kept}
 use Rattle.checker.specs.declared.Verdict.{Verdict}
@@ -97,7 +97,7 @@ step-refused : (ks : List Clock) (r : Row) (rs : List Row) (f : ℕ) (why : Refu
 unfolding clocksFrom
 step-refused ks r rs f why g s e = rw (s, e)
 
-within-snoc : (ks : List Clock) (k : Clock) → Kept.Limited ks → withinLimits k ≡ true → Kept.Limited (ks ++ (k ∷ []))
+within-snoc : (ks : List Clock) (k : Clock) → Kept.Limited ks → Kept.Within k → Kept.Limited (ks ++ (k ∷ []))
 within-snoc [] k h w zero l = w
 within-snoc [] k h w (suc f) l = absurd (omega arith)
 within-snoc (j ∷ ks) k h w zero l = h 0 (omega arith)
@@ -116,7 +116,7 @@ module _ (m : ℕ) (words : List ℕ) (rows : List Row) (old : List ℕ) (f : �
   rows-here : drop f rows ≡ rowAt rows f ∷ drop (suc f) rows
   rows-here = drop-cons rows f (tail 0) (omega (arith, t .size))
 
-  pub go-on : (k : Clock) (buffer′ : List ℕ) → clockOf (clockAt (s .clocks)) f (rowAt rows f) ≡ good k → withinLimits k ≡ true
+  pub go-on : (k : Clock) (buffer′ : List ℕ) → clockOf (clockAt (s .clocks)) f (rowAt rows f) ≡ good k → Kept.Within k
       → 7 * f + 7 ≤ length old → buffer′ ≡ take (7 * f) buffer ++ (Kept.words (Kept.kept k) ++ drop (7 * f + 7) buffer) → Going rows old (f + 1) buffer′
   go-on k buffer′ e w fits b =
       let ks : List Clock = s .clocks in

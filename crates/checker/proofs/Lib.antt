@@ -1,5 +1,6 @@
-pub mod Laws
+mod Laws
 pub mod Agree
-pub mod ByKind
+mod ByKind
 pub mod Folds
 pub mod Checks
+pub mod Bounds

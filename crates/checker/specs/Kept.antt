@@ -8,9 +8,9 @@ use lib.ListN.{length, getD, drop}
 use lib.Dec.{eqb, leb}
 use Rattle.table.specs.Answers.{Result, good, refused, over}
 use Rattle.table.specs.Bits.{bit}
-use Rattle.table.specs.Rows.{Row, Words}
+use Rattle.table.specs.Rows.{Row, Words, maxFlows}
 use Rattle.checker.specs.Answers.{conditionWord, clocksWords}
-use Rattle.checker.specs.Clocks.{Clock}
+use Rattle.checker.specs.Clocks.{Clock, Condition}
 use Rattle.checker.specs.Rules.{withinLimits, clockAt, maxDerived, maxConditions}
 use Rattle.checker.specs.declared.Clock.{Clock as Kept}
 use Rattle.checker.specs.declared.Row.{Row as CodeRow}
@@ -153,9 +153,17 @@ abbrev pub rowsIn : Result (List Row) → List Row
 rowsIn (good rows) = rows
 rowsIn (refused why f) = []
 
--- clocks within the limits
+-- conditions on flows of a table
+abbrev pub Named : List Condition → Type 0
+Named [] = Unit {0}
+Named (c ∷ cs) = (c .flow < maxFlows) × Named cs
+
+-- a clock within the limits
+abbrev pub Within : Clock → Type 0
+Within k = (withinLimits k ≡ true) × Named (k .conditions)
+
 abbrev pub Limited : List Clock → Type 0
-Limited ks = (f : ℕ) → f < length ks → withinLimits (clockAt ks f) ≡ true
+Limited ks = (f : ℕ) → f < length ks → Within (clockAt ks f)
 
 -- clocks that were found stand in the buffer from the first word on, and are within the limits
 abbrev pub Assigned : Result (List Clock) → List ℕ → List ℕ → Type 0

@@ -1,24 +1,18 @@
+-- `checker::assign` meets its contract. Assumes nothing.
 use mathlib.Core.List.{List}
-use Rattle.table.specs.Rows.{Row}
-use Rattle.checker.proofs.Folds.{Going, start, next, stop, finish}
-use mathlib.Core.Path.{_≡_, refl, sym, _∙_, ap}
-use Prim.Native.Nat.{ℕ, _≤_, _-_, _*_, _+_}
+use mathlib.Core.Path.{_≡_, refl, sym, _∙_}
+use Prim.Native.Nat.{_≤_, _-_}
+use native.Mathlib.Omega.{arith}
 use lib.ListN.{length}
+use denote.Ref.{now}
+use borrow.Author.Needs.{needs}
+use Rattle.table.specs.Rows.{Row}
 use Rattle.table.proofs.Tables.{table-made}
 use Rattle.table.specs.Plain.{tableOf}
 use Rattle.checker.specs.Kept.{rowsIn, rowWords}
-use borrow.Author.Needs.{needs}
-use denote.Ref.{now}
-use native.Mathlib.Omega.{arith}
+use Rattle.checker.proofs.Folds.{Going, start, next, stop, finish}
 use Rattle.checker.proofs.assign.Statement.{statement}
 use Rattle.checker.proofs.assign.Tie as tie
-use Rattle.checker.proofs.assign.Reads as reads
-use Rattle.checker.proofs.assign.Lts as lts
-use Rattle.checker.proofs.refusal.Reads as refusal-reads
-use Rattle.checker.proofs.row_at.Reads as row-at-reads
-use Rattle.checker.proofs.rule.Reads as rule-reads
-use Rattle.checker.proofs.store.Reads as store-reads
-use Rattle.checker.proofs.success.Reads as success-reads
 
 abbrev Inv-loop : tie.InvT-loop
 Inv-loop n words kept₀ f₀ kept f = (f ≤ n) × (length kept ≡ length kept₀) × Going (rowsIn (tableOf n words)) kept₀ f kept
@@ -26,39 +20,30 @@ Inv-loop n words kept₀ f₀ kept f = (f ≤ n) × (length kept ≡ length kept
 abbrev μ-loop : tie.MeasureT-loop
 μ-loop n words kept₀ f₀ kept f = n - f
 
--- src/lib.rt:124:5
 loop-holds : tie.Need-loop-holds Inv-loop μ-loop
 loop-holds c = (search needs, refl, start _ _)
 
--- src/lib.rt:125:13
 row-at-requires : tie.Need-row-at-requires Inv-loop μ-loop
 row-at-requires c κs = search needs
 
--- src/lib.rt:126:13
 rule-requires : tie.Need-rule-requires Inv-loop μ-loop
 rule-requires c κs = search needs
 
--- src/lib.rt:128:25
 enum-known-verdict : tie.Need-enum-known-verdict Inv-loop μ-loop
 enum-known-verdict c = search needs
 
--- src/lib.rt:128:31
 store-requires : tie.Need-store-requires Inv-loop μ-loop
 store-requires c κs = search needs
 
--- src/lib.rt:129:30
 enum-known-verdict-2 : tie.Need-enum-known-verdict-2 Inv-loop μ-loop
 enum-known-verdict-2 c = search needs
 
--- src/lib.rt:129:41
 refusal-requires : tie.Need-refusal-requires Inv-loop μ-loop
 refusal-requires c κs = search needs
 
--- src/lib.rt:129:41
 same-length : tie.Need-same-length Inv-loop μ-loop
 same-length c = search needs
 
--- src/lib.rt:129:41
 returns : tie.Need-returns Inv-loop μ-loop
 returns c = let a = c .before .before .before .before .before .before .before .before .before .before .before .args in
     let l = c .before .before .before .before .before .before .before .before .loop in
@@ -69,15 +54,12 @@ returns c = let a = c .before .before .before .before .before .before .before .b
     let x = stop (a .n) (now (a .words)) rows (now (a .kept)) (l .f) (l .kept) t (l .inv .2) (c .before .before .before .before .before .before .before .loop-test .taken) (rowWords (r .result)) (r .ensures) (g .0 .0) (sym (g .1) ∙ c .before .before .before .before .rule .ensures) in
     (c .refusal .ensures ∙ x .0, λ ks e. absurd (x .1 ks e))
 
--- src/lib.rt:131:9
 add-f : tie.Need-add-f Inv-loop μ-loop
 add-f c = search needs
 
--- src/lib.rt:124:5
 loop-less : tie.Need-loop-less Inv-loop μ-loop
 loop-less c = search needs
 
--- src/lib.rt:124:5
 loop-again : tie.Need-loop-again Inv-loop μ-loop
 loop-again c = let a = c .before .before .before .before .before .before .before .before .before .before .before .before .before .before .args in
     let l = c .before .before .before .before .before .before .before .before .before .before .before .loop in
@@ -90,15 +72,12 @@ loop-again c = let a = c .before .before .before .before .before .before .before
       next (a .n) (now (a .words)) rows (now (a .kept)) (l .f) (l .kept) t (l .inv .2) (c .before .before .before .before .before .before .before .before .before .before .loop-test .taken) (rowWords (r .result)) (r .ensures) (g .0 .0) (c .before .before .store .last .0) (sym (g .1) ∙ c .before .before .before .before .before .before .before .rule .ensures) (search needs) (c .before .before .store .ensures),
     )
 
--- src/lib.rt:133:5
 success-requires : tie.Need-success-requires Inv-loop μ-loop
 success-requires c κs = search needs
 
--- src/lib.rt:118:1
 same-length-2 : tie.Need-same-length-2 Inv-loop μ-loop
 same-length-2 c = search needs
 
--- src/lib.rt:118:1
 returns-2 : tie.Need-returns-2 Inv-loop μ-loop
 returns-2 c = let a = c .before .before .before .before .before .args in
     let l = c .before .before .loop in

@@ -1,23 +1,21 @@
-use mathlib.Core.Path.{_≡_, refl, sym, _∙_, ap}
-use Prim.Native.Nat.{ℕ, _≤_, _-_, _*_, _+_}
+-- `checker::bad_register` meets its contract. Assumes nothing.
+use mathlib.Core.Path.{_≡_, refl, sym, _∙_}
 use mathlib.Core.Bool.{Bool, true, false}
 use mathlib.Core.List.{List}
-use lib.ListN.{length, drop}
-use Rattle.checker.proofs.ByKind.{row-register}
-use Rattle.checker.proofs.Folds.{bad-next, bad-here, bad-none}
+use Prim.Native.Nat.{ℕ, _≤_, _-_, _*_}
+use native.Mathlib.Omega.{arith}
+use lib.ListN.{drop}
+use denote.Ref.{now}
+use borrow.Author.Tests.{not-true, not-false}
+use borrow.Author.Needs.{needs}
 use Rattle.table.proofs.Tables.{table-made, rowAt}
 use Rattle.table.specs.Rows.{Row, badRegister, onRegister}
 use Rattle.table.specs.Plain.{tableOf, four}
 use Rattle.checker.specs.Kept.{rowsIn, fitsIn}
-use borrow.Author.Tests.{eq-eqb, ne-eqb, lt-ltb, le-ltb, le-leb, lt-leb, not-true, not-false}
-use borrow.Author.Needs.{needs}
-use denote.Ref.{now}
-use native.Mathlib.Omega.{arith}
+use Rattle.checker.proofs.ByKind.{row-register}
+use Rattle.checker.proofs.Folds.{bad-next, bad-here, bad-none}
 use Rattle.checker.proofs.bad_register.Statement.{statement}
 use Rattle.checker.proofs.bad_register.Tie as tie
-use Rattle.checker.proofs.bad_register.Reads as reads
-use Rattle.checker.proofs.bad_register.Lts as lts
-use Rattle.checker.proofs.source_fits.Reads as source-fits-reads
 
 abbrev Inv-loop : tie.InvT-loop
 Inv-loop n words kept f₀ f =
@@ -26,15 +24,12 @@ Inv-loop n words kept f₀ f =
 abbrev μ-loop : tie.MeasureT-loop
 μ-loop n words kept f₀ f = n - f
 
--- src/lib.rt:181:5
 loop-holds : tie.Need-loop-holds Inv-loop μ-loop
 loop-holds c = (search needs, refl)
 
--- src/lib.rt:182:13
 source-fits-requires : tie.Need-source-fits-requires Inv-loop μ-loop
 source-fits-requires c κs = search needs
 
--- src/lib.rt:183:13
 returns : tie.Need-returns Inv-loop μ-loop
 returns c = let a = c .before .before .before .before .before .before .args in
     let l = c .before .before .before .loop in
@@ -44,15 +39,12 @@ returns c = let a = c .before .before .before .before .before .before .args in
     let e : onRegister test (rowAt rows (l .f)) ≡ false = row-register test (a .n) (l .f) (four (drop (4 * l .f) (now (a .words)))) (rowAt rows (l .f)) (t .row-at (l .f) (c .before .before .loop-test .taken)) ∙ sym (c .before .source-fits .ensures) ∙ not-true (c .before .source-fits .result) (c .if1 .taken) in
     sym (bad-here test (l .f) rows (omega (arith, t .size)) e) ∙ l .inv .1
 
--- src/lib.rt:185:9
 add-f : tie.Need-add-f Inv-loop μ-loop
 add-f c = search needs
 
--- src/lib.rt:181:5
 loop-less : tie.Need-loop-less Inv-loop μ-loop
 loop-less c = search needs
 
--- src/lib.rt:181:5
 loop-again : tie.Need-loop-again Inv-loop μ-loop
 loop-again c = let a = c .before .before .before .before .before .before .args in
     let l = c .before .before .before .loop in
@@ -62,7 +54,6 @@ loop-again c = let a = c .before .before .before .before .before .before .args i
     let e : onRegister test (rowAt rows (l .f)) ≡ true = row-register test (a .n) (l .f) (four (drop (4 * l .f) (now (a .words)))) (rowAt rows (l .f)) (t .row-at (l .f) (c .before .before .loop-test .taken)) ∙ sym (c .before .source-fits .ensures) ∙ not-false (c .before .source-fits .result) (c .if1 .left) in
     (search needs, sym (bad-next test (l .f) rows (omega (arith, t .size)) e) ∙ l .inv .1)
 
--- src/lib.rt:176:1
 returns-2 : tie.Need-returns-2 Inv-loop μ-loop
 returns-2 c = let a = c .before .before .before .before .args in
     let l = c .before .loop in

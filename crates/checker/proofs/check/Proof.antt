@@ -1,33 +1,23 @@
-use Prim.Native.Nat.{ℕ, _*_}
+-- `checker::check` meets its contract. Assumes nothing.
+use mathlib.Core.List.{List}
+use mathlib.Core.Path.{_≡_, sym, _∙_, ap}
+use native.Mathlib.Omega.{arith}
 use lib.ListN.{length}
-use mathlib.Core.List.{List, []}
-use Rattle.checker.proofs.Checks.{answer-zero, answer-other, rows-good, check-table, check-room, check-clocks, whole-refused, whole-copied}
-use Rattle.checker.specs.Answers.{checking}
+use denote.Ref.{now}
+use borrow.Author.Needs.{needs}
 use Rattle.checker.specs.Rules.{clocksOf}
-use Rattle.checker.specs.Clocks.{Clock}
 use Rattle.table.proofs.Tables.{table-made}
-use Rattle.table.specs.Answers.{Result, good, refused, answer, noRoom}
+use Rattle.table.specs.Answers.{good, answer, noRoom}
 use Rattle.table.specs.Rows.{Row}
 use Rattle.table.specs.Plain.{tableOf}
 use Rattle.checker.specs.Kept.{rowsIn}
-use mathlib.Core.Path.{_≡_, refl, sym, _∙_, ap}
-use denote.Ref.{now}
-use native.Mathlib.Omega.{arith}
-use borrow.Author.Needs.{needs}
+use Rattle.checker.proofs.Checks.{answer-zero, answer-other, rows-good, check-table, check-room, check-clocks, whole-refused, whole-copied}
 use Rattle.checker.proofs.check.Statement.{statement}
 use Rattle.checker.proofs.check.Tie as tie
-use Rattle.checker.proofs.check.Reads as reads
-use Rattle.checker.proofs.check.Lts as lts
-use Rattle.checker.proofs.copy.Reads as copy-reads
-use Rattle.checker.proofs.judge.Reads as judge-reads
-use Rattle.checker.proofs.refusal.Reads as refusal-reads
-use Rattle.table.proofs.examine.Reads as examine-reads
 
--- src/lib.rt:225:9
 examine-requires : tie.Need-examine-requires
 examine-requires c κs = search needs
 
--- src/lib.rt:227:9
 returns : tie.Need-returns
 returns c = let a = c .before .before .before .before .before .args in
     let ws = now (a .words) in
@@ -37,15 +27,12 @@ returns c = let a = c .before .before .before .before .before .args in
     let e = whole-refused (a .count) ws old (o .0) (o .1) (check-table (a .count) ws (length old) (o .0) (o .1) (o .2)) in
     (x .ensures ∙ ap (answer length) (o .2) ∙ e .0, e .1)
 
--- src/lib.rt:229:16
 mul-size : tie.Need-mul-size
 mul-size c = search needs
 
--- src/lib.rt:231:9
 refusal-requires : tie.Need-refusal-requires
 refusal-requires c κs = search needs
 
--- src/lib.rt:231:9
 returns-2 : tie.Need-returns-2
 returns-2 c = let a = c .before .before .before .before .before .before .before .args in
     let ws = now (a .words) in
@@ -57,11 +44,9 @@ returns-2 c = let a = c .before .before .before .before .before .before .before 
     let e = whole-refused (a .count) ws old noRoom 0 (check-room (a .count) ws (length old) (z .0) (z .1) (c .before .if2 .taken)) in
     (c .refusal .ensures ∙ e .0, e .1)
 
--- src/lib.rt:234:38
 slice-aggregate-judge : tie.Need-slice-aggregate-judge
 slice-aggregate-judge c = search needs
 
--- src/lib.rt:234:9
 judge-requires : tie.Need-judge-requires
 judge-requires c κs = let a = c .before .before .before .before .before .before .before .args in
     let ws = now (a .words) in
@@ -72,7 +57,6 @@ judge-requires c κs = let a = c .before .before .before .before .before .before
     let t = table-made (a .count) ws (rowsIn (tableOf (a .count) ws)) g in
     (t .few, omega (arith, t .few), g)
 
--- src/lib.rt:236:9
 returns-3 : tie.Need-returns-3
 returns-3 c = let a = c .before .before .before .before .before .before .before .before .before .before .before .args in
     let ws = now (a .words) in
@@ -87,11 +71,9 @@ returns-3 c = let a = c .before .before .before .before .before .before .before 
     let e = whole-refused (a .count) ws old (o .0) (o .1) (check-clocks (a .count) ws (length old) g (c .before .before .before .before .before .if2 .left) ∙ o .2) in
     (j .ensures .0 ∙ ap (answer length) (o .2) ∙ e .0, e .1)
 
--- src/lib.rt:238:16
 slice-aggregate-copy : tie.Need-slice-aggregate-copy
 slice-aggregate-copy c = search needs
 
--- src/lib.rt:238:5
 copy-requires : tie.Need-copy-requires
 copy-requires c κs = let a = c .before .before .before .before .before .before .before .before .before .before .before .before .before .args in
     let ws = now (a .words) in
@@ -102,11 +84,9 @@ copy-requires c κs = let a = c .before .before .before .before .before .before 
     let t = table-made (a .count) ws (rowsIn (tableOf (a .count) ws)) g in
     (omega (arith, t .few, c .before .before .before .before .before .judge .kept .1 .1 .0), c .before .before .before .before .before .before .before .if2 .left)
 
--- src/lib.rt:221:1
 same-length : tie.Need-same-length
 same-length c = search needs
 
--- src/lib.rt:221:1
 returns-4 : tie.Need-returns-4
 returns-4 c = let a = c .before .before .before .before .before .before .before .before .before .before .before .before .before .before .before .before .args in
     let ws = now (a .words) in

@@ -1,71 +1,53 @@
+-- `checker::clock_at` meets its contract. Assumes nothing.
 use Prim.Native.Nat.{_*_}
-use Rattle.checker.proofs.Laws.{seven-read}
 use denote.Ref.{now}
-use lib.Seq.{getD-drop}
 use borrow.Author.Needs.{needs}
+use Rattle.checker.proofs.Laws.{seven-read}
 use Rattle.checker.proofs.clock_at.Statement.{statement}
 use Rattle.checker.proofs.clock_at.Tie as tie
-use Rattle.checker.proofs.clock_at.Reads as reads
-use Rattle.checker.proofs.clock_at.Lts as lts
-use Rattle.checker.proofs.word_at.Reads as word-at-reads
 
--- src/lib.rt:118:14
 mul-at : tie.Need-mul-at
 mul-at c = search needs
 
--- src/lib.rt:120:17
 word-at-requires : tie.Need-word-at-requires
 word-at-requires c κs = search needs
 
--- src/lib.rt:121:30
 add-word-at : tie.Need-add-word-at
 add-word-at c = search needs
 
--- src/lib.rt:121:16
 word-at-requires-2 : tie.Need-word-at-requires-2
 word-at-requires-2 c κs = search needs
 
--- src/lib.rt:122:30
 add-word-at-2 : tie.Need-add-word-at-2
 add-word-at-2 c = search needs
 
--- src/lib.rt:122:16
 word-at-requires-3 : tie.Need-word-at-requires-3
 word-at-requires-3 c κs = search needs
 
--- src/lib.rt:123:30
 add-word-at-3 : tie.Need-add-word-at-3
 add-word-at-3 c = search needs
 
--- src/lib.rt:123:16
 word-at-requires-4 : tie.Need-word-at-requires-4
 word-at-requires-4 c κs = search needs
 
--- src/lib.rt:124:31
 add-word-at-4 : tie.Need-add-word-at-4
 add-word-at-4 c = search needs
 
--- src/lib.rt:124:17
 word-at-requires-5 : tie.Need-word-at-requires-5
 word-at-requires-5 c κs = search needs
 
--- src/lib.rt:125:30
 add-word-at-5 : tie.Need-add-word-at-5
 add-word-at-5 c = search needs
 
--- src/lib.rt:125:16
 word-at-requires-6 : tie.Need-word-at-requires-6
 word-at-requires-6 c κs = search needs
 
--- src/lib.rt:126:31
 add-word-at-6 : tie.Need-add-word-at-6
 add-word-at-6 c = search needs
 
--- src/lib.rt:126:17
 word-at-requires-7 : tie.Need-word-at-requires-7
 word-at-requires-7 c κs = search needs
 
--- src/lib.rt:115:1
 returns : tie.Need-returns
 returns c = rw (c .word-at7 .ensures, c .before .word-at6 .ensures, c .before .before .word-at5 .ensures, c .before .before .before .word-at4 .ensures, c .before .before .before .before .word-at3 .ensures, c .before .before .before .before .before .word-at2 .ensures, c .before .before .before .before .before .before .word-at .ensures)
     (seven-read (now (c .before .before .before .before .before .before .before .before .args .kept)) (7 * c .before .before .before .before .before .before .before .before .args .f))

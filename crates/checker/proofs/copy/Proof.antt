@@ -1,15 +1,14 @@
-use Rattle.checker.proofs.Laws.{copy-more, copy-length}
-use lib.ListN.{length, take, drop, set, getD}
+-- `checker::copy` meets its contract. Assumes nothing.
 use mathlib.Core.List.{List, _++_}
-use mathlib.Core.Path.{_≡_, refl, sym, _∙_, ap}
-use Prim.Native.Nat.{ℕ, _≤_, _-_, _*_, _+_}
-use borrow.Author.Needs.{needs}
-use denote.Ref.{now}
+use mathlib.Core.Path.{_≡_, refl, _∙_, ap}
+use Prim.Native.Nat.{ℕ, _≤_, _-_}
 use native.Mathlib.Omega.{arith}
+use lib.ListN.{length, take, drop, set, getD}
+use denote.Ref.{now}
+use borrow.Author.Needs.{needs}
+use Rattle.checker.proofs.Laws.{copy-more, copy-length}
 use Rattle.checker.proofs.copy.Statement.{statement}
 use Rattle.checker.proofs.copy.Tie as tie
-use Rattle.checker.proofs.copy.Reads as reads
-use Rattle.checker.proofs.copy.Lts as lts
 
 abbrev Inv-loop : tie.InvT-loop
 Inv-loop n from to₀ i₀ to i = (i ≤ n) × (to ≡ take i from ++ drop i to₀)
@@ -17,49 +16,39 @@ Inv-loop n from to₀ i₀ to i = (i ≤ n) × (to ≡ take i from ++ drop i to�
 abbrev μ-loop : tie.MeasureT-loop
 μ-loop n from to₀ i₀ to i = n - i
 
--- src/lib.rt:213:5
 loop-holds : tie.Need-loop-holds Inv-loop μ-loop
 loop-holds c = (search needs, refl)
 
--- src/lib.rt:214:17
 mul-to : tie.Need-mul-to Inv-loop μ-loop
 mul-to c = search needs
 
--- src/lib.rt:214:17
 shared-slice-read-to : tie.Need-shared-slice-read-to Inv-loop μ-loop
 shared-slice-read-to c = search needs
 
--- src/lib.rt:214:9
 mul-to-2 : tie.Need-mul-to-2 Inv-loop μ-loop
 mul-to-2 c = search needs
 
--- src/lib.rt:214:9
 slice-write-to : tie.Need-slice-write-to Inv-loop μ-loop
 slice-write-to c = let a = c .before .before .before .args in
     let l = c .before .before .loop in
     omega (arith, ap length (l .inv .1), copy-length (now (a .from)) (now (a .to)) (l .i) (search needs) (search needs))
 
--- src/lib.rt:215:9
 add-i : tie.Need-add-i Inv-loop μ-loop
 add-i c = search needs
 
--- src/lib.rt:213:5
 loop-less : tie.Need-loop-less Inv-loop μ-loop
 loop-less c = search needs
 
--- src/lib.rt:213:5
 loop-again : tie.Need-loop-again Inv-loop μ-loop
 loop-again c = let a = c .before .before .before .args in
     let l = c .before .before .loop in
     (search needs, ap (λ (t : List ℕ). set t (l .i) (getD (now (a .from)) (l .i) 0)) (l .inv .1) ∙ copy-more (now (a .from)) (now (a .to)) (l .i) (search needs) (search needs))
 
--- src/lib.rt:208:1
 same-length : tie.Need-same-length Inv-loop μ-loop
 same-length c = let a = c .before .before .args in
     let l = c .before .loop in
     ap length (l .inv .1) ∙ copy-length (now (a .from)) (now (a .to)) (l .i) (search needs) (search needs)
 
--- src/lib.rt:208:1
 returns : tie.Need-returns Inv-loop μ-loop
 returns c = let a = c .before .before .args in
     let l = c .before .loop in

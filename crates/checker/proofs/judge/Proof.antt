@@ -1,37 +1,28 @@
-use Prim.Native.Nat.{ℕ}
+-- `checker::judge` meets its contract. Assumes nothing.
 use mathlib.Core.Option.{none, some}
-use lib.ListN.{length}
 use mathlib.Core.List.{List, []}
-use Rattle.checker.proofs.Checks.{answer-zero, answer-other, clocks-refused, sourced-by}
+use mathlib.Core.Path.{_≡_, sym, _∙_, ap}
+use lib.ListN.{length}
+use denote.Ref.{now}
+use borrow.Author.Needs.{needs}
 use Rattle.checker.specs.Rules.{clocksFrom, clocksOf, sourced}
 use Rattle.checker.specs.Clocks.{Clock}
 use Rattle.table.proofs.Tables.{table-made}
 use Rattle.table.proofs.Tests.{not-good}
-use Rattle.table.specs.Answers.{Result, good, refused, answer}
+use Rattle.table.specs.Answers.{Result, refused, answer}
 use Rattle.table.specs.Rows.{Row}
 use Rattle.table.specs.Plain.{tableOf}
 use Rattle.checker.specs.Kept.{rowsIn, place}
-use mathlib.Core.Path.{_≡_, refl, sym, _∙_, ap}
-use denote.Ref.{now}
-use native.Mathlib.Omega.{arith}
-use borrow.Author.Needs.{needs}
+use Rattle.checker.proofs.Checks.{answer-zero, answer-other, clocks-refused, sourced-by}
 use Rattle.checker.proofs.judge.Statement.{statement}
 use Rattle.checker.proofs.judge.Tie as tie
-use Rattle.checker.proofs.judge.Reads as reads
-use Rattle.checker.proofs.judge.Lts as lts
-use Rattle.checker.proofs.assign.Reads as assign-reads
-use Rattle.checker.proofs.bad_register.Reads as bad-register-reads
-use Rattle.checker.proofs.refusal.Reads as refusal-reads
 
--- src/lib.rt:197:9
 assign-requires : tie.Need-assign-requires
 assign-requires c κs = search needs
 
--- src/lib.rt:199:9
 same-length : tie.Need-same-length
 same-length c = search needs
 
--- src/lib.rt:199:9
 returns : tie.Need-returns
 returns c = let a = c .before .before .before .before .before .before .before .before .args in
     let rows : List Row = rowsIn (tableOf (a .n) (now (a .words))) in
@@ -41,27 +32,21 @@ returns c = let a = c .before .before .before .before .before .before .before .b
     let e : clocksOf rows ≡ refused (x .0) (x .1) = clocks-refused rows (x .0) (x .1) (x .2) in
     (s .ensures .0 ∙ ap (answer length) (x .2 ∙ sym e), λ ks y. not-good (sym e ∙ y))
 
--- src/lib.rt:201:9
 bad-register-requires : tie.Need-bad-register-requires
 bad-register-requires c κs = search needs
 
--- src/lib.rt:203:19
 enum-known-found : tie.Need-enum-known-found
 enum-known-found c = search needs
 
--- src/lib.rt:203:25
 refusal-requires : tie.Need-refusal-requires
 refusal-requires c κs = search needs
 
--- src/lib.rt:204:27
 enum-told : tie.Need-enum-told
 enum-told c = search needs
 
--- src/lib.rt:192:1
 same-length-2 : tie.Need-same-length-2
 same-length-2 c = search needs
 
--- src/lib.rt:192:1
 returns-2 : tie.Need-returns-2
 returns-2 c = let a = c .before .before .before .before .before .before .before .before .before .before .before .before .before .before .args in
     let rows : List Row = rowsIn (tableOf (a .n) (now (a .words))) in
@@ -74,11 +59,9 @@ returns-2 c = let a = c .before .before .before .before .before .before .before 
     let e : clocksOf rows ≡ sourced (x .0) (some (g .0 .0)) = sourced-by (a .n) (now (a .words)) rows t (x .0) (x .1) (now (a .kept)) _ (h .0) (h .1) (some (g .0 .0)) (ap place (sym (g .1)) ∙ c .before .before .before .before .bad-register .ensures) in
     (c .refusal .ensures ∙ ap (answer length) (sym e), λ ks y. not-good (sym e ∙ y))
 
--- src/lib.rt:192:1
 same-length-3 : tie.Need-same-length-3
 same-length-3 c = search needs
 
--- src/lib.rt:192:1
 returns-3 : tie.Need-returns-3
 returns-3 c = let a = c .before .before .before .before .before .before .before .before .before .before .before .before .args in
     let rows : List Row = rowsIn (tableOf (a .n) (now (a .words))) in

@@ -1,46 +1,35 @@
-use denote.Ref.{now}
+-- `checker::row_at` meets its contract. Assumes nothing.
 use Prim.Native.Nat.{_*_}
-use Rattle.checker.proofs.Laws.{four-read}
+use denote.Ref.{now}
 use borrow.Author.Needs.{needs}
+use Rattle.checker.proofs.Laws.{four-read}
 use Rattle.checker.proofs.row_at.Statement.{statement}
 use Rattle.checker.proofs.row_at.Tie as tie
-use Rattle.checker.proofs.row_at.Reads as reads
-use Rattle.checker.proofs.row_at.Lts as lts
-use Rattle.checker.proofs.word_at.Reads as word-at-reads
 
--- src/lib.rt:72:14
 mul-at : tie.Need-mul-at
 mul-at c = search needs
 
--- src/lib.rt:74:15
 word-at-requires : tie.Need-word-at-requires
 word-at-requires c κs = search needs
 
--- src/lib.rt:75:29
 add-word-at : tie.Need-add-word-at
 add-word-at c = search needs
 
--- src/lib.rt:75:14
 word-at-requires-2 : tie.Need-word-at-requires-2
 word-at-requires-2 c κs = search needs
 
--- src/lib.rt:76:29
 add-word-at-2 : tie.Need-add-word-at-2
 add-word-at-2 c = search needs
 
--- src/lib.rt:76:14
 word-at-requires-3 : tie.Need-word-at-requires-3
 word-at-requires-3 c κs = search needs
 
--- src/lib.rt:77:31
 add-word-at-3 : tie.Need-add-word-at-3
 add-word-at-3 c = search needs
 
--- src/lib.rt:77:16
 word-at-requires-4 : tie.Need-word-at-requires-4
 word-at-requires-4 c κs = search needs
 
--- src/lib.rt:69:1
 returns : tie.Need-returns
 returns c = rw (c .word-at4 .ensures, c .before .word-at3 .ensures, c .before .before .word-at2 .ensures, c .before .before .before .word-at .ensures)
     (four-read (now (c .before .before .before .before .before .args .words)) (4 * c .before .before .before .before .before .args .f))

@@ -1,196 +1,143 @@
-use Rattle.checker.specs.Kept.{rule}
+-- `checker::rule` meets its contract. Assumes nothing.
 use native.Mathlib.Omega.{arith}
-use borrow.Author.Tests.{eq-eqb, ne-eqb, lt-ltb, le-ltb, le-leb, lt-leb, not-true, not-false}
+use borrow.Author.Tests.{ne-eqb, le-leb, lt-leb}
 use borrow.Author.Needs.{needs}
+use Rattle.checker.specs.Kept.{rule}
 use Rattle.checker.proofs.rule.Statement.{statement}
 use Rattle.checker.proofs.rule.Tie as tie
-use Rattle.checker.proofs.rule.Reads as reads
-use Rattle.checker.proofs.rule.Lts as lts
-use Rattle.checker.proofs.clock_at.Reads as clock-at-reads
-use Rattle.checker.proofs.rules.combined.Reads as combined-reads
-use Rattle.checker.proofs.rules.condition.Reads as condition-reads
-use Rattle.checker.proofs.rules.every.Reads as every-reads
-use Rattle.checker.proofs.rules.faster.Reads as faster-reads
-use Rattle.checker.proofs.rules.head.Reads as head-reads
-use Rattle.checker.proofs.rules.later.Reads as later-reads
-use Rattle.checker.proofs.rules.merged.Reads as merged-reads
-use Rattle.checker.proofs.rules.sampled.Reads as sampled-reads
-use Rattle.checker.proofs.rules.slower.Reads as slower-reads
-use Rattle.checker.proofs.rules.tail.Reads as tail-reads
 
--- src/lib.rt:302:26
 every-requires : tie.Need-every-requires
 every-requires c κs = search needs
 
--- src/lib.rt:303:26
 every-requires-2 : tie.Need-every-requires-2
 every-requires-2 c κs = search needs
 
--- src/lib.rt:305:26
 clock-at-requires : tie.Need-clock-at-requires
 clock-at-requires c κs = search needs
 
--- src/lib.rt:306:21
 clock-at-requires-2 : tie.Need-clock-at-requires-2
 clock-at-requires-2 c κs = search needs
 
--- src/lib.rt:306:14
 faster-requires : tie.Need-faster-requires
 faster-requires c κs = search needs
 
--- src/lib.rt:307:21
 clock-at-requires-3 : tie.Need-clock-at-requires-3
 clock-at-requires-3 c κs = search needs
 
--- src/lib.rt:307:14
 slower-requires : tie.Need-slower-requires
 slower-requires c κs = search needs
 
--- src/lib.rt:308:21
 clock-at-requires-4 : tie.Need-clock-at-requires-4
 clock-at-requires-4 c κs = search needs
 
--- src/lib.rt:308:15
 later-requires : tie.Need-later-requires
 later-requires c κs = search needs
 
--- src/lib.rt:309:20
 clock-at-requires-5 : tie.Need-clock-at-requires-5
 clock-at-requires-5 c κs = search needs
 
--- src/lib.rt:309:15
 head-requires : tie.Need-head-requires
 head-requires c κs = search needs
 
--- src/lib.rt:310:20
 clock-at-requires-6 : tie.Need-clock-at-requires-6
 clock-at-requires-6 c κs = search needs
 
--- src/lib.rt:310:15
 tail-requires : tie.Need-tail-requires
 tail-requires c κs = search needs
 
--- src/lib.rt:311:23
 clock-at-requires-7 : tie.Need-clock-at-requires-7
 clock-at-requires-7 c κs = search needs
 
--- src/lib.rt:311:42
 clock-at-requires-8 : tie.Need-clock-at-requires-8
 clock-at-requires-8 c κs = search needs
 
--- src/lib.rt:311:61
 condition-requires : tie.Need-condition-requires
 condition-requires c κs = search needs
 
--- src/lib.rt:311:15
 sampled-requires : tie.Need-sampled-requires
 sampled-requires c κs = search needs
 
--- src/lib.rt:312:23
 clock-at-requires-9 : tie.Need-clock-at-requires-9
 clock-at-requires-9 c κs = search needs
 
--- src/lib.rt:312:42
 clock-at-requires-10 : tie.Need-clock-at-requires-10
 clock-at-requires-10 c κs = search needs
 
--- src/lib.rt:312:61
 condition-requires-2 : tie.Need-condition-requires-2
 condition-requires-2 c κs = search needs
 
--- src/lib.rt:312:15
 sampled-requires-2 : tie.Need-sampled-requires-2
 sampled-requires-2 c κs = search needs
 
--- src/lib.rt:313:25
 clock-at-requires-11 : tie.Need-clock-at-requires-11
 clock-at-requires-11 c κs = search needs
 
--- src/lib.rt:313:44
 clock-at-requires-12 : tie.Need-clock-at-requires-12
 clock-at-requires-12 c κs = search needs
 
--- src/lib.rt:313:63
 clock-at-requires-13 : tie.Need-clock-at-requires-13
 clock-at-requires-13 c κs = search needs
 
--- src/lib.rt:313:15
 merged-requires : tie.Need-merged-requires
 merged-requires c κs = search needs
 
--- src/lib.rt:304:27
 clock-at-requires-14 : tie.Need-clock-at-requires-14
 clock-at-requires-14 c κs = search needs
 
--- src/lib.rt:304:46
 clock-at-requires-15 : tie.Need-clock-at-requires-15
 clock-at-requires-15 c κs = search needs
 
--- src/lib.rt:304:18
 combined-requires : tie.Need-combined-requires
 combined-requires c κs = search needs
 
--- src/lib.rt:298:1
 returns : tie.Need-returns
 unfolding rule
 returns c = rw (c .before .match .keys1, c .every .ensures)
 
--- src/lib.rt:298:1
 returns-2 : tie.Need-returns-2
 unfolding rule
 returns-2 c = rw (c .before .match .keys2, c .every2 .ensures)
 
--- src/lib.rt:298:1
 returns-3 : tie.Need-returns-3
 unfolding rule
 returns-3 c = rw (c .before .match .keys3, c .clock-at .ensures)
 
--- src/lib.rt:298:1
 returns-4 : tie.Need-returns-4
 unfolding rule
 returns-4 c = rw (c .before .before .match .keys4, c .faster .ensures, c .before .clock-at2 .ensures)
 
--- src/lib.rt:298:1
 returns-5 : tie.Need-returns-5
 unfolding rule
 returns-5 c = rw (c .before .before .match .keys5, c .slower .ensures, c .before .clock-at3 .ensures)
 
--- src/lib.rt:298:1
 returns-6 : tie.Need-returns-6
 unfolding rule
 returns-6 c = rw (c .before .before .match .keys6, c .later .ensures, c .before .clock-at4 .ensures)
 
--- src/lib.rt:298:1
 returns-7 : tie.Need-returns-7
 unfolding rule
 returns-7 c = rw (c .before .before .match .keys7, c .head .ensures, c .before .clock-at5 .ensures)
 
--- src/lib.rt:298:1
 returns-8 : tie.Need-returns-8
 unfolding rule
 returns-8 c = rw (c .before .before .match .keys8, c .tail .ensures, c .before .clock-at6 .ensures)
 
--- src/lib.rt:298:1
 returns-9 : tie.Need-returns-9
 unfolding rule
 returns-9 c = rw (c .before .before .before .before .match .keys9, c .sampled .ensures, c .before .condition .ensures, c .before .before .clock-at8 .ensures, c .before .before .before .clock-at7 .ensures)
 
--- src/lib.rt:298:1
 returns-10 : tie.Need-returns-10
 unfolding rule
 returns-10 c = rw (c .before .before .before .before .match .keys10, c .sampled2 .ensures, c .before .condition2 .ensures, c .before .before .clock-at10 .ensures, c .before .before .before .clock-at9 .ensures)
 
--- src/lib.rt:298:1
 returns-11 : tie.Need-returns-11
 unfolding rule
 returns-11 c = rw (c .before .before .before .before .match .keys11, c .merged .ensures, c .before .clock-at13 .ensures, c .before .before .clock-at12 .ensures, c .before .before .before .clock-at11 .ensures)
 
--- src/lib.rt:298:1
 returns-12 : tie.Need-returns-12
 unfolding rule
 returns-12 c = rw (ne-eqb _ _ (c .before .before .before .before .match .rest .0 .0 .0 .0 .0 .0 .0 .0 .0 .0 .1), ne-eqb _ _ (c .before .before .before .before .match .rest .0 .0 .0 .0 .0 .0 .0 .0 .0 .1), le-leb (c .before .before .before .before .before .before .args .kind) 6 (omega arith), c .combined .ensures, c .before .clock-at15 .ensures, c .before .before .clock-at14 .ensures)
 
--- src/lib.rt:298:1
 returns-13 : tie.Need-returns-13
 unfolding rule
 returns-13 c = rw (ne-eqb _ _ (c .before .match .rest .0 .0 .0 .0 .0 .0 .0 .0 .0 .0 .1), ne-eqb _ _ (c .before .match .rest .0 .0 .0 .0 .0 .0 .0 .0 .0 .1), lt-leb (c .before .before .before .args .kind) 6 (omega arith), ne-eqb _ _ (c .before .match .rest .0 .0 .0 .0 .0 .0 .0 .0 .1), ne-eqb _ _ (c .before .match .rest .0 .0 .0 .0 .0 .0 .0 .1), ne-eqb _ _ (c .before .match .rest .0 .0 .0 .0 .0 .0 .1), ne-eqb _ _ (c .before .match .rest .0 .0 .0 .0 .0 .1), ne-eqb _ _ (c .before .match .rest .0 .0 .0 .0 .1), ne-eqb _ _ (c .before .match .rest .0 .0 .0 .1), ne-eqb _ _ (c .before .match .rest .0 .0 .1), ne-eqb _ _ (c .before .match .rest .0 .1), ne-eqb _ _ (c .before .match .rest .1))

@@ -1,103 +1,79 @@
+-- `checker::store` meets its contract. Assumes nothing.
 use Prim.Native.Nat.{_*_}
-use Rattle.checker.proofs.Laws.{seven-set}
-use denote.Ref.{now}
 use native.Mathlib.Omega.{arith}
 use lib.ListN.{length-set}
+use denote.Ref.{now}
 use borrow.Author.Needs.{needs}
+use Rattle.checker.proofs.Laws.{seven-set}
 use Rattle.checker.proofs.store.Statement.{statement}
 use Rattle.checker.proofs.store.Tie as tie
-use Rattle.checker.proofs.store.Reads as reads
-use Rattle.checker.proofs.store.Lts as lts
 
--- src/lib.rt:323:14
 mul-at : tie.Need-mul-at
 mul-at c = search needs
 
--- src/lib.rt:324:5
 mul-kept : tie.Need-mul-kept
 mul-kept c = search needs
 
--- src/lib.rt:324:5
 slice-write-kept : tie.Need-slice-write-kept
 slice-write-kept c = search needs
 
--- src/lib.rt:325:10
 add-kept : tie.Need-add-kept
 add-kept c = search needs
 
--- src/lib.rt:325:5
 mul-kept-2 : tie.Need-mul-kept-2
 mul-kept-2 c = search needs
 
--- src/lib.rt:325:5
 slice-write-kept-2 : tie.Need-slice-write-kept-2
 slice-write-kept-2 c = simp length-set (omega arith)
 
--- src/lib.rt:326:10
 add-kept-2 : tie.Need-add-kept-2
 add-kept-2 c = search needs
 
--- src/lib.rt:326:5
 mul-kept-3 : tie.Need-mul-kept-3
 mul-kept-3 c = search needs
 
--- src/lib.rt:326:5
 slice-write-kept-3 : tie.Need-slice-write-kept-3
 slice-write-kept-3 c = simp length-set (omega arith)
 
--- src/lib.rt:327:10
 add-kept-3 : tie.Need-add-kept-3
 add-kept-3 c = search needs
 
--- src/lib.rt:327:5
 mul-kept-4 : tie.Need-mul-kept-4
 mul-kept-4 c = search needs
 
--- src/lib.rt:327:5
 slice-write-kept-4 : tie.Need-slice-write-kept-4
 slice-write-kept-4 c = simp length-set (omega arith)
 
--- src/lib.rt:328:10
 add-kept-4 : tie.Need-add-kept-4
 add-kept-4 c = search needs
 
--- src/lib.rt:328:5
 mul-kept-5 : tie.Need-mul-kept-5
 mul-kept-5 c = search needs
 
--- src/lib.rt:328:5
 slice-write-kept-5 : tie.Need-slice-write-kept-5
 slice-write-kept-5 c = simp length-set (omega arith)
 
--- src/lib.rt:329:10
 add-kept-5 : tie.Need-add-kept-5
 add-kept-5 c = search needs
 
--- src/lib.rt:329:5
 mul-kept-6 : tie.Need-mul-kept-6
 mul-kept-6 c = search needs
 
--- src/lib.rt:329:5
 slice-write-kept-6 : tie.Need-slice-write-kept-6
 slice-write-kept-6 c = simp length-set (omega arith)
 
--- src/lib.rt:330:10
 add-kept-6 : tie.Need-add-kept-6
 add-kept-6 c = search needs
 
--- src/lib.rt:330:5
 mul-kept-7 : tie.Need-mul-kept-7
 mul-kept-7 c = search needs
 
--- src/lib.rt:330:5
 slice-write-kept-7 : tie.Need-slice-write-kept-7
 slice-write-kept-7 c = simp length-set (omega arith)
 
--- src/lib.rt:319:1
 same-length : tie.Need-same-length
 same-length c = search needs
 
--- src/lib.rt:319:1
 returns : tie.Need-returns
 returns c = let a = c .args in seven-set (now (a .kept)) (7 * a .f) (a .k) (c .pre .1)
 

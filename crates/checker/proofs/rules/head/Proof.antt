@@ -1,33 +1,24 @@
-use borrow.Author.Tests.{eq-eqb, ne-eqb, lt-ltb, le-ltb, le-leb, lt-leb, not-true, not-false}
+-- `checker::rules::head` meets its contract. Assumes nothing.
+use borrow.Author.Tests.{eq-eqb, ne-eqb}
 use borrow.Author.Needs.{needs}
 use Rattle.checker.proofs.rules.head.Statement.{statement}
 use Rattle.checker.proofs.rules.head.Tie as tie
-use Rattle.checker.proofs.rules.head.Reads as reads
-use Rattle.checker.proofs.rules.head.Lts as lts
-use Rattle.checker.proofs.rules.every.Reads as every-reads
-use Rattle.checker.proofs.rules.sum.Reads as sum-reads
 
--- src/lib.rt:207:9
 returns : tie.Need-returns
 returns c = rw (ne-eqb _ _ (c .if1 .taken))
 
--- src/lib.rt:209:9
 sum-requires : tie.Need-sum-requires
 sum-requires c κs = search needs
 
--- src/lib.rt:210:17
 cast-phase : tie.Need-cast-phase
 cast-phase c = search needs
 
--- src/lib.rt:212:9
 returns-2 : tie.Need-returns-2
 returns-2 c = rw (eq-eqb _ _ (c .before .before .before .if1 .left), ← c .before .before .sum .ensures, ne-eqb _ _ (c .if2 .taken))
 
--- src/lib.rt:214:17
 every-requires : tie.Need-every-requires
 every-requires c κs = search needs
 
--- src/lib.rt:203:1
 returns-3 : tie.Need-returns-3
 returns-3 c = rw (eq-eqb _ _ (c .before .before .before .before .if1 .left), ← c .before .before .before .sum .ensures, eq-eqb _ _ (c .before .if2 .left), c .every .ensures)
 

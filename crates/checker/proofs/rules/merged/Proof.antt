@@ -1,37 +1,27 @@
-use borrow.Author.Tests.{eq-eqb, ne-eqb, lt-ltb, le-ltb, le-leb, lt-leb, not-true, not-false}
+-- `checker::rules::merged` meets its contract. Assumes nothing.
+use borrow.Author.Tests.{not-true, not-false}
 use borrow.Author.Needs.{needs}
 use Rattle.checker.proofs.rules.merged.Statement.{statement}
 use Rattle.checker.proofs.rules.merged.Tie as tie
-use Rattle.checker.proofs.rules.merged.Reads as reads
-use Rattle.checker.proofs.rules.merged.Lts as lts
-use Rattle.checker.proofs.rules.condition.Reads as condition-reads
-use Rattle.checker.proofs.rules.extends.Reads as extends-reads
 
--- src/lib.rt:288:23
 condition-requires : tie.Need-condition-requires
 condition-requires c κs = search needs
 
--- src/lib.rt:288:9
 extends-requires : tie.Need-extends-requires
 extends-requires c κs = search needs
 
--- src/lib.rt:289:9
 returns : tie.Need-returns
 returns c = rw (← c .before .before .condition .ensures, ← c .before .extends .ensures, not-true (c .before .extends .result) (c .if1 .taken))
 
--- src/lib.rt:291:23
 condition-requires-2 : tie.Need-condition-requires-2
 condition-requires-2 c κs = search needs
 
--- src/lib.rt:291:9
 extends-requires-2 : tie.Need-extends-requires-2
 extends-requires-2 c κs = search needs
 
--- src/lib.rt:292:9
 returns-2 : tie.Need-returns-2
 returns-2 c = rw (← c .before .before .before .before .before .condition .ensures, ← c .before .before .before .before .extends .ensures, not-false (c .before .before .before .before .extends .result) (c .before .before .before .if1 .left), ← c .before .before .condition2 .ensures, ← c .before .extends2 .ensures, not-true (c .before .extends2 .result) (c .if2 .taken))
 
--- src/lib.rt:285:1
 returns-3 : tie.Need-returns-3
 returns-3 c = rw (← c .before .before .before .before .before .condition .ensures, ← c .before .before .before .before .extends .ensures, not-false (c .before .before .before .before .extends .result) (c .before .before .before .if1 .left), ← c .before .before .condition2 .ensures, ← c .before .extends2 .ensures, not-false (c .before .extends2 .result) (c .if2 .left))
 

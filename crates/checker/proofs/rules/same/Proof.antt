@@ -1,37 +1,29 @@
-use Rattle.checker.specs.Kept.{same}
-use borrow.Author.Tests.{eq-eqb, ne-eqb, lt-ltb, le-ltb, le-leb, lt-leb, not-true, not-false}
+-- `checker::rules::same` meets its contract. Assumes nothing.
+use borrow.Author.Tests.{eq-eqb, ne-eqb, not-true, not-false}
 use borrow.Author.Needs.{needs}
+use Rattle.checker.specs.Kept.{same}
 use Rattle.checker.proofs.rules.same.Statement.{statement}
 use Rattle.checker.proofs.rules.same.Tie as tie
-use Rattle.checker.proofs.rules.same.Reads as reads
-use Rattle.checker.proofs.rules.same.Lts as lts
-use Rattle.checker.proofs.rules.same_shape.Reads as same-shape-reads
 
--- src/lib.rt:99:9
 same-shape-requires : tie.Need-same-shape-requires
 same-shape-requires c κs = search needs
 
--- src/lib.rt:100:9
 returns : tie.Need-returns
 unfolding same
 returns c = rw (← c .before .same-shape .ensures, not-true (c .before .same-shape .result) (c .if1 .taken))
 
--- src/lib.rt:103:9
 returns-2 : tie.Need-returns-2
 unfolding same
 returns-2 c = rw (← c .before .before .before .before .same-shape .ensures, not-false (c .before .before .before .before .same-shape .result) (c .before .before .before .if1 .left), ne-eqb _ _ (c .if2 .taken))
 
--- src/lib.rt:106:9
 returns-3 : tie.Need-returns-3
 unfolding same
 returns-3 c = rw (← c .before .before .before .before .before .before .before .same-shape .ensures, not-false (c .before .before .before .before .before .before .before .same-shape .result) (c .before .before .before .before .before .before .if1 .left), eq-eqb _ _ (c .before .before .before .if2 .left), ne-eqb _ _ (c .if3 .taken))
 
--- src/lib.rt:109:9
 returns-4 : tie.Need-returns-4
 unfolding same
 returns-4 c = rw (← c .before .before .before .before .before .before .before .before .before .before .same-shape .ensures, not-false (c .before .before .before .before .before .before .before .before .before .before .same-shape .result) (c .before .before .before .before .before .before .before .before .before .if1 .left), eq-eqb _ _ (c .before .before .before .before .before .before .if2 .left), eq-eqb _ _ (c .before .before .before .if3 .left), ne-eqb _ _ (c .if4 .taken))
 
--- src/lib.rt:96:1
 returns-5 : tie.Need-returns-5
 unfolding same
 returns-5 c = rw (← c .before .before .before .before .before .before .before .before .before .before .before .before .same-shape .ensures, not-false (c .before .before .before .before .before .before .before .before .before .before .before .before .same-shape .result) (c .before .before .before .before .before .before .before .before .before .before .before .if1 .left), eq-eqb _ _ (c .before .before .before .before .before .before .before .before .if2 .left), eq-eqb _ _ (c .before .before .before .before .before .if3 .left), eq-eqb _ _ (c .before .before .if4 .left))

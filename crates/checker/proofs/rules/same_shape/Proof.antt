@@ -1,18 +1,14 @@
-use borrow.Author.Tests.{eq-eqb, ne-eqb, lt-ltb, le-ltb, le-leb, lt-leb, not-true, not-false}
+-- `checker::rules::same_shape` meets its contract. Assumes nothing.
+use borrow.Author.Tests.{eq-eqb, ne-eqb}
 use Rattle.checker.proofs.rules.same_shape.Statement.{statement}
 use Rattle.checker.proofs.rules.same_shape.Tie as tie
-use Rattle.checker.proofs.rules.same_shape.Reads as reads
-use Rattle.checker.proofs.rules.same_shape.Lts as lts
 
--- src/lib.rt:87:9
 returns : tie.Need-returns
 returns c = rw (ne-eqb _ _ (c .if1 .taken))
 
--- src/lib.rt:90:9
 returns-2 : tie.Need-returns-2
 returns-2 c = rw (eq-eqb _ _ (c .before .before .before .if1 .left), ne-eqb _ _ (c .if2 .taken))
 
--- src/lib.rt:83:1
 returns-3 : tie.Need-returns-3
 returns-3 c = rw (eq-eqb _ _ (c .before .before .before .before .before .if1 .left), eq-eqb _ _ (c .before .before .if2 .left))
 
