@@ -2,3 +2,9 @@ pub mod ClockLaws
 pub mod RuleLaws
 pub mod CheckLaws
 pub mod WordLaws
+mod Laws
+pub mod Agree
+mod ByKind
+pub mod Folds
+pub mod Checks
+pub mod Bounds

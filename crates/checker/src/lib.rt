@@ -1,1 +1,252 @@
 // The check: each flow's clock, or a refusal.
+mod rules;
+
+use rules::combined;
+use rules::condition;
+use rules::every;
+use rules::faster;
+use rules::head;
+use rules::later;
+use rules::merged;
+use rules::same;
+use rules::sampled;
+use rules::slower;
+use rules::tail;
+use table::Answer;
+ghost use mathlib.Core.Path.{_≡_};
+ghost use mathlib.Core.List.{[], _++_};
+ghost use Prim.Native.Nat.{ℕ, _+_, _*_, _≤_};
+ghost use lib.ListN.{length, take, drop, getD};
+ghost use Rattle.table.specs.Answers.{good, answer};
+ghost use Rattle.table.specs.Rows.{badRegister};
+ghost use Rattle.table.specs.Plain.{four, tableOf};
+ghost use Rattle.checker.specs.Rules.{clocksFrom, clocksOf};
+ghost use Rattle.checker.specs.Answers.{checkAnswer, clocksAfter};
+ghost use Rattle.checker.specs.Kept.{seven, words, rule, rowWords, fitsIn, sourceIn, place, rowsIn, Assigned};
+
+// A clock as the check keeps it: seven words, of which the conditions that are not used are 0.
+struct Clock {
+    period: u32,
+    phase: u32,
+    count: u32,
+    first: u32,
+    second: u32,
+    third: u32,
+    fourth: u32,
+}
+
+// What a row's rule comes to: its clock, or the number of its refusal.
+enum Verdict {
+    Is(Clock),
+    Refused(u32),
+}
+
+// The four words of a row.
+struct Row {
+    kind: u32,
+    one: u32,
+    two: u32,
+    three: u32,
+}
+
+const NO_ROOM: u32 = 10;
+
+const UNKNOWN: u32 = 13;
+
+const DIFFER: u32 = 21;
+
+// The word at i, 0 past the end.
+fn word_at(s: &[u32], i: usize) -> u32
+    ensures { λ r. ⌜ r ≡ getD (now (s .entry)) i 0 ⌝ }
+{
+    if i < s.len() { s[i] } else { 0 }
+}
+
+// The clock of flow f among those kept.
+fn clock_at(kept: &[u32], f: u32) -> Clock
+    ensures { λ r. ⌜ r ≡ seven (drop (7 * f) (now (kept .entry))) ⌝ }
+{
+    let at = 7 * (f as usize);
+    Clock {
+        period: word_at(kept, at),
+        phase: word_at(kept, at + 1),
+        count: word_at(kept, at + 2),
+        first: word_at(kept, at + 3),
+        second: word_at(kept, at + 4),
+        third: word_at(kept, at + 5),
+        fourth: word_at(kept, at + 6),
+    }
+}
+
+// Row f of the table.
+fn row_at(words: &[u32], f: u32) -> Row
+    ensures { λ r. ⌜ rowWords r ≡ four (drop (4 * f) (now (words .entry))) ⌝ }
+{
+    let at = 4 * (f as usize);
+    Row {
+        kind: word_at(words, at),
+        one: word_at(words, at + 1),
+        two: word_at(words, at + 2),
+        three: word_at(words, at + 3),
+    }
+}
+
+// A row's clock from the clocks kept: one decision over the kind.
+fn rule(kind: u32, p: u32, q: u32, r: u32, kept: &[u32]) -> Verdict
+    ensures { λ v. ⌜ v ≡ rule (λ (f : ℕ). seven (drop (7 * f) (now (kept .entry)))) kind p q r ⌝ }
+{
+    match kind {
+        0 => Verdict::Is(every(p, q)),
+        1 => Verdict::Is(every(q, r)),
+        2..=6 => combined(clock_at(kept, p), clock_at(kept, q)),
+        7 => Verdict::Is(clock_at(kept, q)),
+        8 => faster(clock_at(kept, p), q, r),
+        9 => slower(clock_at(kept, p), q),
+        10 => later(clock_at(kept, p), q),
+        11 => head(clock_at(kept, p), r),
+        12 => tail(clock_at(kept, p)),
+        13 => sampled(clock_at(kept, p), clock_at(kept, q), condition(q, true)),
+        14 => sampled(clock_at(kept, p), clock_at(kept, q), condition(q, false)),
+        15 => merged(p, clock_at(kept, p), clock_at(kept, q), clock_at(kept, r)),
+        16..=4294967295 => Verdict::Refused(UNKNOWN),
+    }
+}
+
+// Keeps a clock as flow f's.
+fn store(kept: &mut [u32], f: u32, k: Clock)
+    requires { ⌜ (f ≤ 63) × (7 * f + 7 ≤ length (now kept)) ⌝ }
+    ensures { λ _. ⌜ now (kept .exit) ≡ take (7 * f) (now (kept .entry)) ++ (words k ++ drop (7 * f + 7) (now (kept .entry))) ⌝ }
+{
+    let at = 7 * (f as usize);
+    kept[at] = k.period;
+    kept[at + 1] = k.phase;
+    kept[at + 2] = k.count;
+    kept[at + 3] = k.first;
+    kept[at + 4] = k.second;
+    kept[at + 5] = k.third;
+    kept[at + 6] = k.fourth;
+}
+
+// The clocks of n rows, row by row, each kept for those after it.
+fn assign(n: u32, words: &[u32], kept: &mut [u32]) -> Answer
+    requires { ⌜ (n ≤ 64) × (7 * n ≤ length (now kept)) × (tableOf n (now words) ≡ good (rowsIn (tableOf n (now words)))) ⌝ }
+    ensures { λ r. ⌜ r ≡ answer length (clocksFrom [] (rowsIn (tableOf n (now (words .entry))))) ⌝ }
+    ensures { λ _. ⌜ Assigned (clocksFrom [] (rowsIn (tableOf n (now (words .entry))))) (now (kept .entry)) (now (kept .exit)) ⌝ }
+{
+    let mut f: u32 = 0;
+    while f < n {
+        let row = row_at(words, f);
+        let verdict = rule(row.kind, row.one, row.two, row.three, kept);
+        match verdict {
+            Verdict::Is(k) => store(kept, f, k),
+            Verdict::Refused(number) => return refusal(number, f),
+        }
+        f += 1;
+    }
+    success(n)
+}
+
+fn refusal(number: u32, flow: u32) -> Answer
+    ensures { λ r. ⌜ r ≡ record { number = number; flow = flow; tick = 0; count = 0 } ⌝ }
+{
+    Answer {
+        number,
+        flow,
+        tick: 0,
+        count: 0,
+    }
+}
+
+fn success(count: u32) -> Answer
+    ensures { λ r. ⌜ r ≡ record { number = 0; flow = 0; tick = 0; count = count } ⌝ }
+{
+    Answer {
+        number: 0,
+        flow: 0,
+        tick: 0,
+        count,
+    }
+}
+
+// Where a search ended: at a flow, or nowhere.
+enum Found {
+    At(u32),
+    Nothing,
+}
+
+// Whether row f, where it is a register, has a source with its beat's clock.
+fn source_fits(words: &[u32], kept: &[u32], f: u32) -> bool
+    ensures { λ r. ⌜ r ≡ sourceIn (now (kept .entry)) (four (drop (4 * f) (now (words .entry)))) ⌝ }
+{
+    let row = row_at(words, f);
+    if row.kind != 7 {
+        return true;
+    }
+    same(clock_at(kept, row.three), clock_at(kept, row.two))
+}
+
+// The lowest register whose source has another clock than its beat.
+fn bad_register(n: u32, words: &[u32], kept: &[u32]) -> Found
+    requires { ⌜ (n ≤ 64) × (tableOf n (now words) ≡ good (rowsIn (tableOf n (now words)))) ⌝ }
+    ensures { λ r. ⌜ place r ≡ badRegister (fitsIn (now (kept .entry))) 0 (rowsIn (tableOf n (now (words .entry)))) ⌝ }
+{
+    let mut f: u32 = 0;
+    while f < n {
+        if !source_fits(words, kept, f) {
+            return Found::At(f);
+        }
+        f += 1;
+    }
+    Found::Nothing
+}
+
+// The clocks of n rows, and then the registers' sources.
+fn judge(n: u32, words: &[u32], kept: &mut [u32]) -> Answer
+    requires { ⌜ (n ≤ 64) × (7 * n ≤ length (now kept)) × (tableOf n (now words) ≡ good (rowsIn (tableOf n (now words)))) ⌝ }
+    ensures { λ r. ⌜ r ≡ answer length (clocksOf (rowsIn (tableOf n (now (words .entry))))) ⌝ }
+    ensures { λ _. ⌜ Assigned (clocksOf (rowsIn (tableOf n (now (words .entry))))) (now (kept .entry)) (now (kept .exit)) ⌝ }
+{
+    let answer = assign(n, words, kept);
+    if answer.number != 0 {
+        return answer;
+    }
+    let found = bad_register(n, words, kept);
+    match found {
+        Found::At(f) => refusal(DIFFER, f),
+        Found::Nothing => answer,
+    }
+}
+
+// Copies the first n words.
+fn copy(n: usize, from: &[u32], to: &mut [u32])
+    requires { ⌜ (n ≤ length (now from)) × (n ≤ length (now to)) ⌝ }
+    ensures { λ _. ⌜ now (to .exit) ≡ take n (now (from .entry)) ++ drop n (now (to .entry)) ⌝ }
+{
+    let mut i: usize = 0;
+    while i < n {
+        to[i] = from[i];
+        i += 1;
+    }
+}
+
+// The clocks of a table in plain form: seven words a flow, or the first refusal, which leaves the buffer as it was.
+pub fn check(count: u32, words: &[u32], clocks: &mut [u32]) -> Answer
+    ensures { λ r. ⌜ r ≡ checkAnswer count (now (words .entry)) (length (now (clocks .entry))) ⌝ }
+    ensures { λ _. ⌜ now (clocks .exit) ≡ clocksAfter count (now (words .entry)) (now (clocks .entry)) ⌝ }
+{
+    let found = table::examine(count, words);
+    if found.number != 0 {
+        return found;
+    }
+    let size = 7 * (count as usize);
+    if clocks.len() < size {
+        return refusal(NO_ROOM, 0);
+    }
+    let mut kept = [0u32; 448];
+    let answer = judge(count, words, &mut kept);
+    if answer.number != 0 {
+        return answer;
+    }
+    copy(size, &kept, clocks);
+    answer
+}

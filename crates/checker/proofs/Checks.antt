@@ -1,0 +1,147 @@
+-- The answers of the check's parts, joined to the answer of the whole. Assumes nothing.
+use mathlib.Core.Path.{_≡_, refl, sym, _∙_, ap, ap₂, subst}
+use Prim.Native.Nat.{ℕ, suc, _+_, _*_, _≤_, _<_}
+use native.Mathlib.Omega.{arith}
+use mathlib.Core.Bool.{Bool, true, false, cond}
+use mathlib.Core.List.{List, [], _∷_, _++_}
+use mathlib.Core.Option.{Option, none, some}
+use lib.ListN.{length, drop, take, length-append}
+use lib.Seq.{take-at}
+use lib.Dec.{leb}
+use borrow.Author.Tests.{le-leb, lt-leb}
+use Rattle.table.specs.declared.Answer.{Answer}
+use Rattle.table.specs.Answers.{Refusal, noRoom, badCount, cutShort, unknownKind, outOfRange, misplaced, badFilling, clocksDiffer, beyondLimits, notPlain, tooManyTicks, wrongLog, shortTrace, clash, Result, good, refused, unless, then, number, answer, leaves, over}
+use Rattle.table.specs.Rows.{Row, input, constant, combine, register, faster, slower, later, head, tail, sample, merge, onRegister, badRegister}
+use Rattle.table.specs.Plain.{tableOf, plainAnswer}
+use Rattle.table.proofs.Tests.{not-good, good-inj, then-good}
+use Rattle.table.proofs.Tables.{Table, table-made, Fits, AllFit}
+use Rattle.checker.specs.Clocks.{Clock}
+use Rattle.checker.specs.Rules.{clockOf, clockAt, clocksFrom, clocksOf, sourced, sourceFits}
+use Rattle.checker.specs.Answers.{clocksWords, checking, checkAnswer, clocksAfter}
+use Rattle.checker.specs.declared.Found.{Found}
+use Rattle.checker.specs.declared.Found.the-variants.{At, Nothing}
+use Rattle.checker.specs.Kept as Kept
+use Rattle.checker.proofs.Agree.{few, same-kept}
+use Rattle.checker.proofs.Folds.{seven-at, words-length}
+
+-- no refusal has the number 0
+no-zero : (why : Refusal) → number why ≡ 0 → ⊥
+no-zero noRoom e = omega arith
+no-zero badCount e = omega arith
+no-zero cutShort e = omega arith
+no-zero unknownKind e = omega arith
+no-zero outOfRange e = omega arith
+no-zero misplaced e = omega arith
+no-zero badFilling e = omega arith
+no-zero clocksDiffer e = omega arith
+no-zero beyondLimits e = omega arith
+no-zero notPlain e = omega arith
+no-zero tooManyTicks e = omega arith
+no-zero wrongLog e = omega arith
+no-zero shortTrace e = omega arith
+no-zero clash e = omega arith
+
+-- what an answer's number says of the result
+module _ {A : Type 0} (size : A → ℕ) where
+  pub answer-zero : (r : Result A) → answer size r .number ≡ 0 → (a : A) × (r ≡ good a)
+  answer-zero (good a) e = (a, refl)
+  answer-zero (refused why f) e = absurd (no-zero why e)
+
+  pub answer-other : (r : Result A) → (answer size r .number ≡ 0 → ⊥) → (why : Refusal) × (f : ℕ) × (r ≡ refused why f)
+  answer-other (good a) e = absurd (e refl)
+  answer-other (refused why f) e = (why, f, refl)
+
+-- ---- the registers' sources, over clocks and over words
+
+register-same : (t u : ℕ → ℕ → Bool) (m f : ℕ) (r : Row) → Fits m f r → f ≤ m → ((b a : ℕ) → b < m → a < m → t b a ≡ u b a) → onRegister t r ≡ onRegister u r
+register-same t u m f (input n p) h l e = refl
+register-same t u m f (constant v n p) h l e = refl
+register-same t u m f (combine op a b) h l e = refl
+register-same t u m f (register v b a) h l e = e b a (omega (arith, h .0)) (h .1)
+register-same t u m f (faster a k g) h l e = refl
+register-same t u m f (slower a k) h l e = refl
+register-same t u m f (later a d) h l e = refl
+register-same t u m f (head a v s) h l e = refl
+register-same t u m f (tail a) h l e = refl
+register-same t u m f (sample x a c) h l e = refl
+register-same t u m f (merge c a b) h l e = refl
+
+bad-same : (t u : ℕ → ℕ → Bool) (m f : ℕ) (rows : List Row) → AllFit m f rows → f + length rows ≤ m → ((b a : ℕ) → b < m → a < m → t b a ≡ u b a)
+    → badRegister t f rows ≡ badRegister u f rows
+unfolding badRegister
+bad-same t u m f [] h l e = refl
+bad-same t u m f (r ∷ rs) h l e =
+    ap₂ (λ (x : Bool) (y : Option ℕ). cond x y (some f)) (register-same t u m f r (h .0) (omega arith) e) (bad-same t u m (suc f) rs (h .1) (omega arith) e)
+
+clocks-length : (js : List Clock) (rows : List Row) (ks : List Clock) → clocksFrom js rows ≡ good ks → length ks ≡ length js + length rows
+unfolding clocksFrom
+clocks-length js [] ks e = omega (arith, ap length (good-inj e))
+clocks-length js (r ∷ rs) ks e =
+    let x = then-good (clockOf (clockAt js) (length js) r) (λ k. clocksFrom (js ++ (k ∷ [])) rs) ks e in
+    omega (arith, clocks-length (js ++ (x .0 ∷ [])) rs ks (x .2), length-append js (x .0 ∷ []))
+
+module _ (m : ℕ) (words : List ℕ) (rows : List Row) (t : Table m words rows) (ks : List Clock) (e : clocksFrom [] rows ≡ good ks) (old buffer : List ℕ) (held : buffer ≡ over (clocksWords ks) old) (within : Kept.Limited ks) where
+  fits-same : (b a : ℕ) → b < m → a < m → Kept.fitsIn buffer b a ≡ sourceFits ks b a
+  fits-same b a p q =
+      let n : length ks ≡ m = omega (arith, clocks-length [] rows ks e, t .size) in
+      let x : a < length ks = omega arith in
+      let y : b < length ks = omega arith in
+      ap₂ Kept.same
+      (ap (λ (l : List ℕ). Kept.seven (drop (7 * a) l)) held ∙ seven-at ks (drop (length (clocksWords ks)) old) a x)
+      (ap (λ (l : List ℕ). Kept.seven (drop (7 * b) l)) held ∙ seven-at ks (drop (length (clocksWords ks)) old) b y)
+      ∙ sym (same-kept (clockAt ks a) (clockAt ks b) (few (clockAt ks a) (within a x)))
+
+  pub sourced-by : (o : Option ℕ) → o ≡ badRegister (Kept.fitsIn buffer) 0 rows → clocksOf rows ≡ sourced ks o
+  unfolding clocksOf
+  sourced-by o p = rw (e, p, bad-same (Kept.fitsIn buffer) (sourceFits ks) m 0 rows (t .fits) (omega (arith, t .size)) fits-same)
+
+-- ---- the whole
+
+pub clocks-refused : (rows : List Row) (why : Refusal) (f : ℕ) → clocksFrom [] rows ≡ refused why f → clocksOf rows ≡ refused why f
+unfolding clocksOf
+clocks-refused rows why f e = rw e
+
+pub rows-good : (m : ℕ) (words : List ℕ) (rows : List Row) → tableOf m words ≡ good rows → tableOf m words ≡ good (Kept.rowsIn (tableOf m words))
+rows-good m words rows e = rw e
+
+pub check-table : (m : ℕ) (words : List ℕ) (room : ℕ) (why : Refusal) (f : ℕ) → tableOf m words ≡ refused why f → checking m words room ≡ refused why f
+unfolding checking
+check-table m words room why f e = rw e
+
+pub check-room : (m : ℕ) (words : List ℕ) (room : ℕ) (rows : List Row) → tableOf m words ≡ good rows → room < 7 * m → checking m words room ≡ refused noRoom 0
+unfolding checking
+check-room m words room rows e l = rw (e, lt-leb (7 * m) room l)
+
+pub check-clocks : (m : ℕ) (words : List ℕ) (room : ℕ) → tableOf m words ≡ good (Kept.rowsIn (tableOf m words)) → 7 * m ≤ room
+    → checking m words room ≡ clocksOf (Kept.rowsIn (tableOf m words))
+unfolding checking
+check-clocks m words room e l = go (tableOf m words) e
+  where
+    go : (r : Result (List Row)) → r ≡ good (Kept.rowsIn r) → then r (λ rows. unless (leb (7 * m) room) noRoom 0 (clocksOf rows)) ≡ clocksOf (Kept.rowsIn r)
+    go (good rows) x = rw (le-leb (7 * m) room l)
+    go (refused why f) x = not-good x
+
+sourced-good : (ks js : List Clock) (o : Option ℕ) → sourced ks o ≡ good js → ks ≡ js
+sourced-good ks js none e = good-inj e
+sourced-good ks js (some f) e = not-good e
+
+pub clocks-found : (rows : List Row) (ks : List Clock) → clocksOf rows ≡ good ks → clocksFrom [] rows ≡ good ks
+unfolding clocksOf
+clocks-found rows ks e =
+    let x = then-good (clocksFrom [] rows) (λ js. sourced js (badRegister (sourceFits js) 0 rows)) ks e in
+    x .1 ∙ ap good (sourced-good (x .0) ks (badRegister (sourceFits (x .0)) 0 rows) (x .2))
+
+pub all-clocks : (rows : List Row) (ks : List Clock) → clocksOf rows ≡ good ks → length ks ≡ length rows
+all-clocks rows ks e = omega (arith, clocks-length [] rows ks (clocks-found rows ks e))
+
+-- a refusal leaves the buffer
+pub whole-refused : (m : ℕ) (words old : List ℕ) (why : Refusal) (f : ℕ) → checking m words (length old) ≡ refused why f
+    → (_≡_ {A = Answer} (record { number = number why; flow = f; tick = 0; count = 0 }) (checkAnswer m words (length old))) × (old ≡ clocksAfter m words old)
+whole-refused m words old why f e = (rw e, rw e)
+
+-- the words that were copied
+pub whole-copied : (m : ℕ) (words old zeros buffer new : List ℕ) (rows : List Row) (ks : List Clock) → Table m words rows → clocksOf rows ≡ good ks
+    → checking m words (length old) ≡ clocksOf rows → buffer ≡ over (clocksWords ks) zeros → new ≡ take (7 * m) buffer ++ drop (7 * m) old → new ≡ clocksAfter m words old
+whole-copied m words old zeros buffer new rows ks t e w held copied =
+    let n : length (clocksWords ks) ≡ 7 * m = omega (arith, words-length ks, all-clocks rows ks e, t .size) in
+    rw (w, e) (copied ∙ ap₂ _++_ (ap (take (7 * m)) held ∙ take-at (clocksWords ks) (drop (length (clocksWords ks)) zeros) (7 * m) n) (ap (λ (i : ℕ). drop i old) (sym n)))

@@ -1,0 +1,119 @@
+-- `checker::check` meets its contract. Assumes nothing.
+use mathlib.Core.List.{List}
+use mathlib.Core.Path.{_≡_, sym, _∙_, ap}
+use native.Mathlib.Omega.{arith}
+use lib.ListN.{length}
+use denote.Ref.{now}
+use borrow.Author.Needs.{needs}
+use Rattle.checker.specs.Rules.{clocksOf}
+use Rattle.table.proofs.Tables.{table-made}
+use Rattle.table.specs.Answers.{good, answer, noRoom}
+use Rattle.table.specs.Rows.{Row}
+use Rattle.table.specs.Plain.{tableOf}
+use Rattle.checker.specs.Kept.{rowsIn}
+use Rattle.checker.proofs.Checks.{answer-zero, answer-other, rows-good, check-table, check-room, check-clocks, whole-refused, whole-copied}
+use Rattle.checker.proofs.check.Statement.{statement}
+use Rattle.checker.proofs.check.Tie as tie
+
+examine-requires : tie.Need-examine-requires
+examine-requires c κs = search needs
+
+returns : tie.Need-returns
+returns c = let a = c .before .before .before .before .before .args in
+    let ws = now (a .words) in
+    let old = now (a .clocks) in
+    let x = c .before .before .examine in
+    let o = answer-other length (tableOf (a .count) ws) (λ z. c .if1 .taken (ap (λ w. w .number) (x .ensures) ∙ z)) in
+    let e = whole-refused (a .count) ws old (o .0) (o .1) (check-table (a .count) ws (length old) (o .0) (o .1) (o .2)) in
+    (x .ensures ∙ ap (answer length) (o .2) ∙ e .0, e .1)
+
+mul-size : tie.Need-mul-size
+mul-size c = search needs
+
+refusal-requires : tie.Need-refusal-requires
+refusal-requires c κs = search needs
+
+returns-2 : tie.Need-returns-2
+returns-2 c = let a = c .before .before .before .before .before .before .before .args in
+    let ws = now (a .words) in
+    let old = now (a .clocks) in
+    let x = c .before .before .before .before .examine in
+    let z = answer-zero length (tableOf (a .count) ws) (ap (λ w. w .number) (sym (x .ensures)) ∙ c .before .before .if1 .left) in
+    let g : tableOf (a .count) ws ≡ good (rowsIn (tableOf (a .count) ws)) = rows-good (a .count) ws (z .0) (z .1) in
+    let t = table-made (a .count) ws (rowsIn (tableOf (a .count) ws)) g in
+    let e = whole-refused (a .count) ws old noRoom 0 (check-room (a .count) ws (length old) (z .0) (z .1) (c .before .if2 .taken)) in
+    (c .refusal .ensures ∙ e .0, e .1)
+
+slice-aggregate-judge : tie.Need-slice-aggregate-judge
+slice-aggregate-judge c = search needs
+
+judge-requires : tie.Need-judge-requires
+judge-requires c κs = let a = c .before .before .before .before .before .before .before .args in
+    let ws = now (a .words) in
+    let old = now (a .clocks) in
+    let x = c .before .before .before .before .examine in
+    let z = answer-zero length (tableOf (a .count) ws) (ap (λ w. w .number) (sym (x .ensures)) ∙ c .before .before .if1 .left) in
+    let g : tableOf (a .count) ws ≡ good (rowsIn (tableOf (a .count) ws)) = rows-good (a .count) ws (z .0) (z .1) in
+    let t = table-made (a .count) ws (rowsIn (tableOf (a .count) ws)) g in
+    (t .few, omega (arith, t .few), g)
+
+returns-3 : tie.Need-returns-3
+returns-3 c = let a = c .before .before .before .before .before .before .before .before .before .before .before .args in
+    let ws = now (a .words) in
+    let old = now (a .clocks) in
+    let x = c .before .before .before .before .before .before .before .before .examine in
+    let z = answer-zero length (tableOf (a .count) ws) (ap (λ w. w .number) (sym (x .ensures)) ∙ c .before .before .before .before .before .before .if1 .left) in
+    let g : tableOf (a .count) ws ≡ good (rowsIn (tableOf (a .count) ws)) = rows-good (a .count) ws (z .0) (z .1) in
+    let t = table-made (a .count) ws (rowsIn (tableOf (a .count) ws)) g in
+    let j = c .before .before .before .judge in
+    let rows : List Row = rowsIn (tableOf (a .count) ws) in
+    let o = answer-other length (clocksOf rows) (λ z. c .if3 .taken (ap (λ w. w .number) (j .ensures .0) ∙ z)) in
+    let e = whole-refused (a .count) ws old (o .0) (o .1) (check-clocks (a .count) ws (length old) g (c .before .before .before .before .before .if2 .left) ∙ o .2) in
+    (j .ensures .0 ∙ ap (answer length) (o .2) ∙ e .0, e .1)
+
+slice-aggregate-copy : tie.Need-slice-aggregate-copy
+slice-aggregate-copy c = search needs
+
+copy-requires : tie.Need-copy-requires
+copy-requires c κs = let a = c .before .before .before .before .before .before .before .before .before .before .before .before .before .args in
+    let ws = now (a .words) in
+    let old = now (a .clocks) in
+    let x = c .before .before .before .before .before .before .before .before .before .before .examine in
+    let z = answer-zero length (tableOf (a .count) ws) (ap (λ w. w .number) (sym (x .ensures)) ∙ c .before .before .before .before .before .before .before .before .if1 .left) in
+    let g : tableOf (a .count) ws ≡ good (rowsIn (tableOf (a .count) ws)) = rows-good (a .count) ws (z .0) (z .1) in
+    let t = table-made (a .count) ws (rowsIn (tableOf (a .count) ws)) g in
+    (omega (arith, t .few, c .before .before .before .before .before .judge .kept .1 .1 .0), c .before .before .before .before .before .before .before .if2 .left)
+
+same-length : tie.Need-same-length
+same-length c = search needs
+
+returns-4 : tie.Need-returns-4
+returns-4 c = let a = c .before .before .before .before .before .before .before .before .before .before .before .before .before .before .before .before .args in
+    let ws = now (a .words) in
+    let old = now (a .clocks) in
+    let x = c .before .before .before .before .before .before .before .before .before .before .before .before .before .examine in
+    let z = answer-zero length (tableOf (a .count) ws) (ap (λ w. w .number) (sym (x .ensures)) ∙ c .before .before .before .before .before .before .before .before .before .before .before .if1 .left) in
+    let g : tableOf (a .count) ws ≡ good (rowsIn (tableOf (a .count) ws)) = rows-good (a .count) ws (z .0) (z .1) in
+    let t = table-made (a .count) ws (rowsIn (tableOf (a .count) ws)) g in
+    let j = c .before .before .before .before .before .before .before .before .judge in
+    let rows : List Row = rowsIn (tableOf (a .count) ws) in
+    let y = answer-zero length (clocksOf rows) (ap (λ w. w .number) (sym (j .ensures .0)) ∙ c .before .before .before .before .before .if3 .left) in
+    let w = check-clocks (a .count) ws (length old) g (c .before .before .before .before .before .before .before .before .before .before .if2 .left) in
+    (j .ensures .0 ∙ ap (answer length) (sym w), whole-copied (a .count) ws old _ _ _ rows (y .0) t (y .1) w (j .ensures .1 (y .0) (y .1) .0) (c .before .before .copy .ensures))
+
+pub check-spec : {M : Type 1} → statement M
+check-spec =
+    tie.close
+    (tie.spec
+    examine-requires
+    returns
+    mul-size
+    refusal-requires
+    returns-2
+    slice-aggregate-judge
+    judge-requires
+    returns-3
+    slice-aggregate-copy
+    copy-requires
+    same-length
+    returns-4)

@@ -1,0 +1,73 @@
+-- `checker::clock_at` meets its contract. Assumes nothing.
+use Prim.Native.Nat.{_*_}
+use denote.Ref.{now}
+use borrow.Author.Needs.{needs}
+use Rattle.checker.proofs.Laws.{seven-read}
+use Rattle.checker.proofs.clock_at.Statement.{statement}
+use Rattle.checker.proofs.clock_at.Tie as tie
+
+mul-at : tie.Need-mul-at
+mul-at c = search needs
+
+word-at-requires : tie.Need-word-at-requires
+word-at-requires c κs = search needs
+
+add-word-at : tie.Need-add-word-at
+add-word-at c = search needs
+
+word-at-requires-2 : tie.Need-word-at-requires-2
+word-at-requires-2 c κs = search needs
+
+add-word-at-2 : tie.Need-add-word-at-2
+add-word-at-2 c = search needs
+
+word-at-requires-3 : tie.Need-word-at-requires-3
+word-at-requires-3 c κs = search needs
+
+add-word-at-3 : tie.Need-add-word-at-3
+add-word-at-3 c = search needs
+
+word-at-requires-4 : tie.Need-word-at-requires-4
+word-at-requires-4 c κs = search needs
+
+add-word-at-4 : tie.Need-add-word-at-4
+add-word-at-4 c = search needs
+
+word-at-requires-5 : tie.Need-word-at-requires-5
+word-at-requires-5 c κs = search needs
+
+add-word-at-5 : tie.Need-add-word-at-5
+add-word-at-5 c = search needs
+
+word-at-requires-6 : tie.Need-word-at-requires-6
+word-at-requires-6 c κs = search needs
+
+add-word-at-6 : tie.Need-add-word-at-6
+add-word-at-6 c = search needs
+
+word-at-requires-7 : tie.Need-word-at-requires-7
+word-at-requires-7 c κs = search needs
+
+returns : tie.Need-returns
+returns c = rw (c .word-at7 .ensures, c .before .word-at6 .ensures, c .before .before .word-at5 .ensures, c .before .before .before .word-at4 .ensures, c .before .before .before .before .word-at3 .ensures, c .before .before .before .before .before .word-at2 .ensures, c .before .before .before .before .before .before .word-at .ensures)
+    (seven-read (now (c .before .before .before .before .before .before .before .before .args .kept)) (7 * c .before .before .before .before .before .before .before .before .args .f))
+
+pub clock-at-spec : {M : Type 1} → statement M
+clock-at-spec =
+    tie.close
+    (tie.spec
+    mul-at
+    word-at-requires
+    add-word-at
+    word-at-requires-2
+    add-word-at-2
+    word-at-requires-3
+    add-word-at-3
+    word-at-requires-4
+    add-word-at-4
+    word-at-requires-5
+    add-word-at-5
+    word-at-requires-6
+    add-word-at-6
+    word-at-requires-7
+    returns)

@@ -1,0 +1,49 @@
+-- `checker::row_at` meets its contract. Assumes nothing.
+use Prim.Native.Nat.{_*_}
+use denote.Ref.{now}
+use borrow.Author.Needs.{needs}
+use Rattle.checker.proofs.Laws.{four-read}
+use Rattle.checker.proofs.row_at.Statement.{statement}
+use Rattle.checker.proofs.row_at.Tie as tie
+
+mul-at : tie.Need-mul-at
+mul-at c = search needs
+
+word-at-requires : tie.Need-word-at-requires
+word-at-requires c κs = search needs
+
+add-word-at : tie.Need-add-word-at
+add-word-at c = search needs
+
+word-at-requires-2 : tie.Need-word-at-requires-2
+word-at-requires-2 c κs = search needs
+
+add-word-at-2 : tie.Need-add-word-at-2
+add-word-at-2 c = search needs
+
+word-at-requires-3 : tie.Need-word-at-requires-3
+word-at-requires-3 c κs = search needs
+
+add-word-at-3 : tie.Need-add-word-at-3
+add-word-at-3 c = search needs
+
+word-at-requires-4 : tie.Need-word-at-requires-4
+word-at-requires-4 c κs = search needs
+
+returns : tie.Need-returns
+returns c = rw (c .word-at4 .ensures, c .before .word-at3 .ensures, c .before .before .word-at2 .ensures, c .before .before .before .word-at .ensures)
+    (four-read (now (c .before .before .before .before .before .args .words)) (4 * c .before .before .before .before .before .args .f))
+
+pub row-at-spec : {M : Type 1} → statement M
+row-at-spec =
+    tie.close
+    (tie.spec
+    mul-at
+    word-at-requires
+    add-word-at
+    word-at-requires-2
+    add-word-at-2
+    word-at-requires-3
+    add-word-at-3
+    word-at-requires-4
+    returns)

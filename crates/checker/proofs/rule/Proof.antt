@@ -1,0 +1,189 @@
+-- `checker::rule` meets its contract. Assumes nothing.
+use native.Mathlib.Omega.{arith}
+use borrow.Author.Tests.{ne-eqb, le-leb, lt-leb}
+use borrow.Author.Needs.{needs}
+use Rattle.checker.specs.Kept.{rule}
+use Rattle.checker.proofs.rule.Statement.{statement}
+use Rattle.checker.proofs.rule.Tie as tie
+
+every-requires : tie.Need-every-requires
+every-requires c κs = search needs
+
+every-requires-2 : tie.Need-every-requires-2
+every-requires-2 c κs = search needs
+
+clock-at-requires : tie.Need-clock-at-requires
+clock-at-requires c κs = search needs
+
+clock-at-requires-2 : tie.Need-clock-at-requires-2
+clock-at-requires-2 c κs = search needs
+
+faster-requires : tie.Need-faster-requires
+faster-requires c κs = search needs
+
+clock-at-requires-3 : tie.Need-clock-at-requires-3
+clock-at-requires-3 c κs = search needs
+
+slower-requires : tie.Need-slower-requires
+slower-requires c κs = search needs
+
+clock-at-requires-4 : tie.Need-clock-at-requires-4
+clock-at-requires-4 c κs = search needs
+
+later-requires : tie.Need-later-requires
+later-requires c κs = search needs
+
+clock-at-requires-5 : tie.Need-clock-at-requires-5
+clock-at-requires-5 c κs = search needs
+
+head-requires : tie.Need-head-requires
+head-requires c κs = search needs
+
+clock-at-requires-6 : tie.Need-clock-at-requires-6
+clock-at-requires-6 c κs = search needs
+
+tail-requires : tie.Need-tail-requires
+tail-requires c κs = search needs
+
+clock-at-requires-7 : tie.Need-clock-at-requires-7
+clock-at-requires-7 c κs = search needs
+
+clock-at-requires-8 : tie.Need-clock-at-requires-8
+clock-at-requires-8 c κs = search needs
+
+condition-requires : tie.Need-condition-requires
+condition-requires c κs = search needs
+
+sampled-requires : tie.Need-sampled-requires
+sampled-requires c κs = search needs
+
+clock-at-requires-9 : tie.Need-clock-at-requires-9
+clock-at-requires-9 c κs = search needs
+
+clock-at-requires-10 : tie.Need-clock-at-requires-10
+clock-at-requires-10 c κs = search needs
+
+condition-requires-2 : tie.Need-condition-requires-2
+condition-requires-2 c κs = search needs
+
+sampled-requires-2 : tie.Need-sampled-requires-2
+sampled-requires-2 c κs = search needs
+
+clock-at-requires-11 : tie.Need-clock-at-requires-11
+clock-at-requires-11 c κs = search needs
+
+clock-at-requires-12 : tie.Need-clock-at-requires-12
+clock-at-requires-12 c κs = search needs
+
+clock-at-requires-13 : tie.Need-clock-at-requires-13
+clock-at-requires-13 c κs = search needs
+
+merged-requires : tie.Need-merged-requires
+merged-requires c κs = search needs
+
+clock-at-requires-14 : tie.Need-clock-at-requires-14
+clock-at-requires-14 c κs = search needs
+
+clock-at-requires-15 : tie.Need-clock-at-requires-15
+clock-at-requires-15 c κs = search needs
+
+combined-requires : tie.Need-combined-requires
+combined-requires c κs = search needs
+
+returns : tie.Need-returns
+unfolding rule
+returns c = rw (c .before .match .keys1, c .every .ensures)
+
+returns-2 : tie.Need-returns-2
+unfolding rule
+returns-2 c = rw (c .before .match .keys2, c .every2 .ensures)
+
+returns-3 : tie.Need-returns-3
+unfolding rule
+returns-3 c = rw (c .before .match .keys3, c .clock-at .ensures)
+
+returns-4 : tie.Need-returns-4
+unfolding rule
+returns-4 c = rw (c .before .before .match .keys4, c .faster .ensures, c .before .clock-at2 .ensures)
+
+returns-5 : tie.Need-returns-5
+unfolding rule
+returns-5 c = rw (c .before .before .match .keys5, c .slower .ensures, c .before .clock-at3 .ensures)
+
+returns-6 : tie.Need-returns-6
+unfolding rule
+returns-6 c = rw (c .before .before .match .keys6, c .later .ensures, c .before .clock-at4 .ensures)
+
+returns-7 : tie.Need-returns-7
+unfolding rule
+returns-7 c = rw (c .before .before .match .keys7, c .head .ensures, c .before .clock-at5 .ensures)
+
+returns-8 : tie.Need-returns-8
+unfolding rule
+returns-8 c = rw (c .before .before .match .keys8, c .tail .ensures, c .before .clock-at6 .ensures)
+
+returns-9 : tie.Need-returns-9
+unfolding rule
+returns-9 c = rw (c .before .before .before .before .match .keys9, c .sampled .ensures, c .before .condition .ensures, c .before .before .clock-at8 .ensures, c .before .before .before .clock-at7 .ensures)
+
+returns-10 : tie.Need-returns-10
+unfolding rule
+returns-10 c = rw (c .before .before .before .before .match .keys10, c .sampled2 .ensures, c .before .condition2 .ensures, c .before .before .clock-at10 .ensures, c .before .before .before .clock-at9 .ensures)
+
+returns-11 : tie.Need-returns-11
+unfolding rule
+returns-11 c = rw (c .before .before .before .before .match .keys11, c .merged .ensures, c .before .clock-at13 .ensures, c .before .before .clock-at12 .ensures, c .before .before .before .clock-at11 .ensures)
+
+returns-12 : tie.Need-returns-12
+unfolding rule
+returns-12 c = rw (ne-eqb _ _ (c .before .before .before .before .match .rest .0 .0 .0 .0 .0 .0 .0 .0 .0 .0 .1), ne-eqb _ _ (c .before .before .before .before .match .rest .0 .0 .0 .0 .0 .0 .0 .0 .0 .1), le-leb (c .before .before .before .before .before .before .args .kind) 6 (omega arith), c .combined .ensures, c .before .clock-at15 .ensures, c .before .before .clock-at14 .ensures)
+
+returns-13 : tie.Need-returns-13
+unfolding rule
+returns-13 c = rw (ne-eqb _ _ (c .before .match .rest .0 .0 .0 .0 .0 .0 .0 .0 .0 .0 .1), ne-eqb _ _ (c .before .match .rest .0 .0 .0 .0 .0 .0 .0 .0 .0 .1), lt-leb (c .before .before .before .args .kind) 6 (omega arith), ne-eqb _ _ (c .before .match .rest .0 .0 .0 .0 .0 .0 .0 .0 .1), ne-eqb _ _ (c .before .match .rest .0 .0 .0 .0 .0 .0 .0 .1), ne-eqb _ _ (c .before .match .rest .0 .0 .0 .0 .0 .0 .1), ne-eqb _ _ (c .before .match .rest .0 .0 .0 .0 .0 .1), ne-eqb _ _ (c .before .match .rest .0 .0 .0 .0 .1), ne-eqb _ _ (c .before .match .rest .0 .0 .0 .1), ne-eqb _ _ (c .before .match .rest .0 .0 .1), ne-eqb _ _ (c .before .match .rest .0 .1), ne-eqb _ _ (c .before .match .rest .1))
+
+pub rule-spec : {M : Type 1} → statement M
+rule-spec =
+    tie.close
+    (tie.spec
+    every-requires
+    every-requires-2
+    clock-at-requires
+    clock-at-requires-2
+    faster-requires
+    clock-at-requires-3
+    slower-requires
+    clock-at-requires-4
+    later-requires
+    clock-at-requires-5
+    head-requires
+    clock-at-requires-6
+    tail-requires
+    clock-at-requires-7
+    clock-at-requires-8
+    condition-requires
+    sampled-requires
+    clock-at-requires-9
+    clock-at-requires-10
+    condition-requires-2
+    sampled-requires-2
+    clock-at-requires-11
+    clock-at-requires-12
+    clock-at-requires-13
+    merged-requires
+    clock-at-requires-14
+    clock-at-requires-15
+    combined-requires
+    returns
+    returns-2
+    returns-3
+    returns-4
+    returns-5
+    returns-6
+    returns-7
+    returns-8
+    returns-9
+    returns-10
+    returns-11
+    returns-12
+    returns-13)

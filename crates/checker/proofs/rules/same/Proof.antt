@@ -1,0 +1,33 @@
+-- `checker::rules::same` meets its contract. Assumes nothing.
+use borrow.Author.Tests.{eq-eqb, ne-eqb, not-true, not-false}
+use borrow.Author.Needs.{needs}
+use Rattle.checker.specs.Kept.{same}
+use Rattle.checker.proofs.rules.same.Statement.{statement}
+use Rattle.checker.proofs.rules.same.Tie as tie
+
+same-shape-requires : tie.Need-same-shape-requires
+same-shape-requires c κs = search needs
+
+returns : tie.Need-returns
+unfolding same
+returns c = rw (← c .before .same-shape .ensures, not-true (c .before .same-shape .result) (c .if1 .taken))
+
+returns-2 : tie.Need-returns-2
+unfolding same
+returns-2 c = rw (← c .before .before .before .before .same-shape .ensures, not-false (c .before .before .before .before .same-shape .result) (c .before .before .before .if1 .left), ne-eqb _ _ (c .if2 .taken))
+
+returns-3 : tie.Need-returns-3
+unfolding same
+returns-3 c = rw (← c .before .before .before .before .before .before .before .same-shape .ensures, not-false (c .before .before .before .before .before .before .before .same-shape .result) (c .before .before .before .before .before .before .if1 .left), eq-eqb _ _ (c .before .before .before .if2 .left), ne-eqb _ _ (c .if3 .taken))
+
+returns-4 : tie.Need-returns-4
+unfolding same
+returns-4 c = rw (← c .before .before .before .before .before .before .before .before .before .before .same-shape .ensures, not-false (c .before .before .before .before .before .before .before .before .before .before .same-shape .result) (c .before .before .before .before .before .before .before .before .before .if1 .left), eq-eqb _ _ (c .before .before .before .before .before .before .if2 .left), eq-eqb _ _ (c .before .before .before .if3 .left), ne-eqb _ _ (c .if4 .taken))
+
+returns-5 : tie.Need-returns-5
+unfolding same
+returns-5 c = rw (← c .before .before .before .before .before .before .before .before .before .before .before .before .same-shape .ensures, not-false (c .before .before .before .before .before .before .before .before .before .before .before .before .same-shape .result) (c .before .before .before .before .before .before .before .before .before .before .before .if1 .left), eq-eqb _ _ (c .before .before .before .before .before .before .before .before .if2 .left), eq-eqb _ _ (c .before .before .before .before .before .if3 .left), eq-eqb _ _ (c .before .before .if4 .left))
+
+pub same-spec : {M : Type 1} → statement M
+same-spec =
+    tie.close (tie.spec same-shape-requires returns returns-2 returns-3 returns-4 returns-5)

@@ -1,0 +1,20 @@
+-- `checker::rules::sampled` meets its contract. Assumes nothing.
+use borrow.Author.Tests.{not-true, not-false}
+use borrow.Author.Needs.{needs}
+use Rattle.checker.proofs.rules.sampled.Statement.{statement}
+use Rattle.checker.proofs.rules.sampled.Tie as tie
+
+same-requires : tie.Need-same-requires
+same-requires c κs = search needs
+
+returns : tie.Need-returns
+returns c = rw (← c .before .same .ensures, not-true (c .before .same .result) (c .if1 .taken))
+
+under-requires : tie.Need-under-requires
+under-requires c κs = search needs
+
+returns-2 : tie.Need-returns-2
+returns-2 c = rw (← c .before .before .same .ensures, not-false (c .before .before .same .result) (c .before .if1 .left), c .under .ensures)
+
+pub sampled-spec : {M : Type 1} → statement M
+sampled-spec = tie.close (tie.spec same-requires returns under-requires returns-2)

@@ -1,0 +1,5 @@
+mod Laying
+mod Decimal
+mod Lines
+mod Joined
+mod Texts

@@ -1,0 +1,214 @@
+// The listing of a packed table, as text.
+ghost use mathlib.Core.Path.{_≡_};
+ghost use mathlib.Core.List.{[], _∷_};
+ghost use Prim.Native.Nat.{_+_, _*_, _%_, _≤_};
+ghost use lib.ListN.{length, getD, drop};
+ghost use lib.Dec.{eqb};
+ghost use Rattle.lister.specs.Listing.{decimal, field, space, sign, refusalText, checked, listed, textAfter};
+ghost use Rattle.table.specs.Answers.{parts, answer, leaves};
+ghost use Rattle.checker.specs.Answers.{clocksWords};
+ghost use Rattle.lister.specs.Words.{Wrote, wordText, wordsText, countedText, sevenText, sevensText, tableText};
+use table::Answer;
+use table::Reading;
+
+// Room for every listing: six bytes, and 64 lines of at most 30.
+pub const LONGEST: usize = 1926;
+
+// What the listing answers: how many bytes it wrote, or that the text has too little room.
+pub enum Listed {
+    Bytes(usize),
+    NoRoom,
+}
+
+// Writes a byte, and answers the place after it.
+fn put(text: &mut [u8], at: usize, byte: u8) -> usize
+    requires { ⌜ at + 1 ≤ length (now text) ⌝ }
+    ensures { λ r. ⌜ Wrote at (byte ∷ []) (now (text .entry)) r (now (text .exit)) ⌝ }
+{
+    text[at] = byte;
+    at + 1
+}
+
+// Writes two letters and a space.
+fn put_tag(text: &mut [u8], at: usize, first: u8, second: u8) -> usize
+    requires { ⌜ at + 3 ≤ length (now text) ⌝ }
+    ensures { λ r. ⌜ Wrote at (first ∷ second ∷ space ∷ []) (now (text .entry)) r (now (text .exit)) ⌝ }
+{
+    let next = put(text, at, first);
+    let last = put(text, next, second);
+    put(text, last, b' ')
+}
+
+// Writes a number in decimal.
+fn put_decimal(text: &mut [u8], at: usize, n: u32) -> usize
+    requires { ⌜ at + length (decimal n) ≤ length (now text) ⌝ }
+    ensures { λ r. ⌜ Wrote at (decimal n) (now (text .entry)) r (now (text .exit)) ⌝ }
+{
+    if n < 10 {
+        return put(text, at, 48 + (n as u8));
+    }
+    let next = put_decimal(text, at, n / 10);
+    put(text, next, 48 + ((n % 10) as u8))
+}
+
+// Writes a number and a space.
+fn put_field(text: &mut [u8], at: usize, n: u32) -> usize
+    requires { ⌜ at + length (field n) ≤ length (now text) ⌝ }
+    ensures { λ r. ⌜ Wrote at (field n) (now (text .entry)) r (now (text .exit)) ⌝ }
+{
+    let next = put_decimal(text, at, n);
+    put(text, next, b' ')
+}
+
+// The sign of a condition's word.
+fn sign(word: u32) -> u8
+    ensures { λ r. ⌜ r ≡ sign (eqb (word % 2) 1) ⌝ }
+{
+    if word % 2 == 1 { b'+' } else { b'-' }
+}
+
+// Writes a condition by its word.
+fn put_condition(text: &mut [u8], at: usize, word: u32) -> usize
+    requires { ⌜ at + length (wordText word) ≤ length (now text) ⌝ }
+    ensures { λ r. ⌜ Wrote at (wordText word) (now (text .entry)) r (now (text .exit)) ⌝ }
+{
+    let next = put(text, at, b'c');
+    let last = put_decimal(text, next, word / 2);
+    put(text, last, sign(word))
+}
+
+// The word at i, 0 past the end.
+fn word_at(s: &[u32], i: usize) -> u32
+    ensures { λ r. ⌜ r ≡ getD (now (s .entry)) i 0 ⌝ }
+{
+    if i < s.len() { s[i] } else { 0 }
+}
+
+// Writes n conditions, of which the words stand from a place on.
+fn put_words(text: &mut [u8], at: usize, words: &[u32], from: usize, n: u32) -> usize
+    requires { ⌜ (from ≤ 448) × (at + length (wordsText n (drop from (now words))) ≤ length (now text)) ⌝ }
+    ensures { λ r. ⌜ Wrote at (wordsText n (drop from (now (words .entry)))) (now (text .entry)) r (now (text .exit)) ⌝ }
+{
+    let mut next = at;
+    let mut i: u32 = 0;
+    while i < n {
+        let word = word_at(words, from + (i as usize));
+        next = put_condition(text, next, word);
+        i += 1;
+    }
+    next
+}
+
+// Writes n conditions, or a lone minus where there are none.
+fn put_conditions(text: &mut [u8], at: usize, words: &[u32], from: usize, n: u32) -> usize
+    requires { ⌜ (from ≤ 448) × (at + length (countedText n (drop from (now words))) ≤ length (now text)) ⌝ }
+    ensures { λ r. ⌜ Wrote at (countedText n (drop from (now (words .entry)))) (now (text .entry)) r (now (text .exit)) ⌝ }
+{
+    if n == 0 {
+        return put(text, at, b'-');
+    }
+    put_words(text, at, words, from, n)
+}
+
+// Writes the line of flow f.
+fn put_line(text: &mut [u8], at: usize, words: &[u32], f: u32) -> usize
+    requires { ⌜ (f ≤ 63) × (at + length (sevenText f (drop (7 * f) (now words))) ≤ length (now text)) ⌝ }
+    ensures { λ r. ⌜ Wrote at (sevenText f (drop (7 * f) (now (words .entry)))) (now (text .entry)) r (now (text .exit)) ⌝ }
+{
+    let from = 7 * (f as usize);
+    let period = word_at(words, from);
+    let phase = word_at(words, from + 1);
+    let n = word_at(words, from + 2);
+    let first = put_field(text, at, f);
+    let second = put_field(text, first, period);
+    let third = put_field(text, second, phase);
+    let last = put_conditions(text, third, words, from + 3, n);
+    put(text, last, b'\n')
+}
+
+// Writes a line for each of n flows.
+fn put_lines(text: &mut [u8], at: usize, words: &[u32], n: u32) -> usize
+    requires { ⌜ (n ≤ 64) × (at + length (sevensText n 0 (now words)) ≤ length (now text)) ⌝ }
+    ensures { λ r. ⌜ Wrote at (sevensText n 0 (now (words .entry))) (now (text .entry)) r (now (text .exit)) ⌝ }
+{
+    let mut next = at;
+    let mut f: u32 = 0;
+    while f < n {
+        next = put_line(text, next, words, f);
+        f += 1;
+    }
+    next
+}
+
+// Writes the listing of a table that was accepted.
+fn put_table(text: &mut [u8], words: &[u32], n: u32) -> usize
+    requires { ⌜ (n ≤ 64) × (length (tableText n (now words)) ≤ length (now text)) ⌝ }
+    ensures { λ r. ⌜ Wrote 0 (tableText n (now (words .entry))) (now (text .entry)) r (now (text .exit)) ⌝ }
+{
+    let tagged = put_tag(text, 0, b'o', b'k');
+    let counted = put_decimal(text, tagged, n);
+    let headed = put(text, counted, b'\n');
+    put_lines(text, headed, words, n)
+}
+
+// Writes the one line of a refusal.
+fn put_refusal(text: &mut [u8], number: u32, flow: u32) -> usize
+    requires { ⌜ 32 ≤ length (now text) ⌝ }
+    ensures { λ r. ⌜ Wrote 0 (refusalText number flow) (now (text .entry)) r (now (text .exit)) ⌝ }
+{
+    let tagged = put_tag(text, 0, b'n', b'o');
+    let numbered = put_field(text, tagged, number);
+    let named = put_decimal(text, numbered, flow);
+    put(text, named, b'\n')
+}
+
+// The four parts of a reading's answer.
+fn parts(reading: Reading) -> Answer
+    ensures { λ r. ⌜ r ≡ parts reading ⌝ }
+{
+    match reading {
+        Reading::Table { count } => Answer {
+            number: 0,
+            flow: 0,
+            tick: 0,
+            count,
+        },
+        Reading::Refused { number, row } => Answer {
+            number,
+            flow: row,
+            tick: 0,
+            count: 0,
+        },
+    }
+}
+
+// Reads a packed table, stops where that fails, and checks the table.
+fn checked(packed: &[u8], clocks: &mut [u32]) -> Answer
+    requires { ⌜ length (now clocks) ≡ 448 ⌝ }
+    ensures { λ r. ⌜ r ≡ answer length (checked (now (packed .entry))) ⌝ }
+    ensures { λ _. ⌜ now (clocks .exit) ≡ leaves clocksWords (checked (now (packed .entry))) (now (clocks .entry)) ⌝ }
+{
+    let mut words = [0u32; 256];
+    let reading = table::read(packed, &mut words);
+    let Reading::Table { count } = reading else {
+        return parts(reading);
+    };
+    let size = 4 * (count as usize);
+    checker::check(count, &words[..size], clocks)
+}
+
+// The listing of a packed table: its clocks, or the one line of a refusal by reading or by the check.
+pub fn listing(packed: &[u8], text: &mut [u8]) -> Listed
+    ensures { λ r. ⌜ r ≡ listed (now (packed .entry)) (length (now (text .entry))) ⌝ }
+    ensures { λ _. ⌜ now (text .exit) ≡ textAfter (now (packed .entry)) (now (text .entry)) ⌝ }
+{
+    if text.len() < LONGEST {
+        return Listed::NoRoom;
+    }
+    let mut clocks = [0u32; 448];
+    let answer = checked(packed, &mut clocks);
+    if answer.number != 0 {
+        return Listed::Bytes(put_refusal(text, answer.number, answer.flow));
+    }
+    Listed::Bytes(put_table(text, &clocks, answer.count))
+}
