@@ -15,7 +15,7 @@ use Rattle.table.specs.Answers.{wrongLog, shortTrace}
 use Rattle.table.specs.Rows.{Row, tail, Kind, kinds}
 use Rattle.table.specs.Plain.{four, tableOf}
 use Rattle.table.proofs.Tests.{and-both, good-inj, unless-good, then-good}
-use Rattle.table.proofs.AnswerLaws.{refused-zero, answer-zero, is-differing}
+use Rattle.table.proofs.AnswerLaws.{no-zero, answer-zero, is-differing}
 use Rattle.table.proofs.Lists.{Each, each-entry, each-of}
 use Rattle.table.proofs.Registers.{Passes}
 use Rattle.table.proofs.Tables.{AllFit, Made, Table, rowAt, table-made}
@@ -197,7 +197,7 @@ free-rows m words rows e free = go (table-made m words rows e)
 ended : (ticks : ℕ) (r : Result Ran) → ranAnswer ticks r .number ≡ 0 → (past : Ticks) × (r ≡ good (done past))
 ended ticks (good (done past)) e = (past, refl)
 ended ticks (good (clashed t f now past)) e = absurd (let z : _≡_ {A = ℕ} 34 0 = e in omega arith)
-ended ticks (refused why f) e = refused-zero why e
+ended ticks (refused why f) e = absurd (no-zero why e)
 
 -- a check that answers 21 past the table has refused the clocks so
 differing : (b : Bool) (c : Result (List Clock)) → answer length (unless b noRoom 0 c) .number ≡ number clocksDiffer → (g : ℕ) × (c ≡ refused clocksDiffer g)

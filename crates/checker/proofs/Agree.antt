@@ -17,6 +17,7 @@ use Rattle.checker.specs.declared.Clock.{Clock as Kept}
 use Rattle.checker.specs.declared.Verdict.{Verdict}
 use Rattle.checker.specs.declared.Verdict.the-variants.{Is, Refused}
 use Rattle.checker.specs.Kept as Kept
+use Rattle.checker.proofs.ClockLaws.{beq-same, same-conditions}
 
 -- A verdict of row f and the rule's result: the same clock, within the limits, or the same refusal, which names f.
 abbrev pub Agrees : ℕ → Verdict → Result Clock → Type 0
@@ -64,31 +65,6 @@ word-inj f g true false e = absurd (omega arith)
 word-inj f g false true e = absurd (omega arith)
 word-inj f g false false e = (omega arith, refl)
 
-beq-same : (t u : Bool) → t ≡ u → Bool·beq t u ≡ true
-beq-same true true e = refl
-beq-same true false e = absurd (true≢false e)
-beq-same false true e = absurd (false≢true e)
-beq-same false false e = refl
-
-beq-true : (t u : Bool) → Bool·beq t u ≡ true → t ≡ u
-beq-true true true e = refl
-beq-true true false e = absurd (false≢true e)
-beq-true false true e = absurd (false≢true e)
-beq-true false false e = refl
-
-abbrev condition : ℕ → Bool → Condition
-condition f t = record { flow = f; truth = t }
-
-conditions-equal : (cs ds : List Condition) → sameConditions cs ds ≡ true → cs ≡ ds
-conditions-equal [] [] e = refl
-conditions-equal [] (d ∷ ds) e = absurd (false≢true e)
-conditions-equal (c ∷ cs) [] e = absurd (false≢true e)
-conditions-equal (c ∷ cs) (d ∷ ds) e =
-    let p : c .flow ≡ d .flow = eqb-true (c .flow) (d .flow) (and-left (eqb (c .flow) (d .flow)) _ e) in
-    let r = and-right (eqb (c .flow) (d .flow)) _ e in
-    let q : c .truth ≡ d .truth = beq-true (c .truth) (d .truth) (and-left (Bool·beq (c .truth) (d .truth)) _ r) in
-    ap₂ _∷_ (ap₂ condition p q) (conditions-equal cs ds (and-right (Bool·beq (c .truth) (d .truth)) _ r))
-
 conditions-words : (cs ds : List Condition) → length cs ≡ length ds
     → ((i : ℕ) → i < length cs → getD (map conditionWord cs) i 0 ≡ getD (map conditionWord ds) i 0) → sameConditions cs ds ≡ true
 conditions-words [] [] e h = refl
@@ -117,7 +93,7 @@ same-kept-there j k e =
     let p : j .period ≡ k .period = eqb-true (j .period) (k .period) (and-left (eqb (j .period) (k .period)) _ e) in
     let r = and-right (eqb (j .period) (k .period)) _ e in
     let q : j .phase ≡ k .phase = eqb-true (j .phase) (k .phase) (and-left (eqb (j .phase) (k .phase)) _ r) in
-    let s : j .conditions ≡ k .conditions = conditions-equal (j .conditions) (k .conditions) (and-right (eqb (j .phase) (k .phase)) _ r) in
+    let s : j .conditions ≡ k .conditions = same-conditions (j .conditions) (k .conditions) (and-right (eqb (j .phase) (k .phase)) _ r) in
     rw (p, q, s) (same-itself (Kept.kept k))
 
 same-kept-back : (j k : Clock) → length (j .conditions) ≤ 4 → Kept.same (Kept.kept j) (Kept.kept k) ≡ true → sameClock j k ≡ true
@@ -191,7 +167,7 @@ extends-kept a c f u la lc h =
     too-long : sameClock a (under c f u) ≡ true → length (a .conditions) ≡ length (c .conditions) + 1
     too-long e =
         let r = and-right (eqb (a .phase) (c .phase)) _ (and-right (eqb (a .period) (c .period)) _ e) in
-        ap length (conditions-equal (a .conditions) (c .conditions ++ (record { flow = f; truth = u } ∷ [])) r) ∙ one-more (c .conditions) (record { flow = f; truth = u })
+        ap length (same-conditions (a .conditions) (c .conditions ++ (record { flow = f; truth = u } ∷ [])) r) ∙ one-more (c .conditions) (record { flow = f; truth = u })
 
     no : (b : Bool) → (b ≡ true → ⊥) → b ≡ false
     no true n = absurd (n refl)

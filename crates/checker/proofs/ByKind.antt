@@ -9,7 +9,8 @@ use lib.ListN.{length}
 use lib.Dec.{eqb}
 use Rattle.table.specs.Answers.{Result, good, refused, unless, clocksDiffer, notPlain}
 use Rattle.table.specs.Rows.{Row, Kind, kinds, Words, maxField, onRegister}
-use Rattle.table.proofs.Tables.{Made, Fits, row-fits, Each, entry}
+use Rattle.table.proofs.Tables.{Made, Fits, row-fits}
+use Rattle.table.proofs.Lists.{Each, each-entry}
 use Rattle.checker.specs.Clocks.{Clock, every, plain, sameClock, under}
 use Rattle.checker.specs.Rules.{clockOf, limited, maxDerived}
 use Rattle.checker.specs.declared.Clock.{Clock as Kept}
@@ -127,7 +128,7 @@ module _ (m f : ℕ) (small : f < 64) (clk : ℕ → Clock) (h : ℕ → Kept) (
   row-agrees w r d =
       let k : Kind = d .kind in
       let e : k .make (w .one) (w .two) (w .three) ≡ r = d .row in
-      let a : Rule-agrees (0 + w .kind) k = entry Rule-agrees 0 kinds (w .kind) k rules-agree (d .at) in
+      let a : Rule-agrees (0 + w .kind) k = each-entry Rule-agrees 0 kinds (w .kind) k rules-agree (d .at) in
       let b : Rule-agrees (w .kind) k = subst (λ (i : ℕ). Rule-agrees i k) (zero-add (w .kind)) a in
       subst (λ (s : Row). Agrees f (Kept.rule h (w .kind) (w .one) (w .two) (w .three)) (clockOf clk f s)) e
       (b (w .one) (w .two) (w .three) (subst (Fits m f) (sym e) (row-fits m f w r d)))
@@ -147,6 +148,6 @@ pub row-register : (test : ℕ → ℕ → Bool) (m f : ℕ) (w : Words) (r : Ro
 unfolding Tests-register
 row-register test m f w r d =
     let k : Kind = d .kind in
-    let a : Tests-register test (0 + w .kind) k = entry (Tests-register test) 0 kinds (w .kind) k (registers test) (d .at) in
+    let a : Tests-register test (0 + w .kind) k = each-entry (Tests-register test) 0 kinds (w .kind) k (registers test) (d .at) in
     let b : Tests-register test (w .kind) k = subst (λ (i : ℕ). Tests-register test i k) (zero-add (w .kind)) a in
     ap (onRegister test) (sym (d .row)) ∙ b (w .one) (w .two) (w .three)

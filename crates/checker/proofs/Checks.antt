@@ -10,7 +10,7 @@ use lib.Seq.{take-at}
 use lib.Dec.{leb}
 use borrow.Author.Tests.{le-leb, lt-leb}
 use Rattle.table.specs.declared.Answer.{Answer}
-use Rattle.table.specs.Answers.{Refusal, noRoom, badCount, cutShort, unknownKind, outOfRange, misplaced, badFilling, clocksDiffer, beyondLimits, notPlain, tooManyTicks, wrongLog, shortTrace, clash, Result, good, refused, unless, then, number, answer, leaves, over}
+use Rattle.table.specs.Answers.{Refusal, noRoom, Result, good, refused, unless, then, number, answer, leaves, over}
 use Rattle.table.specs.Rows.{Row, input, constant, combine, register, faster, slower, later, head, tail, sample, merge, onRegister, badRegister}
 use Rattle.table.specs.Plain.{tableOf, plainAnswer}
 use Rattle.table.proofs.Tests.{not-good, good-inj, then-good}
@@ -23,33 +23,6 @@ use Rattle.checker.specs.declared.Found.the-variants.{At, Nothing}
 use Rattle.checker.specs.Kept as Kept
 use Rattle.checker.proofs.Agree.{few, same-kept}
 use Rattle.checker.proofs.Folds.{seven-at, words-length}
-
--- no refusal has the number 0
-no-zero : (why : Refusal) → number why ≡ 0 → ⊥
-no-zero noRoom e = omega arith
-no-zero badCount e = omega arith
-no-zero cutShort e = omega arith
-no-zero unknownKind e = omega arith
-no-zero outOfRange e = omega arith
-no-zero misplaced e = omega arith
-no-zero badFilling e = omega arith
-no-zero clocksDiffer e = omega arith
-no-zero beyondLimits e = omega arith
-no-zero notPlain e = omega arith
-no-zero tooManyTicks e = omega arith
-no-zero wrongLog e = omega arith
-no-zero shortTrace e = omega arith
-no-zero clash e = omega arith
-
--- what an answer's number says of the result
-module _ {A : Type 0} (size : A → ℕ) where
-  pub answer-zero : (r : Result A) → answer size r .number ≡ 0 → (a : A) × (r ≡ good a)
-  answer-zero (good a) e = (a, refl)
-  answer-zero (refused why f) e = absurd (no-zero why e)
-
-  pub answer-other : (r : Result A) → (answer size r .number ≡ 0 → ⊥) → (why : Refusal) × (f : ℕ) × (r ≡ refused why f)
-  answer-other (good a) e = absurd (e refl)
-  answer-other (refused why f) e = (why, f, refl)
 
 -- ---- the registers' sources, over clocks and over words
 

@@ -24,7 +24,7 @@ condition-path p q = λ i. record { flow = p i; truth = q i }
 clock-path : {j k : Clock} → j .period ≡ k .period → j .phase ≡ k .phase → j .conditions ≡ k .conditions → j ≡ k
 clock-path p q r = λ i. record { period = p i; phase = q i; conditions = r i }
 
-same-conditions : (cs ds : List Condition) → sameConditions cs ds ≡ true → cs ≡ ds
+pub same-conditions : (cs ds : List Condition) → sameConditions cs ds ≡ true → cs ≡ ds
 same-conditions [] [] e = refl
 same-conditions [] (d ∷ ds) e = absurd (false≢true e)
 same-conditions (c ∷ cs) [] e = absurd (false≢true e)

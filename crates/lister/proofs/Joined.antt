@@ -18,7 +18,7 @@ use Rattle.table.proofs.Tests.{and-left, and-right, good-inj, unless-good, then
 use Rattle.checker.specs.Clocks.{Clock}
 use Rattle.checker.specs.Answers.{checking}
 use Rattle.checker.specs.Kept.{Limited}
-use Rattle.checker.proofs.Checks.{answer-zero}
+use Rattle.table.proofs.AnswerLaws.{answer-zero}
 use Rattle.checker.proofs.Bounds.{checked-within}
 use Rattle.lister.specs.Listing.{checked}
 

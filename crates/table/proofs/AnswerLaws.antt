@@ -7,29 +7,31 @@ use Rattle.table.specs.Answers.{beyondLimits, notPlain, tooManyTicks, wr
 use Rattle.table.specs.Answers.{answer}
 
 -- no refusal has the number 0
-positive : (why : Refusal) → number why ≡ 0 → ⊥
-positive noRoom e = omega arith
-positive badCount e = omega arith
-positive cutShort e = omega arith
-positive unknownKind e = omega arith
-positive outOfRange e = omega arith
-positive misplaced e = omega arith
-positive badFilling e = omega arith
-positive clocksDiffer e = omega arith
-positive beyondLimits e = omega arith
-positive notPlain e = omega arith
-positive tooManyTicks e = omega arith
-positive wrongLog e = omega arith
-positive shortTrace e = omega arith
-positive clash e = omega arith
-
-pub refused-zero : {A : Type 0} (why : Refusal) → number why ≡ 0 → A
-refused-zero why e = absurd (positive why e)
+pub no-zero : (why : Refusal) → number why ≡ 0 → ⊥
+no-zero noRoom e = omega arith
+no-zero badCount e = omega arith
+no-zero cutShort e = omega arith
+no-zero unknownKind e = omega arith
+no-zero outOfRange e = omega arith
+no-zero misplaced e = omega arith
+no-zero badFilling e = omega arith
+no-zero clocksDiffer e = omega arith
+no-zero beyondLimits e = omega arith
+no-zero notPlain e = omega arith
+no-zero tooManyTicks e = omega arith
+no-zero wrongLog e = omega arith
+no-zero shortTrace e = omega arith
+no-zero clash e = omega arith
 
 -- an answer with number 0 has a result behind it
 pub answer-zero : {A : Type 0} (size : A → ℕ) (r : Result A) → answer size r .number ≡ 0 → (a : A) × (r ≡ good a)
 answer-zero size (good a) e = (a, refl)
-answer-zero size (refused why f) e = refused-zero why e
+answer-zero size (refused why f) e = absurd (no-zero why e)
+
+-- an answer with another number has a refusal behind it
+pub answer-other : {A : Type 0} (size : A → ℕ) (r : Result A) → (answer size r .number ≡ 0 → ⊥) → (why : Refusal) × (f : ℕ) × (r ≡ refused why f)
+answer-other size (good a) e = absurd (e refl)
+answer-other size (refused why f) e = (why, f, refl)
 
 -- 21 is the number of one cause
 pub is-differing : (why : Refusal) → number why ≡ number clocksDiffer → why ≡ clocksDiffer

@@ -11,7 +11,8 @@ use Rattle.table.specs.Answers.{good, answer, noRoom}
 use Rattle.table.specs.Rows.{Row}
 use Rattle.table.specs.Plain.{tableOf}
 use Rattle.checker.specs.Kept.{rowsIn}
-use Rattle.checker.proofs.Checks.{answer-zero, answer-other, rows-good, check-table, check-room, check-clocks, whole-refused, whole-copied}
+use Rattle.table.proofs.AnswerLaws.{answer-zero, answer-other}
+use Rattle.checker.proofs.Checks.{rows-good, check-table, check-room, check-clocks, whole-refused, whole-copied}
 use Rattle.checker.proofs.check.Statement.{statement}
 use Rattle.checker.proofs.check.Tie as tie
 

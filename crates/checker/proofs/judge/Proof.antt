@@ -13,7 +13,8 @@ use Rattle.table.specs.Answers.{Result, refused, answer}
 use Rattle.table.specs.Rows.{Row}
 use Rattle.table.specs.Plain.{tableOf}
 use Rattle.checker.specs.Kept.{rowsIn, place}
-use Rattle.checker.proofs.Checks.{answer-zero, answer-other, clocks-refused, sourced-by}
+use Rattle.table.proofs.AnswerLaws.{answer-zero, answer-other}
+use Rattle.checker.proofs.Checks.{clocks-refused, sourced-by}
 use Rattle.checker.proofs.judge.Statement.{statement}
 use Rattle.checker.proofs.judge.Tie as tie
 

@@ -8,7 +8,7 @@ use denote.Ref.{now}
 use borrow.Author.Needs.{needs}
 use Rattle.table.specs.Answers.{answer}
 use Rattle.lister.specs.Listing.{checked, refusalText}
-use Rattle.checker.proofs.Checks.{answer-zero, answer-other}
+use Rattle.table.proofs.AnswerLaws.{answer-zero, answer-other}
 use Rattle.lister.proofs.Texts.{listing-refused, listing-table, no-room, all-room}
 use Rattle.lister.proofs.listing.Statement.{statement}
 use Rattle.lister.proofs.listing.Tie as tie
