@@ -10,3 +10,4 @@ mod ReadLaws
 mod StoreLaws
 mod ByteLaws
 mod WriteLaws
+pub mod RoundTrip

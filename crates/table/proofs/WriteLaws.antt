@@ -99,7 +99,7 @@ module _ (m row at start : ℕ) (words out old : List ℕ) (pt : Putting m row a
 
 -- ---- the whole
 
-length-split : (n : ℕ) (words : List ℕ) → length (split n words) ≡ n
+pub length-split : (n : ℕ) (words : List ℕ) → length (split n words) ≡ n
 unfolding split
 length-split zero words = refl
 length-split (suc n) words = ap suc (length-split n (drop 4 words))
@@ -107,7 +107,7 @@ length-split (suc n) words = ap suc (length-split n (drop 4 words))
 abbrev pub tableBits : ℕ → List ℕ → List Bool
 tableBits m words = toBits countWidth m ++ rowsBits (split m words)
 
-packed-split : (m : ℕ) (words : List ℕ) → packed (split m words) ≡ bytes (tableBits m words)
+pub packed-split : (m : ℕ) (words : List ℕ) → packed (split m words) ≡ bytes (tableBits m words)
 unfolding packed
 packed-split m words = rw (length-split m words)
 
