@@ -6,6 +6,7 @@ use super::Scan;
 use super::Step;
 use super::Taking;
 use super::bits::up;
+use super::held::first_field;
 use super::rows::KINDS;
 use super::rows::judge;
 use super::rows::width_of;
@@ -99,7 +100,7 @@ fn ends(s: &[u8], at: usize) -> bool
 pub(crate) fn inspect(s: &[u8]) -> Reading
     ensures { λ r. ⌜ answer length (unpacked (now (s .entry))) ≡ parts r ⌝ }
 {
-    let Taking::Got(count, _) = Cursor::new().take(s, 8) else {
+    let Taking::Got(count, _) = first_field(s, 8) else {
         return Reading::Refused { number: 12, row: 0 };
     };
     if count < 1 {
