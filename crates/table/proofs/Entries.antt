@@ -1,14 +1,14 @@
 -- A rule of a table, proved at all of its entries by one test that antt computes. Assumes nothing.
-use mathlib.Core.Path.{_≡_, refl, sym, subst, _∙_, ap}
-use mathlib.Core.Bool.{Bool, true, false, _&&_}
+use mathlib.Core.Path.{_≡_, refl, subst, _∙_, ap}
+use mathlib.Core.Bool.{Bool, true, _&&_}
 use mathlib.Core.List.{List, [], _∷_}
-use mathlib.Core.Option.{Option, none, some}
+use mathlib.Core.Option.{none, some}
 use Prim.Native.Nat.{ℕ, zero, suc, _+_, _<_, _≤_}
 use native.Mathlib.Omega.{arith}
 use lib.Dec.{eqb}
 use lib.ListN.{length, getD, getElem?}
 use borrow.Author.Tests.{eqb-true}
-use Rattle.table.specs.Rows.{Field, operand, source, copies, period, ticks, value, unused, least, most, width, Kind, kinds, placed}
+use Rattle.table.specs.Rows.{Field, operand, source, copies, period, ticks, value, unused, least, most, width, kinds, placed}
 use Rattle.table.specs.Codes.{coded, kindAt, fieldList}
 use Rattle.table.proofs.Tests.{and-left, and-right}
 

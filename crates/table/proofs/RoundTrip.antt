@@ -1,30 +1,28 @@
 -- Plain form and packed form determine each other: what was written is read back, and what was read is written back. Assumes nothing.
-use mathlib.Core.Path.{_≡_, refl, sym, ap, ap₂, _∙_, subst}
+use mathlib.Core.Path.{_≡_, refl, sym, ap, _∙_, subst}
 use mathlib.Core.Bool.{Bool, true, false, _&&_}
 use mathlib.Core.List.{List, [], _∷_, _++_, append-assoc}
-use Prim.Native.Nat.{ℕ, zero, suc, _+_, _-_, _*_, _/_, _^_, _<_, _≤_}
-use native.Mathlib.Nat.{mul-suc}
+use Prim.Native.Nat.{ℕ, zero, suc, _+_, _-_, _*_, _^_, _<_, _≤_}
 use native.Mathlib.Omega.{arith}
 use lib.Dec.{leb, ltb, eqb}
 use lib.Pow.{pow-pos}
 use mathlib.Core.Option.{some}
-use lib.ListN.{length, getD, take, drop, replicate, length-append, length-drop, length-replicate, take-append-drop, getElem?}
-use lib.Seq.{take-at, drop-at, length-take-le, drop-cons}
+use lib.ListN.{length, getD, take, drop, replicate, length-append, length-replicate, take-append-drop, getElem?}
+use lib.Seq.{take-at, drop-at, length-take-le}
 use borrow.Author.Tests.{le-leb, leb-true, lt-ltb, ltb-true, eq-eqb, eqb-true}
-use Rattle.table.specs.declared.Answer.{Answer}
-use Rattle.table.specs.Answers.{Result, good, refused, unless, then, answer, leaves, over, success, cutShort, badCount, badFilling, noRoom, outOfRange, misplaced}
-use Rattle.table.specs.Rows.{Row, Field, operand, source, copies, period, ticks, value, unused, width, ranged, placed, Kind, kinds, Words, each, known, kindOf, fieldsOf, rowOf, maxFlows}
-use Rattle.table.specs.Plain.{four, split, joined, rowsFrom, countFits, tableOf}
-use Rattle.table.specs.Bits.{toBits, fromBits, bits, bytesFrom, byteCount, bytes}
+use Rattle.table.specs.Answers.{Result, good, refused, then, answer, leaves, over, success, cutShort, badCount, badFilling, noRoom}
+use Rattle.table.specs.Rows.{Row, Field, operand, source, copies, period, ticks, value, unused, width, ranged, Kind, kinds, Words, kindOf, fieldsOf, rowOf, maxFlows}
+use Rattle.table.specs.Plain.{split, joined, rowsFrom, countFits, tableOf}
+use Rattle.table.specs.Bits.{toBits, fromBits, bits, bytesFrom, byteCount}
 use Rattle.table.specs.Packed.{Taken, takeField, TakenRow, takeFields, takeRow, takeRows, filling, unpacked, rowBits, rowsBits, packed, reading, writing, readAnswer, wordsAfter, writeAnswer, bytesAfter, countWidth, kindWidth}
 use Rattle.table.specs.Places.{fill, whole}
-use Rattle.table.proofs.Tests.{and-left, and-right, and-both, good-inj, not-good, unless-good, then-good}
-use Rattle.table.proofs.Tables.{In, ranges, known-good, Made, made, each-one, each-two, each-three, table-made}
-use Rattle.table.proofs.BitLaws.{length-toBits, from-to, to-from, to-from-at, fromBits-lt, zeros, length-bits}
-use Rattle.table.proofs.ByteLaws.{bytes-pad, bytes-bits, bits-packed, length-bytes}
+use Rattle.table.proofs.Tests.{and-left, and-right, and-both, good-inj, unless-good, then-good}
+use Rattle.table.proofs.Tables.{ranges, known-good, Made, made, each-one, each-two, each-three, table-made}
+use Rattle.table.proofs.BitLaws.{length-toBits, from-to, to-from, to-from-at, zeros, length-bits}
+use Rattle.table.proofs.ByteLaws.{bytes-pad, bytes-bits, bits-packed}
 use Rattle.table.proofs.Records.{no-zero, kind-lt}
-use Rattle.table.proofs.ReadLaws.{rows-size, Opened, opened}
-use Rattle.table.proofs.WriteLaws.{tableBits, table-length, packed-length, packed-split, length-split}
+use Rattle.table.proofs.ReadLaws.{Opened, opened}
+use Rattle.table.proofs.WriteLaws.{tableBits, packed-split, length-split}
 
 -- ---- one field, of any width: every packed field goes through these two
 

@@ -1,8 +1,8 @@
 -- Storing the rows of a packed table: what is stored and what is left make the whole. Assumes nothing.
-use mathlib.Core.Path.{_≡_, refl, sym, ap, _∙_, subst}
+use mathlib.Core.Path.{_≡_, sym, ap, _∙_}
 use mathlib.Core.Bool.{Bool}
 use mathlib.Core.List.{List, [], _∷_, _++_, append-assoc}
-use Prim.Native.Nat.{ℕ, zero, suc, _+_, _-_, _*_, _<_, _≤_}
+use Prim.Native.Nat.{ℕ, suc, _+_, _-_, _*_, _<_, _≤_}
 use native.Mathlib.Nat.{sub-zero}
 use native.Mathlib.Numerals.{add-one}
 use native.Mathlib.Omega.{arith}
@@ -10,7 +10,7 @@ use lib.ListN.{length, take, drop, set, length-append, take-append-drop}
 use lib.Seq.{take-at, drop-at, drop-drop, sets-eq, length-take-le}
 use Rattle.table.specs.declared.Cursor.{Cursor}
 use Rattle.table.specs.declared.Record.{Record}
-use Rattle.table.specs.Answers.{Result, good, refused, then, over, leaves, badFilling}
+use Rattle.table.specs.Answers.{good, over, leaves, badFilling}
 use Rattle.table.specs.Rows.{Words, rowOf}
 use Rattle.table.specs.Plain.{joined}
 use Rattle.table.specs.Packed.{TakenRow, takeRow, takeRows, filling, countWidth}

@@ -1,27 +1,27 @@
 -- Writing the packed form: a row, the rows from one on, and the whole. Assumes nothing.
-use mathlib.Core.Path.{_≡_, refl, sym, ap, ap₂, _∙_, subst}
+use mathlib.Core.Path.{_≡_, refl, sym, ap, ap₂, _∙_}
 use mathlib.Core.Bool.{Bool, _&&_}
 use mathlib.Core.List.{List, [], _∷_, _++_, append-assoc, append-nil}
 use Prim.Native.Nat.{ℕ, zero, suc, _+_, _-_, _*_, _/_, _<_, _≤_}
 use native.Mathlib.Nat.{sub-zero}
 use native.Mathlib.Numerals.{add-one}
 use native.Mathlib.Omega.{arith}
-use lib.Dec.{leb, eqb}
-use lib.ListN.{length, getD, take, drop, length-append}
+use lib.Dec.{eqb}
+use lib.ListN.{length, getD, drop, length-append}
 use borrow.Author.Tests.{le-leb, lt-leb}
 use Rattle.table.specs.declared.Answer.{Answer}
-use Rattle.table.specs.Answers.{Result, good, refused, then, answer, success, noRoom, badCount}
+use Rattle.table.specs.Answers.{Result, good, refused, then, answer, success, badCount}
 use Rattle.table.specs.Rows.{Row, width, Words, rowOf, maxFlows}
 use Rattle.table.specs.Plain.{four, split, rowsFrom, countFits, tableOf}
 use Rattle.table.specs.Bits.{toBits, bits, byteCount, bytes}
 use Rattle.table.specs.Packed.{countWidth, kindWidth, rowBits, rowsBits, packed, writing, writeAnswer, bytesAfter}
 use Rattle.table.specs.Codes.{kindAt, rowLength, verdict}
-use Rattle.table.specs.Places.{putAt, laid}
-use Rattle.table.proofs.Tests.{good-inj, not-good, unless-good, then-good}
+use Rattle.table.specs.Places.{putAt}
+use Rattle.table.proofs.Tests.{unless-good}
 use Rattle.table.proofs.Tables.{table-made}
-use Rattle.table.proofs.BitLaws.{length-toBits, length-bits}
+use Rattle.table.proofs.BitLaws.{length-toBits}
 use Rattle.table.proofs.Entries.{kind-there}
-use Rattle.table.proofs.Records.{no-zero, Outcome, fine, stopped, row-outcome, answer-then, kind-lt, rows-next, split-next, split-end, row-size, size-next, survey-next}
+use Rattle.table.proofs.Records.{no-zero, Outcome, fine, stopped, row-outcome, kind-lt, split-next, split-end, row-size, size-next, survey-next}
 use Rattle.table.proofs.Puts.{put-next}
 use Rattle.table.proofs.ByteLaws.{laid-bytes, length-bytes}
 

@@ -10,9 +10,9 @@ use Rattle.table.specs.declared.Step.{Step}
 use Rattle.table.specs.declared.Step.the-variants as step
 use Rattle.table.specs.declared.Scan.{Scan}
 use Rattle.table.specs.declared.Scan.the-variants.{End, Stopped}
-use Rattle.table.specs.Answers.{Refusal, number, Result, good, refused, then, answer}
+use Rattle.table.specs.Answers.{Refusal, number, good, refused, then, answer}
 use Rattle.table.specs.Rows.{Words, rowOf}
-use Rattle.table.specs.Packed.{TakenRow, takeRow, takeRows, countWidth}
+use Rattle.table.specs.Packed.{takeRow, takeRows, countWidth}
 use Rattle.table.specs.Codes.{wordsOf}
 use Rattle.table.specs.Places.{lastPlace, longestRecord}
 

@@ -2,8 +2,8 @@
 use mathlib.Core.List.{[]}
 use Rattle.table.specs.Rows.{rowOf}
 use Rattle.table.specs.Codes.{wordsOf, verdict}
-use mathlib.Core.Path.{_≡_, refl, sym, ap, _∙_}
-use Prim.Native.Nat.{ℕ, _+_, _-_, _*_, _≤_, _<_}
+use mathlib.Core.Path.{_≡_, sym, _∙_}
+use Prim.Native.Nat.{_+_, _-_, _*_, _≤_, _<_}
 use native.Mathlib.Nat.{sub-zero}
 use native.Mathlib.Omega.{arith}
 use denote.Ref.{now}
@@ -29,10 +29,10 @@ loop-holds : tie.Need-loop-holds Inv-loop μ-loop
 loop-holds c = (search needs, search needs, rw sub-zero, rw sub-zero)
 
 cast-record-at : tie.Need-cast-record-at Inv-loop μ-loop
-cast-record-at c = search needs
+cast-record-at c = omega arith
 
 mul-record-at : tie.Need-mul-record-at Inv-loop μ-loop
-mul-record-at c = search needs
+mul-record-at c = omega arith
 
 record-at-requires : tie.Need-record-at-requires Inv-loop μ-loop
 record-at-requires c κs = search needs
@@ -65,10 +65,10 @@ add-bits : tie.Need-add-bits Inv-loop μ-loop
 add-bits c = omega (arith, longest c)
 
 add-row : tie.Need-add-row Inv-loop μ-loop
-add-row c = search needs
+add-row c = omega arith
 
 loop-less : tie.Need-loop-less Inv-loop μ-loop
-loop-less c = search needs
+loop-less c = omega arith
 
 loop-again : tie.Need-loop-again Inv-loop μ-loop
 loop-again c =

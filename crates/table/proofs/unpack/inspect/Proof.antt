@@ -1,14 +1,12 @@
 -- `table::unpack::inspect` meets its contract. Assumes nothing.
-use mathlib.Core.Path.{_≡_, refl, sym, ap, _∙_, subst}
-use Prim.Native.Nat.{ℕ, _+_, _-_, _*_, _≤_, _<_}
-use native.Mathlib.Omega.{arith}
-use lib.ListN.{length, drop}
+use mathlib.Core.Path.{_≡_, sym, ap, _∙_, subst}
+use Prim.Native.Nat.{_-_}
 use denote.Ref.{now}
-use Rattle.table.specs.declared.Taking.the-variants.{Got, Short}
-use Rattle.table.specs.Answers.{Result, unless, good, answer, badFilling}
+use Rattle.table.specs.declared.Taking.the-variants.{Got}
+use Rattle.table.specs.Answers.{unless, good, answer, badFilling}
 use Rattle.table.specs.Rows.{Words}
 use Rattle.table.specs.Bits.{bits}
-use Rattle.table.specs.Packed.{takeRows, filling, countWidth}
+use Rattle.table.specs.Packed.{takeRows, countWidth}
 use Rattle.table.specs.Places.{takeAt}
 use Rattle.table.specs.Steps.{Scanned, Ended}
 use Rattle.table.proofs.ReadLaws.{no-count, count-there, no-flows, many-flows, counted}
