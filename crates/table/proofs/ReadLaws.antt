@@ -20,7 +20,7 @@ use Rattle.table.specs.Bits.{bits, fromBits}
 use Rattle.table.specs.Packed.{takeField, TakenRow, takeRow, takeRows, filling, unpacked, reading, readAnswer, wordsAfter, countWidth}
 use Rattle.table.specs.Codes.{wordsOf, verdict}
 use Rattle.table.specs.Places.{takeAt, lastPlace, whole}
-use Rattle.table.specs.Steps.{Found, Missing, Taken}
+use Rattle.table.specs.Steps.{Found, Missing, AllTaken}
 use Rattle.table.proofs.Tests.{and-left, and-right, good-inj, unless-good, then-good}
 use Rattle.table.proofs.BitLaws.{length-bits}
 use Rattle.table.proofs.Records.{no-zero, Outcome, fine, stopped, row-outcome, answer-then}
@@ -185,7 +185,7 @@ accepted s m e = go (unpacked s) refl e
 pub whole-few : (s : List ℕ) (m : ℕ) → Whole s m → m ≤ maxFlows
 whole-few s m d = omega (arith, d .size, opened s (d .ws) (d .is) .few)
 
-pub whole-taken : (s : List ℕ) (m : ℕ) → Whole s m → Taken (bits s) m
+pub whole-taken : (s : List ℕ) (m : ℕ) → Whole s m → AllTaken (bits s) m
 whole-taken s m d =
     let o = opened s (d .ws) (d .is) in
     record { rows = d .ws; all = subst (λ (n : ℕ). takeRows n n 0 (drop countWidth (bits s)) ≡ good (d .ws)) (d .size) (o .rows); within = o .within }

@@ -10,6 +10,7 @@ use mathlib.Core.Option.{some}
 use lib.ListN.{length, getD, take, drop, replicate, length-append, length-replicate, take-append-drop, getElem?}
 use lib.Seq.{take-at, drop-at, length-take-le}
 use borrow.Author.Tests.{le-leb, leb-true, lt-ltb, ltb-true, eq-eqb, eqb-true}
+use Rattle.table.specs.Codes.{kindCount}
 use Rattle.table.specs.Answers.{Result, good, refused, then, answer, leaves, over, success, cutShort, badCount, badFilling, noRoom}
 use Rattle.table.specs.Rows.{Row, Field, operand, source, copies, period, ticks, value, unused, width, ranged, Kind, kinds, Words, kindOf, fieldsOf, rowOf, maxFlows}
 use Rattle.table.specs.Plain.{split, joined, rowsFrom, countFits, tableOf}
@@ -64,7 +65,7 @@ unfolding takeRow takeFields rowBits fieldsOf
 row-taken m f w r rest e =
     let d : Made m f w r = made m f w r e in
     let k : Kind = d .kind in
-    let h : w .kind < 16 = kind-lt m f w (rw e) in
+    let h : w .kind < kindCount = kind-lt m f w (rw e) in
     let f0 = toBits kindWidth (w .kind) in
     let f1 = toBits (width (k .one)) (w .one) in
     let f2 = toBits (width (k .two)) (w .two) in

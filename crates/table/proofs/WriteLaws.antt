@@ -15,7 +15,7 @@ use Rattle.table.specs.Rows.{Row, width, Words, rowOf, maxFlows}
 use Rattle.table.specs.Plain.{four, split, rowsFrom, countFits, tableOf}
 use Rattle.table.specs.Bits.{toBits, bits, byteCount, bytes}
 use Rattle.table.specs.Packed.{countWidth, kindWidth, rowBits, rowsBits, packed, writing, writeAnswer, bytesAfter}
-use Rattle.table.specs.Codes.{kindAt, rowLength, verdict}
+use Rattle.table.specs.Codes.{kindAt, rowLength, verdict, kindCount}
 use Rattle.table.specs.Places.{putAt}
 use Rattle.table.proofs.Tests.{unless-good}
 use Rattle.table.proofs.Tables.{table-made}
@@ -34,7 +34,7 @@ field-more old b₁ b₂ f at q w w′ v h e q= w= e₂ =
     e₂ ∙ put-next old b₁ f (toBits w v) at q h e q= ∙ ap (λ (n : ℕ). putAt old at (f ++ toBits n v)) w=
 
 -- the bits of a row of a known kind
-pub row-bits : (w : Words) → w .kind < 16
+pub row-bits : (w : Words) → w .kind < kindCount
     → ((toBits kindWidth (w .kind) ++ toBits (width (kindAt (w .kind) .one)) (w .one)) ++ toBits (width (kindAt (w .kind) .two)) (w .two)) ++ toBits (width (kindAt (w .kind) .three)) (w .three) ≡ rowBits w
 unfolding rowBits
 row-bits w h = rw (kind-there (w .kind) h) (simp append-assoc)
@@ -77,7 +77,7 @@ module _ (m row at start : ℕ) (words out old : List ℕ) (pt : Putting m row a
     pub fine-row : verdict (rowOf m row w) ≡ 0
     fine-row = rw is (row-went m row (four (drop (4 * row) words)) _ (rw (split-next m row words below) at (pt .accepted)))
 
-    pub known-row : w .kind < 16
+    pub known-row : w .kind < kindCount
     known-row = kind-lt m row w fine-row
 
     pub room-row : at + rowLength (w .kind) ≤ start + length (rowsBits (split m words))

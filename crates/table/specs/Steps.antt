@@ -47,7 +47,7 @@ Scanned bs m (End p) = Ended bs m p
 Scanned bs m (Stopped n row) = answer (λ ws. m) (takeRows m m 0 (drop countWidth bs)) ≡ record { number = n; flow = row; tick = 0; count = 0 }
 
 -- the rows of a table of m flows are not refused
-pub record Taken (bs : List Bool) (m : ℕ) : Type 0 where
+pub record AllTaken (bs : List Bool) (m : ℕ) : Type 0 where
   pub rows : List Words
   pub all : takeRows m m 0 (drop countWidth bs) ≡ good rows
   pub within : countWidth ≤ length bs

@@ -8,7 +8,7 @@ use Rattle.table.specs.Plain.{split}
 use Rattle.table.specs.Bits.{bits, toBits}
 use Rattle.table.specs.Packed.{countWidth, rowsBits}
 use Rattle.table.specs.Codes.{wordsOf}
-use Rattle.table.specs.Places.{putAt}
+use Rattle.table.specs.Places.{putAt, longestRecord}
 use Rattle.table.proofs.BitLaws.{length-toBits, length-bits}
 use Rattle.table.proofs.Records.{row-le}
 use Rattle.table.proofs.Puts.{put-next}
@@ -19,7 +19,7 @@ use Rattle.table.proofs.pack.put_table.Tie as tie
 
 abbrev Inv-loop : tie.InvT-loop
 Inv-loop count words out₀ at₀ row₀ out at row =
-    (row ≤ count) × (at ≤ 8 + 61 * row) × (length out ≡ length out₀) × Putting count row at at₀ words out out₀
+    (row ≤ count) × (at ≤ 8 + longestRecord * row) × (length out ≡ length out₀) × Putting count row at at₀ words out out₀
 
 abbrev μ-loop : tie.MeasureT-loop
 μ-loop count words out₀ at₀ row₀ out at row = count - row

@@ -1,5 +1,6 @@
 -- `table::plain::survey_rows` meets its contract. Assumes nothing.
 use mathlib.Core.List.{[]}
+use Rattle.table.specs.Places.{longestRecord}
 use Rattle.table.specs.Rows.{rowOf}
 use Rattle.table.specs.Codes.{wordsOf, verdict}
 use mathlib.Core.Path.{_≡_, sym, _∙_}
@@ -18,7 +19,7 @@ use Rattle.table.proofs.plain.survey_rows.Tie as tie
 
 abbrev Inv-loop : tie.InvT-loop
 Inv-loop count words bits₀ row₀ bits row =
-    (row ≤ count) × (bits ≤ 8 + 61 * row)
+    (row ≤ count) × (bits ≤ 8 + longestRecord * row)
     × (answer (λ rs. count) (rowsFrom count row (split (count - row) (drop (4 * row) words))) ≡ answer (λ rs. count) (rowsFrom count 0 (split count words)))
     × (bits + length (rowsBits (split (count - row) (drop (4 * row) words))) ≡ 8 + length (rowsBits (split count words)))
 
@@ -58,7 +59,7 @@ row-length-requires c κs =
 accepted : (c : tie.After-row-length Inv-loop μ-loop) → verdict (rowOf (c .before .before .before .before .before .before .before .args .count) (c .before .before .before .before .before .loop .row) (wordsOf (c .before .before .before .record-at .result))) ≡ 0
 accepted c = sym (c .before .before .judge .ensures) ∙ c .before .if1 .left
 
-longest : (c : tie.After-row-length Inv-loop μ-loop) → c .row-length .result ≤ 61
+longest : (c : tie.After-row-length Inv-loop μ-loop) → c .row-length .result ≤ longestRecord
 longest c = rw (c .row-length .ensures) (row-le _ (kind-lt _ _ (wordsOf (c .before .before .before .record-at .result)) (accepted c)))
 
 add-bits : tie.Need-add-bits Inv-loop μ-loop

@@ -5,6 +5,7 @@ use native.Mathlib.Nat.{sub-zero}
 use native.Mathlib.Omega.{arith}
 use lib.ListN.{length, drop}
 use denote.Ref.{now}
+use Rattle.table.specs.Places.{longestRecord}
 use Rattle.table.specs.Answers.{answer}
 use Rattle.table.specs.Bits.{bits}
 use Rattle.table.specs.Packed.{takeRows, countWidth}
@@ -16,7 +17,7 @@ use Rattle.table.proofs.unpack.scan_rows.Tie as tie
 
 abbrev Inv-loop : tie.InvT-loop
 Inv-loop s count at₀ row₀ at row =
-    (row ≤ count) × (at ≤ 8 + 61 * row) × (at ≤ length (bits s))
+    (row ≤ count) × (at ≤ 8 + longestRecord * row) × (at ≤ length (bits s))
     × (answer (λ ws. count) (takeRows count (count - row) row (drop at (bits s))) ≡ answer (λ ws. count) (takeRows count count 0 (drop countWidth (bits s))))
 
 abbrev μ-loop : tie.MeasureT-loop

@@ -4,6 +4,7 @@ use Prim.Native.Nat.{_+_, _-_, _*_, _≤_}
 use native.Mathlib.Omega.{arith}
 use lib.ListN.{length}
 use denote.Ref.{now}
+use Rattle.table.specs.Places.{longestRecord}
 use Rattle.table.specs.Bits.{bits}
 use Rattle.table.specs.Steps.{Stepped, Found}
 use Rattle.table.proofs.StoreLaws.{Storing, storing-starts, storing-ends, storing-found, storing-goes}
@@ -13,7 +14,7 @@ use Rattle.table.proofs.unpack.store_rows.Tie as tie
 
 abbrev Inv-loop : tie.InvT-loop
 Inv-loop s count words₀ at₀ row₀ words at row =
-    (row ≤ count) × (at ≤ 8 + 61 * row) × (at ≤ length (bits s)) × (length words ≡ length words₀) × Storing (bits s) count row at words words₀
+    (row ≤ count) × (at ≤ 8 + longestRecord * row) × (at ≤ length (bits s)) × (length words ≡ length words₀) × Storing (bits s) count row at words words₀
 
 abbrev μ-loop : tie.MeasureT-loop
 μ-loop s count words₀ at₀ row₀ words at row = count - row
