@@ -2,14 +2,14 @@
 use mathlib.Core.Path.{_≡_, refl, sym, ap, ap₂, _∙_, subst}
 use mathlib.Core.Bool.{Bool, false}
 use mathlib.Core.List.{List, [], _∷_, _++_, append-assoc}
-use Prim.Native.Nat.{ℕ, zero, suc, _+_, _-_, _*_, _/_, _<_, _≤_}
+use Prim.Native.Nat.{ℕ, zero, suc, _+_, _-_, _*_, _<_, _≤_}
 use native.Mathlib.Nat.{zero-add, suc-add}
 use native.Mathlib.Omega.{arith}
 use lib.ListN.{length, getD, take, drop, replicate, length-append, length-drop, length-replicate, take-append-drop, replicate-append-replicate}
 use lib.Seq.{take-at, drop-at, take-append-le, drop-append-le, getD-drop, length-take-le}
 use Rattle.table.specs.Bits.{toBits, fromBits, bits, nextByte, bytesFrom, byteCount, bytes}
 use Rattle.table.specs.Places.{whole, fill, laid}
-use Rattle.table.proofs.BitLaws.{length-toBits, from-to, to-from-at, length-bits, drop-bits, take-append, drop-append}
+use Rattle.table.proofs.BitLaws.{length-toBits, from-to, to-from-at, drop-bits, take-append, drop-append}
 
 -- ---- zero bits
 

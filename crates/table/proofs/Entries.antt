@@ -1,15 +1,15 @@
 -- A rule of a table, proved at all of its entries by one test that antt computes. Assumes nothing.
-use mathlib.Core.Path.{_≡_, refl, sym, subst, _∙_, ap}
-use mathlib.Core.Bool.{Bool, true, false, _&&_}
+use mathlib.Core.Path.{_≡_, refl, subst, _∙_, ap}
+use mathlib.Core.Bool.{Bool, true, _&&_}
 use mathlib.Core.List.{List, [], _∷_}
-use mathlib.Core.Option.{Option, none, some}
+use mathlib.Core.Option.{none, some}
 use Prim.Native.Nat.{ℕ, zero, suc, _+_, _<_, _≤_}
 use native.Mathlib.Omega.{arith}
 use lib.Dec.{eqb}
 use lib.ListN.{length, getD, getElem?}
 use borrow.Author.Tests.{eqb-true}
-use Rattle.table.specs.Rows.{Field, operand, source, copies, period, ticks, value, unused, least, most, width, Kind, kinds, placed}
-use Rattle.table.specs.Codes.{coded, kindAt, fieldList}
+use Rattle.table.specs.Rows.{Field, operand, source, copies, period, ticks, value, unused, least, most, width, kinds, placed}
+use Rattle.table.specs.Codes.{coded, kindAt, fieldList, kindCount}
 use Rattle.table.proofs.Tests.{and-left, and-right}
 
 module _ {A : Type 0} where
@@ -132,12 +132,12 @@ fields-right : every line 0 fields ≡ true
 unfolding kinds
 fields-right = refl
 
-pub kinds-size : length kinds ≡ 16
+pub kinds-size : length kinds ≡ kindCount
 unfolding kinds
 kinds-size = refl
 
 -- a field's number in the table, and the field that it is
-module _ (k place : ℕ) (known : k < 16) (within : place < 3) where
+module _ (k place : ℕ) (known : k < kindCount) (within : place < 3) where
   x : ℕ
   x = getD (getD fields k []) place 0
 
@@ -157,10 +157,10 @@ module _ (k place : ℕ) (known : k < 16) (within : place < 3) where
   field-is = ap coded x-code ∙ coded-code (getD (fieldList (kindAt k)) place unused)
 
 -- a kind that is known, and one that is not
-pub kind-there : (n : ℕ) → n < 16 → getElem? kinds n ≡ some (kindAt n)
+pub kind-there : (n : ℕ) → n < kindCount → getElem? kinds n ≡ some (kindAt n)
 kind-there n h = there kinds _ n (omega (arith, kinds-size))
 
-pub kind-gone : (n : ℕ) → 16 ≤ n → getElem? kinds n ≡ none
+pub kind-gone : (n : ℕ) → kindCount ≤ n → getElem? kinds n ≡ none
 kind-gone n h = gone kinds n (omega (arith, kinds-size))
 
 -- a field that is neither operand nor source may hold any flow

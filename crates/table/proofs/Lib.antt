@@ -13,3 +13,4 @@ mod ReadLaws
 mod StoreLaws
 mod ByteLaws
 mod WriteLaws
+pub mod RoundTrip

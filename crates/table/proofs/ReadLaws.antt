@@ -1,27 +1,27 @@
 -- Reading the packed form: the rows from a place on, the whole, and what is stored. Assumes nothing.
 use mathlib.Core.Path.{_≡_, refl, sym, ap, _∙_, subst}
-use mathlib.Core.Bool.{Bool, true, false, cond, _&&_}
-use mathlib.Core.List.{List, [], _∷_, _++_, append-assoc}
+use mathlib.Core.Bool.{Bool, true, false}
+use mathlib.Core.List.{List, [], _∷_}
 use Prim.Native.Nat.{ℕ, zero, suc, _+_, _-_, _*_, _/_, _<_, _≤_}
 use native.Mathlib.Numerals.{add-one}
 use native.Mathlib.Omega.{arith}
-use lib.Dec.{leb, ltb, eqb}
-use lib.ListN.{length, take, drop, length-append, length-take, length-drop}
-use lib.Seq.{take-all, drop-drop, take-at, drop-at, drop-append-add, length-take-le}
-use borrow.Author.Tests.{le-leb, lt-leb, leb-true, lt-ltb, le-ltb, ltb-true, eqb-true}
+use lib.Dec.{leb, eqb}
+use lib.ListN.{length, take, drop, length-drop}
+use lib.Seq.{take-all}
+use borrow.Author.Tests.{le-leb, lt-leb, leb-true, lt-ltb, le-ltb}
 use Rattle.table.specs.declared.Answer.{Answer}
 use Rattle.table.specs.declared.Cursor.{Cursor}
 use Rattle.table.specs.declared.Record.{Record}
 use Rattle.table.specs.declared.Taking.the-variants.{Got, Short}
-use Rattle.table.specs.Answers.{Refusal, number, Result, good, refused, unless, then, answer, leaves, over, success, cutShort, badCount, badFilling, noRoom}
+use Rattle.table.specs.Answers.{number, Result, good, refused, then, answer, leaves, success, cutShort, badCount, badFilling}
 use Rattle.table.specs.Rows.{Row, Words, rowOf, maxFlows}
 use Rattle.table.specs.Plain.{joined, countFits}
 use Rattle.table.specs.Bits.{bits, fromBits}
 use Rattle.table.specs.Packed.{takeField, TakenRow, takeRow, takeRows, filling, unpacked, reading, readAnswer, wordsAfter, countWidth}
 use Rattle.table.specs.Codes.{wordsOf, verdict}
-use Rattle.table.specs.Places.{takeAt, lastPlace, widest, whole}
-use Rattle.table.specs.Steps.{Found, Missing, plainWords, Taken}
-use Rattle.table.proofs.Tests.{and-left, and-right, and-both, good-inj, not-good, unless-good, then-good}
+use Rattle.table.specs.Places.{takeAt, lastPlace, whole}
+use Rattle.table.specs.Steps.{Found, Missing, AllTaken}
+use Rattle.table.proofs.Tests.{and-left, and-right, good-inj, unless-good, then-good}
 use Rattle.table.proofs.BitLaws.{length-bits}
 use Rattle.table.proofs.Records.{no-zero, Outcome, fine, stopped, row-outcome, answer-then}
 use Rattle.table.proofs.Windows.{Had, had, too-short, not-short}
@@ -185,7 +185,7 @@ accepted s m e = go (unpacked s) refl e
 pub whole-few : (s : List ℕ) (m : ℕ) → Whole s m → m ≤ maxFlows
 whole-few s m d = omega (arith, d .size, opened s (d .ws) (d .is) .few)
 
-pub whole-taken : (s : List ℕ) (m : ℕ) → Whole s m → Taken (bits s) m
+pub whole-taken : (s : List ℕ) (m : ℕ) → Whole s m → AllTaken (bits s) m
 whole-taken s m d =
     let o = opened s (d .ws) (d .is) in
     record { rows = d .ws; all = subst (λ (n : ℕ). takeRows n n 0 (drop countWidth (bits s)) ≡ good (d .ws)) (d .size) (o .rows); within = o .within }

@@ -1,22 +1,21 @@
 -- What a row's test says, and the test and the packed size of the rows from one on. Assumes nothing.
-use mathlib.Core.Path.{_≡_, refl, sym, subst, _∙_, ap}
-use mathlib.Core.Bool.{Bool, true, false, _&&_}
-use mathlib.Core.List.{List, [], _∷_, _++_}
+use mathlib.Core.Path.{_≡_, refl, sym, _∙_, ap}
+use mathlib.Core.Bool.{Bool, true, false}
+use mathlib.Core.List.{List, [], _∷_}
 use mathlib.Core.Option.{Option, none, some}
-use Prim.Native.Nat.{ℕ, zero, suc, _+_, _*_, _-_, _<_, _≤_}
+use Prim.Native.Nat.{ℕ, suc, _+_, _*_, _-_, _<_, _≤_}
 use native.Mathlib.Numerals.{add-one}
 use native.Mathlib.Omega.{arith}
 use lib.Dec.{leb, ltb}
-use lib.ListN.{length, getD, drop, getElem?, length-append}
+use lib.ListN.{length, drop, getElem?, length-append}
 use lib.Seq.{drop-drop}
 use borrow.Author.Tests.{leb-true, ltb-true, ltb-false}
-use Rattle.table.specs.declared.Answer.{Answer}
+use Rattle.table.specs.Places.{longestRecord}
 use Rattle.table.specs.Answers.{Refusal, noRoom, badCount, cutShort, unknownKind, outOfRange, misplaced, badFilling, clocksDiffer, beyondLimits, notPlain, tooManyTicks, wrongLog, shortTrace, clash, number, Result, good, refused, unless, then, answer}
 use Rattle.table.specs.Rows.{Row, width, ranged, placed, Kind, kinds, Words, each, known, fieldsOf, rowOf}
 use Rattle.table.specs.Plain.{four, split, rowsFrom, tableOf}
-use Rattle.table.specs.Bits.{toBits}
 use Rattle.table.specs.Packed.{rowBits, rowsBits, kindWidth}
-use Rattle.table.specs.Codes.{kindAt, rowLength, verdict}
+use Rattle.table.specs.Codes.{kindAt, rowLength, verdict, kindCount}
 use Rattle.table.proofs.Tests.{Tried, passed, failed, try}
 use Rattle.table.proofs.Tables.{table-made}
 use Rattle.table.proofs.BitLaws.{length-toBits}
@@ -62,14 +61,14 @@ row-outcome m f w = go (getElem? kinds (w .kind))
     go (some k) = fields k
 
 -- a row that is accepted has a known kind
-pub kind-lt : (m f : ℕ) (w : Words) → verdict (rowOf m f w) ≡ 0 → w .kind < 16
+pub kind-lt : (m f : ℕ) (w : Words) → verdict (rowOf m f w) ≡ 0 → w .kind < kindCount
 unfolding rowOf
-kind-lt m f w e = go (try (ltb (w .kind) 16))
+kind-lt m f w e = go (try (ltb (w .kind) kindCount))
   where
-    go : Tried (ltb (w .kind) 16) → w .kind < 16
-    go (passed p) = ltb-true (w .kind) 16 p
+    go : Tried (ltb (w .kind) kindCount) → w .kind < kindCount
+    go (passed p) = ltb-true (w .kind) kindCount p
     go (failed p) =
-        let z : verdict (rowOf m f w) ≡ 13 = rw (kind-gone (w .kind) (ltb-false (w .kind) 16 p)) in
+        let z : verdict (rowOf m f w) ≡ 13 = rw (kind-gone (w .kind) (ltb-false (w .kind) kindCount p)) in
         absurd (omega arith)
 
 -- the answer counts the same rows, whatever they are
@@ -108,7 +107,7 @@ split-next m f words h =
     ∙ ap (λ (l : List ℕ). four (drop (4 * f) words) ∷ split (m - suc f) l) (drop-drop 4 (4 * f) words ∙ ap (λ (n : ℕ). drop n words) q)
 
 -- the size of a packed row
-pub row-size : (w : Words) → w .kind < 16 → length (rowBits w) ≡ rowLength (w .kind)
+pub row-size : (w : Words) → w .kind < kindCount → length (rowBits w) ≡ rowLength (w .kind)
 unfolding rowBits rowLength
 row-size w h =
     let k : Kind = kindAt (w .kind) in
@@ -117,15 +116,15 @@ row-size w h =
 
 -- no record is longer than 61 bits
 short : ℕ → Kind → Bool
-short n k = leb (kindWidth + width (k .one) + width (k .two) + width (k .three)) 61
+short n k = leb (kindWidth + width (k .one) + width (k .two) + width (k .three)) longestRecord
 
 all-short : every short 0 kinds ≡ true
 unfolding short kinds
 all-short = refl
 
-pub row-le : (n : ℕ) → n < 16 → rowLength n ≤ 61
+pub row-le : (n : ℕ) → n < kindCount → rowLength n ≤ longestRecord
 unfolding short rowLength
-row-le n h = leb-true _ 61 (at short kinds _ all-short n (omega (arith, kinds-size)))
+row-le n h = leb-true _ longestRecord (at short kinds _ all-short n (omega (arith, kinds-size)))
 
 -- One row of a survey: row f of m, with the words w.
 module _ (m f : ℕ) (words : List ℕ) (w : Words) (is : w ≡ four (drop (4 * f) words)) (below : f < m) where

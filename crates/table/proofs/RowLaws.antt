@@ -1,17 +1,17 @@
 -- One row of the packed form, field after field. Assumes nothing.
-use mathlib.Core.Path.{_≡_, refl, sym, ap, _∙_}
+use mathlib.Core.Path.{_≡_, refl}
 use mathlib.Core.Bool.{Bool}
 use mathlib.Core.List.{List}
 use Prim.Native.Nat.{ℕ, _+_, _<_, _≤_}
 use native.Mathlib.Omega.{arith}
-use lib.ListN.{length, drop}
+use lib.ListN.{length}
 use Rattle.table.specs.declared.Cursor.{Cursor}
 use Rattle.table.specs.declared.Taking.the-variants.{Got, Short}
 use Rattle.table.specs.Answers.{cutShort, unknownKind}
 use Rattle.table.specs.Rows.{width, rowOf}
 use Rattle.table.specs.Packed.{takeFields, takeRow, kindWidth}
-use Rattle.table.specs.Codes.{kindAt, rowLength}
-use Rattle.table.specs.Places.{takeAt, lastPlace, longestRecord, widest}
+use Rattle.table.specs.Codes.{kindAt, rowLength, kindCount}
+use Rattle.table.specs.Places.{takeAt, lastPlace, longestRecord}
 use Rattle.table.specs.Steps.{Found, Missing}
 use Rattle.table.proofs.Entries.{kind-there, kind-gone, width-le}
 use Rattle.table.proofs.Records.{row-le}
@@ -27,12 +27,12 @@ module _ (bs : List Bool) (at : ℕ) (room : at + longestRecord ≤ lastPlace) (
     hk : Had bs at kindWidth n p
     hk = had bs at kindWidth n p k
 
-    pub bad-kind : 16 ≤ n → Missing bs at 13
+    pub bad-kind : kindCount ≤ n → Missing bs at 13
     unfolding takeRow
     bad-kind h = record { why = unknownKind; is = refl; taken = λ m f. rw (hk .field f, kind-gone n h) }
 
     -- and is known
-    module _ (known : n < 16) where
+    module _ (known : n < kindCount) where
       lengths : kindWidth + width (kindAt n .one) + width (kindAt n .two) + width (kindAt n .three) ≤ longestRecord
       unfolding rowLength
       lengths = row-le n known

@@ -1,8 +1,8 @@
 -- Storing the rows of a packed table: what is stored and what is left make the whole. Assumes nothing.
-use mathlib.Core.Path.{_≡_, refl, sym, ap, _∙_, subst}
+use mathlib.Core.Path.{_≡_, sym, ap, _∙_}
 use mathlib.Core.Bool.{Bool}
 use mathlib.Core.List.{List, [], _∷_, _++_, append-assoc}
-use Prim.Native.Nat.{ℕ, zero, suc, _+_, _-_, _*_, _<_, _≤_}
+use Prim.Native.Nat.{ℕ, suc, _+_, _-_, _*_, _<_, _≤_}
 use native.Mathlib.Nat.{sub-zero}
 use native.Mathlib.Numerals.{add-one}
 use native.Mathlib.Omega.{arith}
@@ -10,12 +10,12 @@ use lib.ListN.{length, take, drop, set, length-append, take-append-drop}
 use lib.Seq.{take-at, drop-at, drop-drop, sets-eq, length-take-le}
 use Rattle.table.specs.declared.Cursor.{Cursor}
 use Rattle.table.specs.declared.Record.{Record}
-use Rattle.table.specs.Answers.{Result, good, refused, then, over, leaves, badFilling}
+use Rattle.table.specs.Answers.{good, over, leaves, badFilling}
 use Rattle.table.specs.Rows.{Words, rowOf}
 use Rattle.table.specs.Plain.{joined}
 use Rattle.table.specs.Packed.{TakenRow, takeRow, takeRows, filling, countWidth}
 use Rattle.table.specs.Codes.{wordsOf}
-use Rattle.table.specs.Steps.{Found, Missing, plainWords, Taken}
+use Rattle.table.specs.Steps.{Found, Missing, plainWords, AllTaken}
 use Rattle.table.proofs.Tests.{good-inj, not-good, unless-good, then-good}
 
 -- four words that are set one after the other
@@ -33,7 +33,7 @@ pub record Storing (bs : List Bool) (m row at : ℕ) (words old : List ℕ) : Ty
   pub left : takeRows m (m - row) row (drop at bs) ≡ good rows
   pub whole : take (4 * row) words ++ over (joined rows) (drop (4 * row) words) ≡ leaves joined (takeRows m m 0 (drop countWidth bs)) old
 
-pub storing-starts : (bs : List Bool) (m : ℕ) (old : List ℕ) → Taken bs m → Storing bs m 0 countWidth old old
+pub storing-starts : (bs : List Bool) (m : ℕ) (old : List ℕ) → AllTaken bs m → Storing bs m 0 countWidth old old
 storing-starts bs m old t = record { rows = t .rows; left = rw sub-zero (t .all); whole = rw (t .all) }
 
 module _ (bs : List Bool) (m row at : ℕ) (words old : List ℕ) (st : Storing bs m row at words old) where

@@ -48,7 +48,7 @@ pub record Made (m f : ℕ) (w : Words) (r : Row) : Type 0 where
   pub in-range : each ranged kind w ≡ true
   pub in-place : each (placed m f) kind w ≡ true
 
-known-good : {A : Type 0} (f : ℕ) (o : Option A) (a : A) → known f o ≡ good a → o ≡ some a
+pub known-good : {A : Type 0} (f : ℕ) (o : Option A) (a : A) → known f o ≡ good a → o ≡ some a
 known-good f none a e = not-good e
 known-good f (some b) a e = ap some (good-inj e)
 
@@ -70,7 +70,7 @@ Good m f ticks x = x ≤ maxField
 Good m f value x = Unit {0}
 Good m f unused x = Unit {0}
 
-ranges : (t : Field) (x : ℕ) → ranged t x ≡ true → In (least t) x (most t)
+pub ranges : (t : Field) (x : ℕ) → ranged t x ≡ true → In (least t) x (most t)
 unfolding ranged
 ranges t x e = record { from = leb-true (least t) x (and-left (leb (least t) x) _ e); upto = leb-true x (most t) (and-right (leb (least t) x) _ e) }
 

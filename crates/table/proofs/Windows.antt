@@ -17,7 +17,7 @@ use Rattle.table.specs.Bits.{toBits, fromBits, bits}
 use Rattle.table.specs.Places.{window, takeAt, lastPlace, widest}
 use Rattle.table.specs.Answers.{good, refused, cutShort}
 use Rattle.table.specs.Packed.{takeField}
-use Rattle.table.proofs.Tests.{and-left, and-right}
+use Rattle.table.proofs.Tests.{and-right}
 use Rattle.table.proofs.BitLaws.{length-toBits, fromBits-append, fromBits-lt, from-to, length-bits, drop-bits, take-append, drop-take}
 
 -- ---- a field in the middle of bits, by division

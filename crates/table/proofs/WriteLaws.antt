@@ -1,27 +1,27 @@
 -- Writing the packed form: a row, the rows from one on, and the whole. Assumes nothing.
-use mathlib.Core.Path.{_≡_, refl, sym, ap, ap₂, _∙_, subst}
+use mathlib.Core.Path.{_≡_, refl, sym, ap, ap₂, _∙_}
 use mathlib.Core.Bool.{Bool, _&&_}
 use mathlib.Core.List.{List, [], _∷_, _++_, append-assoc, append-nil}
 use Prim.Native.Nat.{ℕ, zero, suc, _+_, _-_, _*_, _/_, _<_, _≤_}
 use native.Mathlib.Nat.{sub-zero}
 use native.Mathlib.Numerals.{add-one}
 use native.Mathlib.Omega.{arith}
-use lib.Dec.{leb, eqb}
-use lib.ListN.{length, getD, take, drop, length-append}
+use lib.Dec.{eqb}
+use lib.ListN.{length, getD, drop, length-append}
 use borrow.Author.Tests.{le-leb, lt-leb}
 use Rattle.table.specs.declared.Answer.{Answer}
-use Rattle.table.specs.Answers.{Result, good, refused, then, answer, success, noRoom, badCount}
+use Rattle.table.specs.Answers.{Result, good, refused, then, answer, success, badCount}
 use Rattle.table.specs.Rows.{Row, width, Words, rowOf, maxFlows}
 use Rattle.table.specs.Plain.{four, split, rowsFrom, countFits, tableOf}
 use Rattle.table.specs.Bits.{toBits, bits, byteCount, bytes}
 use Rattle.table.specs.Packed.{countWidth, kindWidth, rowBits, rowsBits, packed, writing, writeAnswer, bytesAfter}
-use Rattle.table.specs.Codes.{kindAt, rowLength, verdict}
-use Rattle.table.specs.Places.{putAt, laid}
-use Rattle.table.proofs.Tests.{good-inj, not-good, unless-good, then-good}
+use Rattle.table.specs.Codes.{kindAt, rowLength, verdict, kindCount}
+use Rattle.table.specs.Places.{putAt}
+use Rattle.table.proofs.Tests.{unless-good}
 use Rattle.table.proofs.Tables.{table-made}
-use Rattle.table.proofs.BitLaws.{length-toBits, length-bits}
+use Rattle.table.proofs.BitLaws.{length-toBits}
 use Rattle.table.proofs.Entries.{kind-there}
-use Rattle.table.proofs.Records.{no-zero, Outcome, fine, stopped, row-outcome, answer-then, kind-lt, rows-next, split-next, split-end, row-size, size-next, survey-next}
+use Rattle.table.proofs.Records.{no-zero, Outcome, fine, stopped, row-outcome, kind-lt, split-next, split-end, row-size, size-next, survey-next}
 use Rattle.table.proofs.Puts.{put-next}
 use Rattle.table.proofs.ByteLaws.{laid-bytes, length-bytes}
 
@@ -34,7 +34,7 @@ field-more old b₁ b₂ f at q w w′ v h e q= w= e₂ =
     e₂ ∙ put-next old b₁ f (toBits w v) at q h e q= ∙ ap (λ (n : ℕ). putAt old at (f ++ toBits n v)) w=
 
 -- the bits of a row of a known kind
-pub row-bits : (w : Words) → w .kind < 16
+pub row-bits : (w : Words) → w .kind < kindCount
     → ((toBits kindWidth (w .kind) ++ toBits (width (kindAt (w .kind) .one)) (w .one)) ++ toBits (width (kindAt (w .kind) .two)) (w .two)) ++ toBits (width (kindAt (w .kind) .three)) (w .three) ≡ rowBits w
 unfolding rowBits
 row-bits w h = rw (kind-there (w .kind) h) (simp append-assoc)
@@ -77,7 +77,7 @@ module _ (m row at start : ℕ) (words out old : List ℕ) (pt : Putting m row a
     pub fine-row : verdict (rowOf m row w) ≡ 0
     fine-row = rw is (row-went m row (four (drop (4 * row) words)) _ (rw (split-next m row words below) at (pt .accepted)))
 
-    pub known-row : w .kind < 16
+    pub known-row : w .kind < kindCount
     known-row = kind-lt m row w fine-row
 
     pub room-row : at + rowLength (w .kind) ≤ start + length (rowsBits (split m words))
@@ -99,7 +99,7 @@ module _ (m row at start : ℕ) (words out old : List ℕ) (pt : Putting m row a
 
 -- ---- the whole
 
-length-split : (n : ℕ) (words : List ℕ) → length (split n words) ≡ n
+pub length-split : (n : ℕ) (words : List ℕ) → length (split n words) ≡ n
 unfolding split
 length-split zero words = refl
 length-split (suc n) words = ap suc (length-split n (drop 4 words))
@@ -107,7 +107,7 @@ length-split (suc n) words = ap suc (length-split n (drop 4 words))
 abbrev pub tableBits : ℕ → List ℕ → List Bool
 tableBits m words = toBits countWidth m ++ rowsBits (split m words)
 
-packed-split : (m : ℕ) (words : List ℕ) → packed (split m words) ≡ bytes (tableBits m words)
+pub packed-split : (m : ℕ) (words : List ℕ) → packed (split m words) ≡ bytes (tableBits m words)
 unfolding packed
 packed-split m words = rw (length-split m words)
 

@@ -16,6 +16,10 @@ use Rattle.table.specs.Packed.{kindWidth, countWidth, rowsBits}
 abbrev pub coded : ℕ → Field
 coded n = getD (operand ∷ source ∷ copies ∷ period ∷ ticks ∷ value ∷ unused ∷ []) n unused
 
+-- how many kinds there are
+abbrev pub kindCount : ℕ
+kindCount = 16
+
 -- the kind with a number
 abbrev pub kindAt : ℕ → Kind
 kindAt n = getD kinds n (kind unused unused unused (λ x y z. tail x))

@@ -5,7 +5,6 @@ use mathlib.Core.Bool.{Bool, false, cond, _&&_}
 use mathlib.Core.List.{List, _++_}
 use lib.Dec.{leb}
 use lib.ListN.{length, getD, take, drop, replicate}
-use Rattle.table.specs.declared.Cursor.{Cursor}
 use Rattle.table.specs.declared.Taking.{Taking}
 use Rattle.table.specs.declared.Taking.the-variants.{Got, Short}
 use Rattle.table.specs.Bits.{bits, toBits, fromBits, byteCount}

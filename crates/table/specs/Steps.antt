@@ -10,9 +10,9 @@ use Rattle.table.specs.declared.Step.{Step}
 use Rattle.table.specs.declared.Step.the-variants as step
 use Rattle.table.specs.declared.Scan.{Scan}
 use Rattle.table.specs.declared.Scan.the-variants.{End, Stopped}
-use Rattle.table.specs.Answers.{Refusal, number, Result, good, refused, then, answer}
+use Rattle.table.specs.Answers.{Refusal, number, good, refused, then, answer}
 use Rattle.table.specs.Rows.{Words, rowOf}
-use Rattle.table.specs.Packed.{TakenRow, takeRow, takeRows, countWidth}
+use Rattle.table.specs.Packed.{takeRow, takeRows, countWidth}
 use Rattle.table.specs.Codes.{wordsOf}
 use Rattle.table.specs.Places.{lastPlace, longestRecord}
 
@@ -47,7 +47,7 @@ Scanned bs m (End p) = Ended bs m p
 Scanned bs m (Stopped n row) = answer (λ ws. m) (takeRows m m 0 (drop countWidth bs)) ≡ record { number = n; flow = row; tick = 0; count = 0 }
 
 -- the rows of a table of m flows are not refused
-pub record Taken (bs : List Bool) (m : ℕ) : Type 0 where
+pub record AllTaken (bs : List Bool) (m : ℕ) : Type 0 where
   pub rows : List Words
   pub all : takeRows m m 0 (drop countWidth bs) ≡ good rows
   pub within : countWidth ≤ length bs

@@ -7,6 +7,7 @@ ghost use Rattle.table.specs.Packed.{readAnswer, wordsAfter, writeAnswer
 
 mod rows; // rows.rt: the fields of a row, and its tests
 mod bits; // bits.rt: fields taken and put at a bit place
+mod held; // held.rt: a reader that holds the packed bytes and a place
 mod plain; // plain.rt: the test of a table in plain form
 mod unpack; // unpack.rt: reading the packed form
 mod pack; // pack.rt: writing the packed form
@@ -27,6 +28,12 @@ pub enum Reading {
 
 // A bit place in packed bytes.
 pub struct Cursor {
+    pub at: usize,
+}
+
+// The packed bytes and a bit place in them.
+pub struct Reader<'a> {
+    pub src: &'a [u8],
     pub at: usize,
 }
 

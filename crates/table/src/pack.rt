@@ -12,12 +12,12 @@ ghost use Rattle.table.specs.Plain.{split, rowsFrom};
 ghost use Rattle.table.specs.Bits.{bits, toBits};
 ghost use Rattle.table.specs.Packed.{rowBits, rowsBits, countWidth};
 ghost use Rattle.table.specs.Places.{putAt, lastPlace, longestRecord};
-ghost use Rattle.table.specs.Codes.{rowLength, wordsOf};
+ghost use Rattle.table.specs.Codes.{rowLength, wordsOf, kindCount};
 
 impl Cursor {
     // Puts a row of a known kind, and hands back the place after it.
     fn put_row(self, out: &mut [u8], r: Record) -> Cursor
-        requires { ⌜ (self .at + longestRecord ≤ lastPlace) × (r .kind < 16) × (self .at + rowLength (r .kind) ≤ 8 * length (now out)) ⌝ }
+        requires { ⌜ (self .at + longestRecord ≤ lastPlace) × (r .kind < kindCount) × (self .at + rowLength (r .kind) ≤ 8 * length (now out)) ⌝ }
         ensures { λ p. ⌜ (p .at ≡ self .at + rowLength (r .kind)) × (bits (now (out .exit)) ≡ putAt (bits (now (out .entry))) (self .at) (rowBits (wordsOf r))) ⌝ }
     {
         let first = self.put(out, 5, r.kind);

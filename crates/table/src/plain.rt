@@ -8,7 +8,7 @@ ghost use Prim.Native.Nat.{_+_, _*_, _<_, _≤_};
 ghost use lib.ListN.{length, drop};
 ghost use Rattle.table.specs.Answers.{answer};
 ghost use Rattle.table.specs.Plain.{four, split, rowsFrom, tableOf};
-ghost use Rattle.table.specs.Codes.{wordsOf, rowLength, told, Sized};
+ghost use Rattle.table.specs.Codes.{wordsOf, rowLength, told, Sized, kindCount};
 
 // The row whose words start at i.
 pub(crate) fn record_at(words: &[u32], i: usize) -> Record
@@ -25,7 +25,7 @@ pub(crate) fn record_at(words: &[u32], i: usize) -> Record
 
 // The bits of a row of a known kind in packed form.
 fn row_length(kind: u32) -> usize
-    requires { ⌜ kind < 16 ⌝ }
+    requires { ⌜ kind < kindCount ⌝ }
     ensures { λ r. ⌜ r ≡ rowLength kind ⌝ }
 {
     (5 + width_of(kind, 0) + width_of(kind, 1) + width_of(kind, 2)) as usize

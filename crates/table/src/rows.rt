@@ -4,7 +4,7 @@ ghost use mathlib.Core.Path.{_≡_};
 ghost use Prim.Native.Nat.{_<_, _≤_};
 ghost use lib.ListN.{getD};
 ghost use Rattle.table.specs.Rows.{Field, unused, width, ranged, placed, each, rowOf};
-ghost use Rattle.table.specs.Codes.{coded, fieldList, kindAt, wordsOf, verdict};
+ghost use Rattle.table.specs.Codes.{coded, fieldList, kindAt, wordsOf, verdict, kindCount};
 
 const OPERAND: u32 = 0;
 
@@ -51,7 +51,7 @@ const FIELDS: [[u32; 3]; 16] = [
 
 // The field of a known kind at a place.
 pub(crate) fn field_of(kind: u32, place: usize) -> u32
-    requires { ⌜ (kind < 16) × (place < 3) ⌝ }
+    requires { ⌜ (kind < kindCount) × (place < 3) ⌝ }
     ensures { λ r. ⌜ (r < 7) × (coded r ≡ getD (fieldList (kindAt kind)) place unused) ⌝ }
 {
     let fields = FIELDS[kind as usize];
@@ -60,7 +60,7 @@ pub(crate) fn field_of(kind: u32, place: usize) -> u32
 
 // The bits of a field of a known kind.
 pub(crate) fn width_of(kind: u32, place: usize) -> u32
-    requires { ⌜ (kind < 16) × (place < 3) ⌝ }
+    requires { ⌜ (kind < kindCount) × (place < 3) ⌝ }
     ensures { λ r. ⌜ (r ≤ 32) × (r ≡ width (getD (fieldList (kindAt kind)) place unused)) ⌝ }
 {
     WIDTH[field_of(kind, place) as usize]
@@ -93,7 +93,7 @@ fn in_place(field: u32, x: u32, row: u32, count: u32) -> bool
 
 // Whether each field of a row of a known kind is in its range.
 fn all_in_range(r: Record) -> bool
-    requires { ⌜ r .kind < 16 ⌝ }
+    requires { ⌜ r .kind < kindCount ⌝ }
     ensures { λ t. ⌜ t ≡ each ranged (kindAt (r .kind)) (wordsOf r) ⌝ }
 {
     if in_range(field_of(r.kind, 0), r.one) {
@@ -106,7 +106,7 @@ fn all_in_range(r: Record) -> bool
 
 // Whether each field of a row of a known kind is in its place.
 fn all_in_place(r: Record, row: u32, count: u32) -> bool
-    requires { ⌜ r .kind < 16 ⌝ }
+    requires { ⌜ r .kind < kindCount ⌝ }
     ensures { λ t. ⌜ t ≡ each (placed count row) (kindAt (r .kind)) (wordsOf r) ⌝ }
 {
     if in_place(field_of(r.kind, 0), r.one, row, count) {

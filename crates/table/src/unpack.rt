@@ -6,6 +6,7 @@ use super::Scan;
 use super::Step;
 use super::Taking;
 use super::bits::up;
+use super::held::first_field;
 use super::rows::KINDS;
 use super::rows::judge;
 use super::rows::width_of;
@@ -18,7 +19,7 @@ ghost use Rattle.table.specs.Plain.{joined};
 ghost use Rattle.table.specs.Bits.{bits};
 ghost use Rattle.table.specs.Packed.{filling, takeRows, unpacked};
 ghost use Rattle.table.specs.Places.{lastPlace, longestRecord};
-ghost use Rattle.table.specs.Steps.{Stepped, Scanned, plainWords, Taken};
+ghost use Rattle.table.specs.Steps.{Stepped, Scanned, plainWords, AllTaken};
 
 impl Cursor {
     // The words of the row at the cursor, with the place after it: its kind, which is to be known, and its fields.
@@ -99,7 +100,7 @@ fn ends(s: &[u8], at: usize) -> bool
 pub(crate) fn inspect(s: &[u8]) -> Reading
     ensures { λ r. ⌜ answer length (unpacked (now (s .entry))) ≡ parts r ⌝ }
 {
-    let Taking::Got(count, _) = Cursor::new().take(s, 8) else {
+    let Taking::Got(count, _) = first_field(s, 8) else {
         return Reading::Refused { number: 12, row: 0 };
     };
     if count < 1 {
@@ -135,7 +136,7 @@ fn store_row(words: &mut [u32], i: usize, r: Record)
 
 // The words of the rows of a table that is not refused.
 pub(crate) fn store_rows(s: &[u8], count: u32, words: &mut [u32])
-    requires { ⌜ (count ≤ 64) × (4 * count ≤ length (now words)) × Taken (bits (now s)) count ⌝ }
+    requires { ⌜ (count ≤ 64) × (4 * count ≤ length (now words)) × AllTaken (bits (now s)) count ⌝ }
     ensures { λ u. ⌜ now (words .exit) ≡ leaves joined (takeRows count count 0 (drop 8 (bits (now (s .entry))))) (now (words .entry)) ⌝ }
 {
     let mut at: usize = 8;

@@ -1,6 +1,5 @@
 -- `table::read` meets its contract. Assumes nothing.
-use mathlib.Core.Path.{_≡_, refl, sym, ap, _∙_}
-use native.Mathlib.Omega.{arith}
+use mathlib.Core.Path.{ap, _∙_}
 use denote.Ref.{now}
 use Rattle.table.specs.Answers.{parts}
 use Rattle.table.proofs.ReadLaws.{read-refused, Whole, accepted, whole-few, whole-taken, read-full, read-done}

@@ -1,10 +1,8 @@
 -- `table::write` meets its contract. Assumes nothing.
-use mathlib.Core.Path.{_≡_, refl, sym, ap, _∙_, subst}
-use Prim.Native.Nat.{ℕ, _+_, _-_, _*_, _≤_, _<_}
+use mathlib.Core.Path.{ap, _∙_, subst}
+use Prim.Native.Nat.{_-_}
 use native.Mathlib.Omega.{arith}
-use lib.ListN.{length, drop}
 use denote.Ref.{now}
-use Rattle.table.specs.Answers.{success}
 use Rattle.table.specs.Plain.{split}
 use Rattle.table.specs.Codes.{told, Sized}
 use Rattle.table.proofs.WriteLaws.{ready, write-refused, write-full, write-done}

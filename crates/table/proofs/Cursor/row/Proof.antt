@@ -3,7 +3,7 @@ use mathlib.Core.Path.{_≡_, sym, ap, _∙_}
 use Prim.Native.Nat.{_+_, _≤_}
 use lib.ListN.{length}
 use denote.Ref.{now}
-use Rattle.table.specs.declared.Taking.the-variants.{Got, Short}
+use Rattle.table.specs.declared.Taking.the-variants.{Got}
 use Rattle.table.specs.Rows.{width}
 use Rattle.table.specs.Bits.{bits}
 use Rattle.table.specs.Packed.{kindWidth}

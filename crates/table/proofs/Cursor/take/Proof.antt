@@ -20,10 +20,10 @@ returns-2 c =
     take-wide (bits (now (a .s))) (a .self .at) (a .width) (c .before .if1 .left) (c .if2 .taken)
 
 add-if3 : tie.Need-add-if3
-add-if3 c = search needs
+add-if3 c = omega arith
 
 add-if3-2 : tie.Need-add-if3-2
-add-if3-2 c = search needs
+add-if3-2 c = omega arith
 
 returns-3 : tie.Need-returns-3
 returns-3 c =
@@ -31,22 +31,22 @@ returns-3 c =
     take-short (now (a .s)) (a .self .at) (a .width) (c .before .before .if1 .left) (c .before .if2 .left) (c .if3 .taken)
 
 sub-past : tie.Need-sub-past
-sub-past c = search needs
+sub-past c = omega arith
 
 sub-past-2 : tie.Need-sub-past-2
-sub-past-2 c = search needs
+sub-past-2 c = omega arith
 
 window-at-requires : tie.Need-window-at-requires
 window-at-requires c κs = search needs
 
 shr-low-bits : tie.Need-shr-low-bits
-shr-low-bits c = search needs
+shr-low-bits c = omega arith
 
 low-bits-requires : tie.Need-low-bits-requires
 low-bits-requires c κs = search needs
 
 add-t10 : tie.Need-add-t10
-add-t10 c = search needs
+add-t10 c = omega arith
 
 returns-4 : tie.Need-returns-4
 returns-4 c =

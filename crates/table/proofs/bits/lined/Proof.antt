@@ -11,34 +11,34 @@ byte-at-requires : tie.Need-byte-at-requires
 byte-at-requires c κs = search needs
 
 sub-before : tie.Need-sub-before
-sub-before c = search needs
+sub-before c = omega arith
 
 shr-before : tie.Need-shr-before
-shr-before c = search needs
+shr-before c = omega arith
 
 low-bits-requires : tie.Need-low-bits-requires
 low-bits-requires c κs = search needs
 
 cast-field : tie.Need-cast-field
-cast-field c = search needs
+cast-field c = omega arith
 
 shl-result : tie.Need-shl-result
-shl-result c = search needs
+shl-result c = omega arith
 
 add-up : tie.Need-add-up
-add-up c = search needs
+add-up c = omega arith
 
 up-requires : tie.Need-up-requires
 up-requires c κs = search needs
 
 add-result : tie.Need-add-result
-add-result c = search needs
+add-result c = omega arith
 
 sub-result : tie.Need-sub-result
-sub-result c = search needs
+sub-result c = omega arith
 
 shl-result-2 : tie.Need-shl-result-2
-shl-result-2 c = search needs
+shl-result-2 c = omega arith
 
 returns : tie.Need-returns
 returns c =

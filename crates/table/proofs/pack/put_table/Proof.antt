@@ -1,15 +1,14 @@
 -- `table::pack::put_table` meets its contract. Assumes nothing.
-use mathlib.Core.Path.{_≡_, refl, sym, ap, _∙_, subst}
+use mathlib.Core.Path.{_≡_, refl, ap, _∙_}
 use Prim.Native.Nat.{ℕ, _+_, _-_, _*_, _≤_, _<_}
 use native.Mathlib.Omega.{arith}
-use lib.ListN.{length, drop}
+use lib.ListN.{length}
 use denote.Ref.{now}
-use mathlib.Core.List.{_++_}
 use Rattle.table.specs.Plain.{split}
 use Rattle.table.specs.Bits.{bits, toBits}
 use Rattle.table.specs.Packed.{countWidth, rowsBits}
 use Rattle.table.specs.Codes.{wordsOf}
-use Rattle.table.specs.Places.{putAt}
+use Rattle.table.specs.Places.{putAt, longestRecord}
 use Rattle.table.proofs.BitLaws.{length-toBits, length-bits}
 use Rattle.table.proofs.Records.{row-le}
 use Rattle.table.proofs.Puts.{put-next}
@@ -20,7 +19,7 @@ use Rattle.table.proofs.pack.put_table.Tie as tie
 
 abbrev Inv-loop : tie.InvT-loop
 Inv-loop count words out₀ at₀ row₀ out at row =
-    (row ≤ count) × (at ≤ 8 + 61 * row) × (length out ≡ length out₀) × Putting count row at at₀ words out out₀
+    (row ≤ count) × (at ≤ 8 + longestRecord * row) × (length out ≡ length out₀) × Putting count row at at₀ words out out₀
 
 abbrev μ-loop : tie.MeasureT-loop
 μ-loop count words out₀ at₀ row₀ out at row = count - row
@@ -45,10 +44,10 @@ loop-holds c =
     )
 
 cast-record-at : tie.Need-cast-record-at Inv-loop μ-loop
-cast-record-at c = search needs
+cast-record-at c = omega arith
 
 mul-record-at : tie.Need-mul-record-at Inv-loop μ-loop
-mul-record-at c = search needs
+mul-record-at c = omega arith
 
 record-at-requires : tie.Need-record-at-requires Inv-loop μ-loop
 record-at-requires c κs = search needs
@@ -70,10 +69,10 @@ put-row-requires c κs =
     )
 
 add-row : tie.Need-add-row Inv-loop μ-loop
-add-row c = search needs
+add-row c = omega arith
 
 loop-less : tie.Need-loop-less Inv-loop μ-loop
-loop-less c = search needs
+loop-less c = omega arith
 
 loop-again : tie.Need-loop-again Inv-loop μ-loop
 loop-again c =

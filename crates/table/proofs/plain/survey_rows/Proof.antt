@@ -1,9 +1,10 @@
 -- `table::plain::survey_rows` meets its contract. Assumes nothing.
 use mathlib.Core.List.{[]}
+use Rattle.table.specs.Places.{longestRecord}
 use Rattle.table.specs.Rows.{rowOf}
 use Rattle.table.specs.Codes.{wordsOf, verdict}
-use mathlib.Core.Path.{_≡_, refl, sym, ap, _∙_}
-use Prim.Native.Nat.{ℕ, _+_, _-_, _*_, _≤_, _<_}
+use mathlib.Core.Path.{_≡_, sym, _∙_}
+use Prim.Native.Nat.{_+_, _-_, _*_, _≤_, _<_}
 use native.Mathlib.Nat.{sub-zero}
 use native.Mathlib.Omega.{arith}
 use denote.Ref.{now}
@@ -18,7 +19,7 @@ use Rattle.table.proofs.plain.survey_rows.Tie as tie
 
 abbrev Inv-loop : tie.InvT-loop
 Inv-loop count words bits₀ row₀ bits row =
-    (row ≤ count) × (bits ≤ 8 + 61 * row)
+    (row ≤ count) × (bits ≤ 8 + longestRecord * row)
     × (answer (λ rs. count) (rowsFrom count row (split (count - row) (drop (4 * row) words))) ≡ answer (λ rs. count) (rowsFrom count 0 (split count words)))
     × (bits + length (rowsBits (split (count - row) (drop (4 * row) words))) ≡ 8 + length (rowsBits (split count words)))
 
@@ -29,10 +30,10 @@ loop-holds : tie.Need-loop-holds Inv-loop μ-loop
 loop-holds c = (search needs, search needs, rw sub-zero, rw sub-zero)
 
 cast-record-at : tie.Need-cast-record-at Inv-loop μ-loop
-cast-record-at c = search needs
+cast-record-at c = omega arith
 
 mul-record-at : tie.Need-mul-record-at Inv-loop μ-loop
-mul-record-at c = search needs
+mul-record-at c = omega arith
 
 record-at-requires : tie.Need-record-at-requires Inv-loop μ-loop
 record-at-requires c κs = search needs
@@ -58,17 +59,17 @@ row-length-requires c κs =
 accepted : (c : tie.After-row-length Inv-loop μ-loop) → verdict (rowOf (c .before .before .before .before .before .before .before .args .count) (c .before .before .before .before .before .loop .row) (wordsOf (c .before .before .before .record-at .result))) ≡ 0
 accepted c = sym (c .before .before .judge .ensures) ∙ c .before .if1 .left
 
-longest : (c : tie.After-row-length Inv-loop μ-loop) → c .row-length .result ≤ 61
+longest : (c : tie.After-row-length Inv-loop μ-loop) → c .row-length .result ≤ longestRecord
 longest c = rw (c .row-length .ensures) (row-le _ (kind-lt _ _ (wordsOf (c .before .before .before .record-at .result)) (accepted c)))
 
 add-bits : tie.Need-add-bits Inv-loop μ-loop
 add-bits c = omega (arith, longest c)
 
 add-row : tie.Need-add-row Inv-loop μ-loop
-add-row c = search needs
+add-row c = omega arith
 
 loop-less : tie.Need-loop-less Inv-loop μ-loop
-loop-less c = search needs
+loop-less c = omega arith
 
 loop-again : tie.Need-loop-again Inv-loop μ-loop
 loop-again c =

@@ -1,5 +1,4 @@
 -- `table::rows::in_place` meets its contract. Assumes nothing.
-use borrow.Author.Tests.{eq-eqb, ne-eqb}
 use mathlib.Core.Path.{sym}
 use Rattle.table.specs.Rows.{placed}
 use Rattle.table.proofs.Entries.{placed-else}

@@ -1,7 +1,7 @@
 -- `table::rows::width_of` meets its contract. Assumes nothing.
-use Prim.Native.Nat.{_≤_}
-use mathlib.Core.Path.{refl}
-use Rattle.table.specs.Rows.{width, unused}
+use Prim.Native.Nat.{ℕ, _≤_}
+use mathlib.Core.Path.{sym, ap, _∙_, subst}
+use Rattle.table.specs.Rows.{Field, width, unused}
 use lib.ListN.{getD}
 use Rattle.table.specs.Codes.{kindAt, fieldList}
 use Rattle.table.proofs.Entries.{width-at, width-le}
@@ -22,7 +22,10 @@ array-read-result : tie.Need-array-read-result
 array-read-result c = search needs
 
 returns : tie.Need-returns
-returns c = rw (width-at _ (c .field-of .ensures .0), c .field-of .ensures .1) (width-le (getD (fieldList (kindAt (c .before .args .kind))) (c .before .args .place) unused), refl)
+returns c =
+    let t : Field = getD (fieldList (kindAt (c .before .args .kind))) (c .before .args .place) unused in
+    let e = width-at (c .field-of .result) (c .field-of .ensures .0) ∙ ap width (c .field-of .ensures .1) in
+    (subst (λ (n : ℕ). n ≤ 32) (sym e) (width-le t), e)
 
 pub width-of-spec : {M : Type 1} → statement M
 width-of-spec =

@@ -1,8 +1,7 @@
 -- `table::unpack::ends` meets its contract. Assumes nothing.
-use mathlib.Core.Path.{_≡_, sym, ap, _∙_}
+use mathlib.Core.Path.{sym, ap, _∙_}
 use Prim.Native.Nat.{_-_}
 use denote.Ref.{now}
-use Rattle.table.specs.Bits.{bits}
 use Rattle.table.proofs.ReadLaws.{not-ended, fill-there, ended}
 use borrow.Author.Needs.{needs}
 use Rattle.table.proofs.unpack.ends.Statement.{statement}

@@ -1,14 +1,12 @@
 -- `table::unpack::inspect` meets its contract. Assumes nothing.
-use mathlib.Core.Path.{_≡_, refl, sym, ap, _∙_, subst}
-use Prim.Native.Nat.{ℕ, _+_, _-_, _*_, _≤_, _<_}
-use native.Mathlib.Omega.{arith}
-use lib.ListN.{length, drop}
+use mathlib.Core.Path.{_≡_, sym, ap, _∙_, subst}
+use Prim.Native.Nat.{_-_}
 use denote.Ref.{now}
-use Rattle.table.specs.declared.Taking.the-variants.{Got, Short}
-use Rattle.table.specs.Answers.{Result, unless, good, answer, badFilling}
+use Rattle.table.specs.declared.Taking.the-variants.{Got}
+use Rattle.table.specs.Answers.{unless, good, answer, badFilling}
 use Rattle.table.specs.Rows.{Words}
 use Rattle.table.specs.Bits.{bits}
-use Rattle.table.specs.Packed.{takeRows, filling, countWidth}
+use Rattle.table.specs.Packed.{takeRows, countWidth}
 use Rattle.table.specs.Places.{takeAt}
 use Rattle.table.specs.Steps.{Scanned, Ended}
 use Rattle.table.proofs.ReadLaws.{no-count, count-there, no-flows, many-flows, counted}
@@ -17,11 +15,8 @@ use borrow.Author.Needs.{needs}
 use Rattle.table.proofs.unpack.inspect.Statement.{statement}
 use Rattle.table.proofs.unpack.inspect.Tie as tie
 
-new-requires : tie.Need-new-requires
-new-requires c κs = search needs
-
-take-requires : tie.Need-take-requires
-take-requires c κs = search needs
+first-field-requires : tie.Need-first-field-requires
+first-field-requires c κs = search needs
 
 enum-known-count : tie.Need-enum-known-count
 enum-known-count c = search needs
@@ -31,35 +26,35 @@ enum-told c = search needs
 
 returns : tie.Need-returns
 returns c =
-    let a = c .before .before .before .before .before .args in
+    let a = c .before .before .before .before .args in
     let s = now (a .s) in
-    no-count s (ap (λ (n : ℕ). takeAt (bits s) n countWidth) (sym (c .before .before .before .new .ensures)) ∙ sym (c .before .before .take .ensures) ∙ c .enum-told .given .1)
+    no-count s (sym (c .before .before .first-field .ensures) ∙ c .enum-told .given .1)
 
 returns-2 : tie.Need-returns-2
 returns-2 c =
-    let a = c .before .before .before .before .before .before .before .args in
+    let a = c .before .before .before .before .before .before .args in
     let s = now (a .s) in
     let g = c .before .before .count .given in
     let m = g .0 .0 in
-    let e : takeAt (bits s) 0 countWidth ≡ Got m (g .0 .1 .0) = ap (λ (n : ℕ). takeAt (bits s) n countWidth) (sym (c .before .before .before .before .before .new .ensures)) ∙ sym (c .before .before .before .before .take .ensures) ∙ g .1 in
+    let e : takeAt (bits s) 0 countWidth ≡ Got m (g .0 .1 .0) = sym (c .before .before .before .before .first-field .ensures) ∙ g .1 in
     no-flows s m (g .0 .1 .0) e (c .if1 .taken)
 
 returns-3 : tie.Need-returns-3
 returns-3 c =
-    let a = c .before .before .before .before .before .before .before .before .args in
+    let a = c .before .before .before .before .before .before .before .args in
     let s = now (a .s) in
     let g = c .before .before .before .count .given in
     let m = g .0 .0 in
-    let e : takeAt (bits s) 0 countWidth ≡ Got m (g .0 .1 .0) = ap (λ (n : ℕ). takeAt (bits s) n countWidth) (sym (c .before .before .before .before .before .before .new .ensures)) ∙ sym (c .before .before .before .before .before .take .ensures) ∙ g .1 in
+    let e : takeAt (bits s) 0 countWidth ≡ Got m (g .0 .1 .0) = sym (c .before .before .before .before .before .first-field .ensures) ∙ g .1 in
     many-flows s m (g .0 .1 .0) e (c .before .if1 .left) (c .if2 .taken)
 
 scan-rows-requires : tie.Need-scan-rows-requires
 scan-rows-requires c κs =
-    let a = c .before .before .before .before .before .before .before .before .args in
+    let a = c .before .before .before .before .before .before .before .args in
     let s = now (a .s) in
     let g = c .before .before .before .count .given in
     let m = g .0 .0 in
-    let e : takeAt (bits s) 0 countWidth ≡ Got m (g .0 .1 .0) = ap (λ (n : ℕ). takeAt (bits s) n countWidth) (sym (c .before .before .before .before .before .before .new .ensures)) ∙ sym (c .before .before .before .before .before .take .ensures) ∙ g .1 in
+    let e : takeAt (bits s) 0 countWidth ≡ Got m (g .0 .1 .0) = sym (c .before .before .before .before .before .first-field .ensures) ∙ g .1 in
     (c .if2 .left, count-there s m (g .0 .1 .0) e)
 
 enum-known-scan : tie.Need-enum-known-scan
@@ -70,27 +65,27 @@ enum-known-scan-2 c = search needs
 
 ends-requires : tie.Need-ends-requires
 ends-requires c κs =
-    let d : Ended (bits (now (c .before .before .before .before .before .before .before .before .before .before .before .before .args .s))) (c .before .before .before .before .before .before .before .count .given .0 .0) (c .before .scan2 .given .0 .0) = subst (Scanned (bits (now (c .before .before .before .before .before .before .before .before .before .before .before .before .args .s))) (c .before .before .before .before .before .before .before .count .given .0 .0)) (c .before .scan2 .given .1) (c .before .before .before .scan-rows .ensures) in
+    let d : Ended (bits (now (c .before .before .before .before .before .before .before .before .before .before .before .args .s))) (c .before .before .before .before .before .before .before .count .given .0 .0) (c .before .scan2 .given .0 .0) = subst (Scanned (bits (now (c .before .before .before .before .before .before .before .before .before .before .before .args .s))) (c .before .before .before .before .before .before .before .count .given .0 .0)) (c .before .scan2 .given .1) (c .before .before .before .scan-rows .ensures) in
     (d .near, d .within)
 
 returns-4 : tie.Need-returns-4
 returns-4 c =
-    let a = c .before .before .before .before .before .before .before .before .before .before .before .before .args in
+    let a = c .before .before .before .before .before .before .before .before .before .before .before .args in
     let s = now (a .s) in
     let g = c .before .before .before .before .before .before .before .count .given in
     let m = g .0 .0 in
-    let e : takeAt (bits s) 0 countWidth ≡ Got m (g .0 .1 .0) = ap (λ (n : ℕ). takeAt (bits s) n countWidth) (sym (c .before .before .before .before .before .before .before .before .before .before .new .ensures)) ∙ sym (c .before .before .before .before .before .before .before .before .before .take .ensures) ∙ g .1 in
+    let e : takeAt (bits s) 0 countWidth ≡ Got m (g .0 .1 .0) = sym (c .before .before .before .before .before .before .before .before .before .first-field .ensures) ∙ g .1 in
     let w = counted s m (g .0 .1 .0) e (c .before .before .before .before .before .if1 .left) (c .before .before .before .before .if2 .left) in
     w ∙ subst (Scanned (bits s) m) (c .before .scan .given .1) (c .before .before .before .scan-rows .ensures)
 
 returns-5 : tie.Need-returns-5
 unfolding takeRows
 returns-5 c =
-    let a = c .before .before .before .before .before .before .before .before .before .before .before .before .before .before .args in
+    let a = c .before .before .before .before .before .before .before .before .before .before .before .before .before .args in
     let s = now (a .s) in
     let g = c .before .before .before .before .before .before .before .before .before .count .given in
     let m = g .0 .0 in
-    let e : takeAt (bits s) 0 countWidth ≡ Got m (g .0 .1 .0) = ap (λ (n : ℕ). takeAt (bits s) n countWidth) (sym (c .before .before .before .before .before .before .before .before .before .before .before .before .new .ensures)) ∙ sym (c .before .before .before .before .before .before .before .before .before .before .before .take .ensures) ∙ g .1 in
+    let e : takeAt (bits s) 0 countWidth ≡ Got m (g .0 .1 .0) = sym (c .before .before .before .before .before .before .before .before .before .before .before .first-field .ensures) ∙ g .1 in
     let w = counted s m (g .0 .1 .0) e (c .before .before .before .before .before .before .before .if1 .left) (c .before .before .before .before .before .before .if2 .left) in
     let d : Ended (bits s) m (c .before .before .before .scan2 .given .0 .0) = subst (Scanned (bits s) m) (c .before .before .before .scan2 .given .1) (c .before .before .before .before .before .scan-rows .ensures) in
     w ∙ sym (d .left) ∙ ap (λ b. answer (λ (ws : List Words). m) (unless b badFilling 0 (good []))) (sym (c .before .ends .ensures) ∙ c .if3 .taken)
@@ -98,11 +93,11 @@ returns-5 c =
 returns-6 : tie.Need-returns-6
 unfolding takeRows
 returns-6 c =
-    let a = c .before .before .before .before .before .before .before .before .before .before .before .before .before .before .args in
+    let a = c .before .before .before .before .before .before .before .before .before .before .before .before .before .args in
     let s = now (a .s) in
     let g = c .before .before .before .before .before .before .before .before .before .count .given in
     let m = g .0 .0 in
-    let e : takeAt (bits s) 0 countWidth ≡ Got m (g .0 .1 .0) = ap (λ (n : ℕ). takeAt (bits s) n countWidth) (sym (c .before .before .before .before .before .before .before .before .before .before .before .before .new .ensures)) ∙ sym (c .before .before .before .before .before .before .before .before .before .before .before .take .ensures) ∙ g .1 in
+    let e : takeAt (bits s) 0 countWidth ≡ Got m (g .0 .1 .0) = sym (c .before .before .before .before .before .before .before .before .before .before .before .first-field .ensures) ∙ g .1 in
     let w = counted s m (g .0 .1 .0) e (c .before .before .before .before .before .before .before .if1 .left) (c .before .before .before .before .before .before .if2 .left) in
     let d : Ended (bits s) m (c .before .before .before .scan2 .given .0 .0) = subst (Scanned (bits s) m) (c .before .before .before .scan2 .given .1) (c .before .before .before .before .before .scan-rows .ensures) in
     w ∙ sym (d .left) ∙ ap (λ b. answer (λ (ws : List Words). m) (unless b badFilling 0 (good []))) (sym (c .before .ends .ensures) ∙ c .if3 .left)
@@ -111,8 +106,7 @@ pub inspect-spec : {M : Type 1} → statement M
 inspect-spec =
     tie.close
     (tie.spec
-    new-requires
-    take-requires
+    first-field-requires
     enum-known-count
     enum-told
     returns

@@ -1,14 +1,14 @@
 -- `table::unpack::scan_rows` meets its contract. Assumes nothing.
-use mathlib.Core.Path.{_≡_, refl, sym, ap, _∙_, subst}
-use Prim.Native.Nat.{ℕ, _+_, _-_, _*_, _≤_, _<_}
+use mathlib.Core.Path.{_≡_, sym, _∙_, subst}
+use Prim.Native.Nat.{_+_, _-_, _*_, _≤_}
 use native.Mathlib.Nat.{sub-zero}
 use native.Mathlib.Omega.{arith}
 use lib.ListN.{length, drop}
 use denote.Ref.{now}
+use Rattle.table.specs.Places.{longestRecord}
 use Rattle.table.specs.Answers.{answer}
 use Rattle.table.specs.Bits.{bits}
 use Rattle.table.specs.Packed.{takeRows, countWidth}
-use Rattle.table.specs.Codes.{wordsOf, verdict}
 use Rattle.table.specs.Steps.{Stepped, Found}
 use Rattle.table.proofs.ReadLaws.{scan-missing, scan-next, scan-stop}
 use borrow.Author.Needs.{needs}
@@ -17,7 +17,7 @@ use Rattle.table.proofs.unpack.scan_rows.Tie as tie
 
 abbrev Inv-loop : tie.InvT-loop
 Inv-loop s count at₀ row₀ at row =
-    (row ≤ count) × (at ≤ 8 + 61 * row) × (at ≤ length (bits s))
+    (row ≤ count) × (at ≤ 8 + longestRecord * row) × (at ≤ length (bits s))
     × (answer (λ ws. count) (takeRows count (count - row) row (drop at (bits s))) ≡ answer (λ ws. count) (takeRows count count 0 (drop countWidth (bits s))))
 
 abbrev μ-loop : tie.MeasureT-loop
@@ -45,10 +45,10 @@ returns c =
     ∙ scan-stop (a .count) (l .row) (l .at) (bits (now (a .s))) (c .before .before .before .before .before .before .loop-test .taken) (g .0 .0) (g .0 .1 .0) d (c .before .judge .result) (c .before .judge .ensures) (c .if1 .taken)
 
 add-row : tie.Need-add-row Inv-loop μ-loop
-add-row c = search needs
+add-row c = omega arith
 
 loop-less : tie.Need-loop-less Inv-loop μ-loop
-loop-less c = search needs
+loop-less c = omega arith
 
 loop-again : tie.Need-loop-again Inv-loop μ-loop
 loop-again c =

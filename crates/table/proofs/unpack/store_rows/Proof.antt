@@ -1,11 +1,12 @@
 -- `table::unpack::store_rows` meets its contract. Assumes nothing.
-use mathlib.Core.Path.{_≡_, refl, sym, ap, _∙_, subst}
-use Prim.Native.Nat.{ℕ, _+_, _-_, _*_, _≤_, _<_}
+use mathlib.Core.Path.{_≡_, refl, _∙_, subst}
+use Prim.Native.Nat.{_+_, _-_, _*_, _≤_}
 use native.Mathlib.Omega.{arith}
-use lib.ListN.{length, drop}
+use lib.ListN.{length}
 use denote.Ref.{now}
+use Rattle.table.specs.Places.{longestRecord}
 use Rattle.table.specs.Bits.{bits}
-use Rattle.table.specs.Steps.{Stepped, Found, Missing}
+use Rattle.table.specs.Steps.{Stepped, Found}
 use Rattle.table.proofs.StoreLaws.{Storing, storing-starts, storing-ends, storing-found, storing-goes}
 use borrow.Author.Needs.{needs}
 use Rattle.table.proofs.unpack.store_rows.Statement.{statement}
@@ -13,7 +14,7 @@ use Rattle.table.proofs.unpack.store_rows.Tie as tie
 
 abbrev Inv-loop : tie.InvT-loop
 Inv-loop s count words₀ at₀ row₀ words at row =
-    (row ≤ count) × (at ≤ 8 + 61 * row) × (at ≤ length (bits s)) × (length words ≡ length words₀) × Storing (bits s) count row at words words₀
+    (row ≤ count) × (at ≤ 8 + longestRecord * row) × (at ≤ length (bits s)) × (length words ≡ length words₀) × Storing (bits s) count row at words words₀
 
 abbrev μ-loop : tie.MeasureT-loop
 μ-loop s count words₀ at₀ row₀ words at row = count - row
@@ -44,19 +45,19 @@ returns c =
     absurd (storing-found (bits (now (a .s))) (a .count) (l .row) (l .at) (l .words) (now (a .words)) (l .inv .4) (c .before .before .before .loop-test .taken) (g .0 .0) (subst (Stepped (bits (now (a .s))) (l .at)) (g .1) (c .before .before .row .ensures)))
 
 cast-store-row : tie.Need-cast-store-row Inv-loop μ-loop
-cast-store-row c = search needs
+cast-store-row c = omega arith
 
 mul-store-row : tie.Need-mul-store-row Inv-loop μ-loop
-mul-store-row c = search needs
+mul-store-row c = omega arith
 
 store-row-requires : tie.Need-store-row-requires Inv-loop μ-loop
 store-row-requires c κs = search needs
 
 add-row : tie.Need-add-row Inv-loop μ-loop
-add-row c = search needs
+add-row c = omega arith
 
 loop-less : tie.Need-loop-less Inv-loop μ-loop
-loop-less c = search needs
+loop-less c = omega arith
 
 loop-again : tie.Need-loop-again Inv-loop μ-loop
 loop-again c =
