@@ -1,4 +1,5 @@
 -- `table::read` meets its contract. Assumes nothing.
+use native.Mathlib.Omega.{arith}
 use mathlib.Core.Path.{ap, _∙_}
 use denote.Ref.{now}
 use Rattle.table.specs.Answers.{parts}
@@ -24,10 +25,10 @@ returns c =
     (ap parts (g .1) ∙ d .0, d .1)
 
 cast-if1 : tie.Need-cast-if1
-cast-if1 c = search needs
+cast-if1 c = omega arith
 
 mul-if1 : tie.Need-mul-if1
-mul-if1 c = search needs
+mul-if1 c = omega arith
 
 returns-2 : tie.Need-returns-2
 returns-2 c =

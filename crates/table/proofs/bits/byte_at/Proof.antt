@@ -8,7 +8,7 @@ use Rattle.table.proofs.bits.byte_at.Statement.{statement}
 use Rattle.table.proofs.bits.byte_at.Tie as tie
 
 shared-slice-read-result : tie.Need-shared-slice-read-result
-shared-slice-read-result c = search needs
+shared-slice-read-result c = omega arith
 
 cast-result : tie.Need-cast-result
 cast-result c = omega (arith, c .shared-slice-known .given (c .before .before .args .i))

@@ -1,13 +1,13 @@
 -- `table::bits::low_bits` meets its contract. Assumes nothing.
+use native.Mathlib.Omega.{arith}
 use native.Mathlib.Nat.{mod-lt, lt-of-lt-of-le}
 use lib.Pow.{pow-pos, pow-mono}
 use Rattle.table.proofs.Windows.{masked, one-le-shifted}
-use borrow.Author.Needs.{needs}
 use Rattle.table.proofs.bits.low_bits.Statement.{statement}
 use Rattle.table.proofs.bits.low_bits.Tie as tie
 
 shl-result : tie.Need-shl-result
-shl-result c = search needs
+shl-result c = omega arith
 
 sub-result : tie.Need-sub-result
 sub-result c = one-le-shifted (c .args .w) (c .pre)

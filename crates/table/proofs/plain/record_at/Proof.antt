@@ -1,42 +1,42 @@
 -- `table::plain::record_at` meets its contract. Assumes nothing.
+use native.Mathlib.Omega.{arith}
 use native.Mathlib.Nat.{add-zero}
 use lib.Seq.{getD-drop}
-use borrow.Author.Needs.{needs}
 use Rattle.table.proofs.plain.record_at.Statement.{statement}
 use Rattle.table.proofs.plain.record_at.Tie as tie
 
 mul-t3 : tie.Need-mul-t3
-mul-t3 c = search needs
+mul-t3 c = omega arith
 
 shared-slice-read-t5 : tie.Need-shared-slice-read-t5
-shared-slice-read-t5 c = search needs
+shared-slice-read-t5 c = omega arith
 
 add-t6 : tie.Need-add-t6
-add-t6 c = search needs
+add-t6 c = omega arith
 
 mul-t7 : tie.Need-mul-t7
-mul-t7 c = search needs
+mul-t7 c = omega arith
 
 shared-slice-read-t9 : tie.Need-shared-slice-read-t9
-shared-slice-read-t9 c = search needs
+shared-slice-read-t9 c = omega arith
 
 add-t10 : tie.Need-add-t10
-add-t10 c = search needs
+add-t10 c = omega arith
 
 mul-t11 : tie.Need-mul-t11
-mul-t11 c = search needs
+mul-t11 c = omega arith
 
 shared-slice-read-t13 : tie.Need-shared-slice-read-t13
-shared-slice-read-t13 c = search needs
+shared-slice-read-t13 c = omega arith
 
 add-t14 : tie.Need-add-t14
-add-t14 c = search needs
+add-t14 c = omega arith
 
 mul-t15 : tie.Need-mul-t15
-mul-t15 c = search needs
+mul-t15 c = omega arith
 
 shared-slice-read-t17 : tie.Need-shared-slice-read-t17
-shared-slice-read-t17 c = search needs
+shared-slice-read-t17 c = omega arith
 
 returns : tie.Need-returns
 returns c = simp (getD-drop, add-zero)

@@ -1,4 +1,5 @@
 -- `table::plain::survey` meets its contract. Assumes nothing.
+use native.Mathlib.Omega.{arith}
 use mathlib.Core.Path.{refl}
 use borrow.Author.Tests.{le-leb, lt-leb, eq-eqb, ne-eqb}
 use Rattle.table.specs.Plain.{tableOf}
@@ -15,7 +16,7 @@ unfolding tableOf
 returns-2 c = rw (le-leb 1 _ (c .before .if1 .left), lt-leb _ 64 (c .if2 .taken)) (refl, tt)
 
 mul-if3 : tie.Need-mul-if3
-mul-if3 c = search needs
+mul-if3 c = omega arith
 
 returns-3 : tie.Need-returns-3
 unfolding tableOf

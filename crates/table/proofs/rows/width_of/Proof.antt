@@ -1,4 +1,5 @@
 -- `table::rows::width_of` meets its contract. Assumes nothing.
+use native.Mathlib.Omega.{arith}
 use Prim.Native.Nat.{ℕ, _≤_}
 use mathlib.Core.Path.{sym, ap, _∙_, subst}
 use Rattle.table.specs.Rows.{Field, width, unused}
@@ -13,13 +14,13 @@ field-of-requires : tie.Need-field-of-requires
 field-of-requires c κs = search needs
 
 cast-result : tie.Need-cast-result
-cast-result c = search needs
+cast-result c = omega arith
 
 mul-result : tie.Need-mul-result
-mul-result c = search needs
+mul-result c = omega arith
 
 array-read-result : tie.Need-array-read-result
-array-read-result c = search needs
+array-read-result c = omega arith
 
 returns : tie.Need-returns
 returns c =

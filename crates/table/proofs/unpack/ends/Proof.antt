@@ -1,4 +1,5 @@
 -- `table::unpack::ends` meets its contract. Assumes nothing.
+use native.Mathlib.Omega.{arith}
 use mathlib.Core.Path.{sym, ap, _∙_}
 use Prim.Native.Nat.{_-_}
 use denote.Ref.{now}
@@ -8,7 +9,7 @@ use Rattle.table.proofs.unpack.ends.Statement.{statement}
 use Rattle.table.proofs.unpack.ends.Tie as tie
 
 add-if1 : tie.Need-add-if1
-add-if1 c = search needs
+add-if1 c = omega arith
 
 returns : tie.Need-returns
 returns c =
@@ -19,10 +20,10 @@ up-requires : tie.Need-up-requires
 up-requires c κs = search needs
 
 sub-take : tie.Need-sub-take
-sub-take c = search needs
+sub-take c = omega arith
 
 cast-take : tie.Need-cast-take
-cast-take c = search needs
+cast-take c = omega arith
 
 take-requires : tie.Need-take-requires
 take-requires c κs = search needs

@@ -8,34 +8,34 @@ use Rattle.table.proofs.unpack.store_row.Statement.{statement}
 use Rattle.table.proofs.unpack.store_row.Tie as tie
 
 mul-words : tie.Need-mul-words
-mul-words c = search needs
+mul-words c = omega arith
 
 slice-write-words : tie.Need-slice-write-words
-slice-write-words c = search needs
+slice-write-words c = omega arith
 
 add-words : tie.Need-add-words
-add-words c = search needs
+add-words c = omega arith
 
 mul-words-2 : tie.Need-mul-words-2
-mul-words-2 c = search needs
+mul-words-2 c = omega arith
 
 slice-write-words-2 : tie.Need-slice-write-words-2
 slice-write-words-2 c = simp length-set (omega arith)
 
 add-words-2 : tie.Need-add-words-2
-add-words-2 c = search needs
+add-words-2 c = omega arith
 
 mul-words-3 : tie.Need-mul-words-3
-mul-words-3 c = search needs
+mul-words-3 c = omega arith
 
 slice-write-words-3 : tie.Need-slice-write-words-3
 slice-write-words-3 c = simp length-set (omega arith)
 
 add-words-3 : tie.Need-add-words-3
-add-words-3 c = search needs
+add-words-3 c = omega arith
 
 mul-words-4 : tie.Need-mul-words-4
-mul-words-4 c = search needs
+mul-words-4 c = omega arith
 
 slice-write-words-4 : tie.Need-slice-write-words-4
 slice-write-words-4 c = simp length-set (omega arith)
