@@ -26,7 +26,7 @@ use Rattle.checker.proofs.CheckLaws.{Clocked, AllSane, all-sane, Checked, fine,
 use Rattle.runner.specs.Cells.{Cell, absent, value}
 use Rattle.runner.specs.Runs.{Ticks, inputs, Ran, done, clashed, run, cells}
 use Rattle.runner.specs.Answers.{maxTicks, running, ranAnswer, markByte}
-use Rattle.calendar.specs.Calendar.{cellAt, Due, Accepts, rowsIn, Asked, Ends, OnCalendar, Free, Judged, judgingTicks, SharedCalendar}
+use Rattle.calendar.specs.Calendar.{cellAt, Due, Accepts, Asked, Ends, OnCalendar, Free, Judged, judgingTicks, SharedCalendar}
 use Rattle.calendar.proofs.Keeping.{Kept}
 use Rattle.calendar.proofs.Accepted.{Wide, cells-length, Runs, runs}
 use Rattle.calendar.proofs.Judged.{FreeRow, AllFree, refused-clashes}

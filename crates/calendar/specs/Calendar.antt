@@ -3,11 +3,10 @@
 use mathlib.Core.Path.{_≡_}
 use mathlib.Core.Logic.{_↔_, _⊎_}
 use Prim.Native.Nat.{ℕ, _+_, _*_, _≤_, _<_}
-use mathlib.Core.List.{List, []}
+use mathlib.Core.List.{List}
 use lib.ListN.{length, getD}
-use Rattle.table.specs.Answers.{Result, good, refused, number, clocksDiffer}
-use Rattle.table.specs.Rows.{Row}
-use Rattle.table.specs.Plain.{tableOf}
+use Rattle.table.specs.Answers.{number, clocksDiffer}
+use Rattle.table.specs.Plain.{tableOf, rowsIn}
 use Rattle.checker.specs.Rules.{maxDerived}
 use Rattle.checker.specs.Answers.{checkAnswer, clocksAfter}
 use Rattle.runner.specs.Runs.{inputs}
@@ -43,11 +42,6 @@ module _ (m : ℕ) (marks values : List ℕ) (t : ℕ) where
 -- the check accepts the table
 abbrev pub Accepts : ℕ → List ℕ → List ℕ → Type 0
 Accepts m words clocks = checkAnswer m words (length clocks) .number ≡ 0
-
--- the rows of a table that is not refused
-abbrev pub rowsIn : Result (List Row) → List Row
-rowsIn (good rows) = rows
-rowsIn (refused why f) = []
 
 -- the lengths that a run asks for
 pub record Asked (m : ℕ) (words log : List ℕ) (ticks : ℕ) (marks values : List ℕ) : Type 0 where

@@ -16,7 +16,7 @@ use Rattle.checker.specs.Answers.{conditionWord}
 use Rattle.checker.specs.declared.Clock.{Clock as Kept}
 use Rattle.checker.specs.declared.Verdict.{Verdict}
 use Rattle.checker.specs.declared.Verdict.the-variants.{Is, Refused}
-use Rattle.checker.specs.Kept as Kept
+use Rattle.checker.specs.Private.Kept as Kept
 use Rattle.checker.proofs.ClockLaws.{beq-same, same-conditions}
 
 -- A verdict of row f and the rule's result: the same clock, within the limits, or the same refusal, which names f.

@@ -13,7 +13,7 @@ use Rattle.table.proofs.Tables.{Table, table-made, rowAt}
 use Rattle.checker.specs.Clocks.{Clock}
 use Rattle.checker.specs.Rules.{clockOf, clockAt, clocksFrom, clocksOf}
 use Rattle.checker.specs.Answers.{checking}
-use Rattle.checker.specs.Kept as Kept
+use Rattle.checker.specs.Private.Kept as Kept
 use Rattle.checker.proofs.Agree.{Agrees}
 use Rattle.checker.proofs.Folds.{Going, start, verdict-agrees, go-on, stopped, ended}
 use Rattle.checker.proofs.Checks.{clocks-found, all-clocks}

@@ -16,7 +16,7 @@ use Rattle.checker.specs.Rules.{clockOf, limited, maxDerived}
 use Rattle.checker.specs.declared.Clock.{Clock as Kept}
 use Rattle.checker.specs.declared.Verdict.{Verdict}
 use Rattle.checker.specs.declared.Verdict.the-variants.{Is, Refused}
-use Rattle.checker.specs.Kept as Kept
+use Rattle.checker.specs.Private.Kept as Kept
 use Rattle.checker.proofs.Agree.{Agrees, agree-guard, few, plain-count, agree-every, agree-limited, same-kept, agree-under, extends-kept}
 use borrow.Author.Tests.{leb-true}
 use Rattle.table.proofs.Tests.{and-left, and-right}

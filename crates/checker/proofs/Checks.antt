@@ -12,7 +12,7 @@ use borrow.Author.Tests.{le-leb, lt-leb}
 use Rattle.table.specs.declared.Answer.{Answer}
 use Rattle.table.specs.Answers.{Refusal, noRoom, Result, good, refused, unless, then, number, answer, leaves, over}
 use Rattle.table.specs.Rows.{Row, input, constant, combine, register, faster, slower, later, head, tail, sample, merge, onRegister, badRegister}
-use Rattle.table.specs.Plain.{tableOf, plainAnswer}
+use Rattle.table.specs.Plain.{tableOf, rowsIn, plainAnswer}
 use Rattle.table.proofs.Tests.{not-good, good-inj, then-good}
 use Rattle.table.proofs.Tables.{Table, table-made, Fits, AllFit}
 use Rattle.checker.specs.Clocks.{Clock}
@@ -20,7 +20,7 @@ use Rattle.checker.specs.Rules.{clockOf, clockAt, clocksFrom, clocksOf, 
 use Rattle.checker.specs.Answers.{clocksWords, checking, checkAnswer, clocksAfter}
 use Rattle.checker.specs.declared.Found.{Found}
 use Rattle.checker.specs.declared.Found.the-variants.{At, Nothing}
-use Rattle.checker.specs.Kept as Kept
+use Rattle.checker.specs.Private.Kept as Kept
 use Rattle.checker.proofs.Agree.{few, same-kept}
 use Rattle.checker.proofs.Folds.{seven-at, words-length}
 
@@ -74,7 +74,7 @@ pub clocks-refused : (rows : List Row) (why : Refusal) (f : ℕ) → clocksFrom 
 unfolding clocksOf
 clocks-refused rows why f e = rw e
 
-pub rows-good : (m : ℕ) (words : List ℕ) (rows : List Row) → tableOf m words ≡ good rows → tableOf m words ≡ good (Kept.rowsIn (tableOf m words))
+pub rows-good : (m : ℕ) (words : List ℕ) (rows : List Row) → tableOf m words ≡ good rows → tableOf m words ≡ good (rowsIn (tableOf m words))
 rows-good m words rows e = rw e
 
 pub check-table : (m : ℕ) (words : List ℕ) (room : ℕ) (why : Refusal) (f : ℕ) → tableOf m words ≡ refused why f → checking m words room ≡ refused why f
@@ -85,12 +85,12 @@ pub check-room : (m : ℕ) (words : List ℕ) (room : ℕ) (rows : List Row) →
 unfolding checking
 check-room m words room rows e l = rw (e, lt-leb (7 * m) room l)
 
-pub check-clocks : (m : ℕ) (words : List ℕ) (room : ℕ) → tableOf m words ≡ good (Kept.rowsIn (tableOf m words)) → 7 * m ≤ room
-    → checking m words room ≡ clocksOf (Kept.rowsIn (tableOf m words))
+pub check-clocks : (m : ℕ) (words : List ℕ) (room : ℕ) → tableOf m words ≡ good (rowsIn (tableOf m words)) → 7 * m ≤ room
+    → checking m words room ≡ clocksOf (rowsIn (tableOf m words))
 unfolding checking
 check-clocks m words room e l = go (tableOf m words) e
   where
-    go : (r : Result (List Row)) → r ≡ good (Kept.rowsIn r) → then r (λ rows. unless (leb (7 * m) room) noRoom 0 (clocksOf rows)) ≡ clocksOf (Kept.rowsIn r)
+    go : (r : Result (List Row)) → r ≡ good (rowsIn r) → then r (λ rows. unless (leb (7 * m) room) noRoom 0 (clocksOf rows)) ≡ clocksOf (rowsIn r)
     go (good rows) x = rw (le-leb (7 * m) room l)
     go (refused why f) x = not-good x
 

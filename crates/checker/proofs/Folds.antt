@@ -20,7 +20,7 @@ use Rattle.checker.specs.Answers.{conditionWord, clockWords, clocksWords
 use Rattle.checker.specs.declared.Clock.{Clock as Kept}
 use Rattle.checker.specs.declared.Verdict.{Verdict}
 use Rattle.checker.specs.declared.Verdict.the-variants.{Is, Refused}
-use Rattle.checker.specs.Kept as Kept
+use Rattle.checker.specs.Private.Kept as Kept
 use Rattle.checker.proofs.Agree.{Agrees}
 use Rattle.checker.proofs.ByKind.{row-agrees}
 

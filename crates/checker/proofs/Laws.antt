@@ -11,7 +11,7 @@ use Rattle.table.specs.Plain.{four}
 use Rattle.table.specs.Rows.{Words}
 use mathlib.Core.List.{List, [], _∷_, _++_, append-assoc}
 use Rattle.checker.specs.declared.Clock.{Clock as Kept}
-use Rattle.checker.specs.Kept.{seven, words}
+use Rattle.checker.specs.Private.Kept.{seven, words}
 
 -- a product fits twice the width of its factors
 pub below : (k : ℕ) {a b : ℕ} → a < 2 ^ k → b < 2 ^ k → a * b < 2 ^ (k + k)

@@ -1,4 +1,4 @@
 pub mod Clocks
 pub mod Rules
 pub mod Answers
-pub mod Kept
+pub mod Private

@@ -19,10 +19,10 @@ ghost use Prim.Native.Nat.{ℕ, _+_, _*_, _≤_};
 ghost use lib.ListN.{length, take, drop, getD};
 ghost use Rattle.table.specs.Answers.{good, answer};
 ghost use Rattle.table.specs.Rows.{badRegister};
-ghost use Rattle.table.specs.Plain.{four, tableOf};
+ghost use Rattle.table.specs.Plain.{four, tableOf, rowsIn};
 ghost use Rattle.checker.specs.Rules.{clocksFrom, clocksOf};
 ghost use Rattle.checker.specs.Answers.{checkAnswer, clocksAfter};
-ghost use Rattle.checker.specs.Kept.{seven, words, rule, rowWords, fitsIn, sourceIn, place, rowsIn, Assigned};
+ghost use Rattle.checker.specs.Private.Kept.{seven, words, rule, rowWords, fitsIn, sourceIn, place, Assigned};
 
 // A clock as the check keeps it: seven words, of which the conditions that are not used are 0.
 struct Clock {

@@ -4,7 +4,7 @@ use super::Verdict;
 ghost use mathlib.Core.Path.{_≡_};
 ghost use Prim.Native.Nat.{_+_, _*_, _%_};
 ghost use Rattle.table.specs.Bits.{bit};
-ghost use Rattle.checker.specs.Kept.{every, sameShape, same, limited, put, under, combined, faster, slower, later, head, tail, sampled, extends, merged};
+ghost use Rattle.checker.specs.Private.Kept.{every, sameShape, same, limited, put, under, combined, faster, slower, later, head, tail, sampled, extends, merged};
 
 const DIFFER: u32 = 21;
 

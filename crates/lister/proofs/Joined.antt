@@ -17,7 +17,7 @@ use Rattle.table.specs.Packed.{countWidth, takeField, takeRow, takeRows, fillin
 use Rattle.table.proofs.Tests.{and-left, and-right, good-inj, unless-good, then-good}
 use Rattle.checker.specs.Clocks.{Clock}
 use Rattle.checker.specs.Answers.{checking}
-use Rattle.checker.specs.Kept.{Limited}
+use Rattle.checker.specs.Private.Kept.{Limited}
 use Rattle.table.proofs.AnswerLaws.{answer-zero}
 use Rattle.checker.proofs.Bounds.{checked-within}
 use Rattle.lister.specs.Listing.{checked}

@@ -7,7 +7,7 @@ use native.Mathlib.Omega.{arith}
 use mathlib.Core.List.{List, [], _∷_, _++_, append-assoc, append-nil}
 use lib.ListN.{length, take, drop, set, length-append, length-drop, take-append-drop}
 use lib.Seq.{set-split, length-take-le, take-at, drop-append-add, drop-drop}
-use Rattle.lister.specs.Words.{laid, Wrote}
+use Rattle.lister.specs.Private.Words.{laid, Wrote}
 
 pub laid-one : (old : List ℕ) (at byte : ℕ) → at + 1 ≤ length old → set old at byte ≡ laid at (byte ∷ []) old
 laid-one old at byte h = rw (add-one at) (set-split old at byte (omega arith))

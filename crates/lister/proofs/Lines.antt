@@ -7,7 +7,7 @@ use mathlib.Core.List.{List, [], _∷_, _++_}
 use lib.ListN.{length, getD, drop, length-append}
 use lib.Seq.{drop-drop, getD-drop}
 use Rattle.lister.specs.Listing.{decimal, field, lineFeed, refusalText}
-use Rattle.lister.specs.Words.{wordText, wordsText, countedText, sevenText, sevensText}
+use Rattle.lister.specs.Private.Words.{wordText, wordsText, countedText, sevenText, sevensText}
 use Rattle.lister.proofs.Decimal.{ten}
 
 words-suc : (m n : ℕ) (ws : List ℕ) → m ≡ suc n → wordsText m ws ≡ wordText (getD ws 0 0) ++ wordsText n (drop 1 ws)

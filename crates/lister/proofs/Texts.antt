@@ -14,12 +14,12 @@ use Rattle.table.proofs.Tests.{and-left, and-right}
 use Rattle.checker.specs.Clocks.{Condition, Clock}
 use Rattle.checker.specs.Rules.{maxDerived}
 use Rattle.checker.specs.Answers.{conditionWord, clocksWords}
-use Rattle.checker.specs.Kept as Kept
+use Rattle.checker.specs.Private.Kept as Kept
 use Rattle.checker.proofs.Agree.{few}
 use Rattle.checker.proofs.Folds.{words-cons}
 use Rattle.lister.specs.declared.Listed.the-variants.{Bytes, NoRoom}
 use Rattle.lister.specs.Listing.{lineFeed, space, letterC, sign, decimal, field, okay, conditionText, conditionsFrom, conditionsText, lineText, linesFrom, okText, refusalText, checked, listingOf, longest, listed, textAfter}
-use Rattle.lister.specs.Words.{Wrote, wordText, wordsText, countedText, sevenText, sevensText, tableText}
+use Rattle.lister.specs.Private.Words.{Wrote, wordText, wordsText, countedText, sevenText, sevensText, tableText}
 use Rattle.lister.proofs.Decimal.{two, four}
 use Rattle.lister.proofs.Joined.{checked-clocks}
 

@@ -7,7 +7,7 @@ ghost use lib.Dec.{eqb};
 ghost use Rattle.lister.specs.Listing.{decimal, field, space, sign, refusalText, checked, listed, textAfter};
 ghost use Rattle.table.specs.Answers.{parts, answer, leaves};
 ghost use Rattle.checker.specs.Answers.{clocksWords};
-ghost use Rattle.lister.specs.Words.{Wrote, wordText, wordsText, countedText, sevenText, sevensText, tableText};
+ghost use Rattle.lister.specs.Private.Words.{Wrote, wordText, wordsText, countedText, sevenText, sevensText, tableText};
 use table::Answer;
 use table::Reading;
 

@@ -8,7 +8,7 @@ use native.Mathlib.Omega.{arith}
 use lib.ListN.{length, getD, take, drop, replicate, length-append, length-drop, length-replicate, take-append-drop, replicate-append-replicate}
 use lib.Seq.{take-at, drop-at, take-append-le, drop-append-le, getD-drop, length-take-le}
 use Rattle.table.specs.Bits.{toBits, fromBits, bits, nextByte, bytesFrom, byteCount, bytes}
-use Rattle.table.specs.Places.{whole, fill, laid}
+use Rattle.table.specs.Private.Laid.{whole, fill, laid}
 use Rattle.table.proofs.BitLaws.{length-toBits, from-to, to-from-at, drop-bits, take-append, drop-append}
 
 -- ---- zero bits

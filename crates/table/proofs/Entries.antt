@@ -9,7 +9,7 @@ use lib.Dec.{eqb}
 use lib.ListN.{length, getD, getElem?}
 use borrow.Author.Tests.{eqb-true}
 use Rattle.table.specs.Rows.{Field, operand, source, copies, period, ticks, value, unused, least, most, width, kinds, placed}
-use Rattle.table.specs.Codes.{coded, kindAt, fieldList, kindCount}
+use Rattle.table.specs.Private.Codes.{coded, kindAt, fieldList, kindCount}
 use Rattle.table.proofs.Tests.{and-left, and-right}
 
 module _ {A : Type 0} where

@@ -12,7 +12,7 @@ use lib.Pow.{pow-pos, pow-add, shl-exact, shl-shr, shr-le, high}
 use lib.Arith.{digits-lt}
 use lib.Bits.{bitOr, or-shifted}
 use Rattle.table.specs.Bits.{toBits, bits, byteCount}
-use Rattle.table.specs.Places.{whole, fill, laid, putAt, Lined}
+use Rattle.table.specs.Private.Laid.{whole, fill, laid, putAt, Lined}
 use Rattle.table.proofs.BitLaws.{length-toBits, toBits-append, toBits-behind, toBits-low, zeros, bits-append, length-bits, drop-bits}
 
 -- ---- the word that is stored

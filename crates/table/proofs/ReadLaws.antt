@@ -18,12 +18,14 @@ use Rattle.table.specs.Rows.{Row, Words, rowOf, maxFlows}
 use Rattle.table.specs.Plain.{joined, countFits}
 use Rattle.table.specs.Bits.{bits, fromBits}
 use Rattle.table.specs.Packed.{takeField, TakenRow, takeRow, takeRows, filling, unpacked, reading, readAnswer, wordsAfter, countWidth}
-use Rattle.table.specs.Codes.{wordsOf, verdict}
-use Rattle.table.specs.Places.{takeAt, lastPlace, whole}
-use Rattle.table.specs.Steps.{Found, Missing, AllTaken}
+use Rattle.table.specs.Private.Codes.{wordsOf, verdict}
+use Rattle.table.specs.Places.{takeAt, lastPlace}
+use Rattle.table.specs.Private.Laid.{whole}
+use Rattle.table.specs.Private.Steps.{Found, Missing, AllTaken}
 use Rattle.table.proofs.Tests.{and-left, and-right, good-inj, unless-good, then-good}
 use Rattle.table.proofs.BitLaws.{length-bits}
-use Rattle.table.proofs.Records.{no-zero, Outcome, fine, stopped, row-outcome, answer-then}
+use Rattle.table.proofs.AnswerLaws.{no-zero}
+use Rattle.table.proofs.Records.{Outcome, fine, stopped, row-outcome, answer-then}
 use Rattle.table.proofs.Windows.{Had, had, too-short, not-short}
 
 -- ---- one row of the scan

@@ -11,32 +11,16 @@ use lib.ListN.{length, drop, getElem?, length-append}
 use lib.Seq.{drop-drop}
 use borrow.Author.Tests.{leb-true, ltb-true, ltb-false}
 use Rattle.table.specs.Places.{longestRecord}
-use Rattle.table.specs.Answers.{Refusal, noRoom, badCount, cutShort, unknownKind, outOfRange, misplaced, badFilling, clocksDiffer, beyondLimits, notPlain, tooManyTicks, wrongLog, shortTrace, clash, number, Result, good, refused, unless, then, answer}
+use Rattle.table.specs.Answers.{Refusal, unknownKind, outOfRange, misplaced, number, Result, good, refused, unless, then, answer}
 use Rattle.table.specs.Rows.{Row, width, ranged, placed, Kind, kinds, Words, each, known, fieldsOf, rowOf}
 use Rattle.table.specs.Plain.{four, split, rowsFrom, tableOf}
 use Rattle.table.specs.Packed.{rowBits, rowsBits, kindWidth}
-use Rattle.table.specs.Codes.{kindAt, rowLength, verdict, kindCount}
+use Rattle.table.specs.Private.Codes.{kindAt, rowLength, verdict, kindCount}
+use Rattle.table.proofs.AnswerLaws.{no-zero}
 use Rattle.table.proofs.Tests.{Tried, passed, failed, try}
 use Rattle.table.proofs.Tables.{table-made}
 use Rattle.table.proofs.BitLaws.{length-toBits}
 use Rattle.table.proofs.Entries.{every, at, kinds-size, kind-there, kind-gone}
-
--- no refusal has the number 0
-pub no-zero : (why : Refusal) → number why ≡ 0 → ⊥
-no-zero noRoom e = omega arith
-no-zero badCount e = omega arith
-no-zero cutShort e = omega arith
-no-zero unknownKind e = omega arith
-no-zero outOfRange e = omega arith
-no-zero misplaced e = omega arith
-no-zero badFilling e = omega arith
-no-zero clocksDiffer e = omega arith
-no-zero beyondLimits e = omega arith
-no-zero notPlain e = omega arith
-no-zero tooManyTicks e = omega arith
-no-zero wrongLog e = omega arith
-no-zero shortTrace e = omega arith
-no-zero clash e = omega arith
 
 -- a result, or a refusal that names f
 pub data Outcome {A : Type 0} (f : ℕ) : Result A → Type 0 where

@@ -10,18 +10,19 @@ use mathlib.Core.Option.{some}
 use lib.ListN.{length, getD, take, drop, replicate, length-append, length-replicate, take-append-drop, getElem?}
 use lib.Seq.{take-at, drop-at, length-take-le}
 use borrow.Author.Tests.{le-leb, leb-true, lt-ltb, ltb-true, eq-eqb, eqb-true}
-use Rattle.table.specs.Codes.{kindCount}
+use Rattle.table.specs.Private.Codes.{kindCount}
 use Rattle.table.specs.Answers.{Result, good, refused, then, answer, leaves, over, success, cutShort, badCount, badFilling, noRoom}
 use Rattle.table.specs.Rows.{Row, Field, operand, source, copies, period, ticks, value, unused, width, ranged, Kind, kinds, Words, kindOf, fieldsOf, rowOf, maxFlows}
 use Rattle.table.specs.Plain.{split, joined, rowsFrom, countFits, tableOf}
 use Rattle.table.specs.Bits.{toBits, fromBits, bits, bytesFrom, byteCount}
 use Rattle.table.specs.Packed.{Taken, takeField, TakenRow, takeFields, takeRow, takeRows, filling, unpacked, rowBits, rowsBits, packed, reading, writing, readAnswer, wordsAfter, writeAnswer, bytesAfter, countWidth, kindWidth}
-use Rattle.table.specs.Places.{fill, whole}
+use Rattle.table.specs.Private.Laid.{fill, whole}
 use Rattle.table.proofs.Tests.{and-left, and-right, and-both, good-inj, unless-good, then-good}
 use Rattle.table.proofs.Tables.{ranges, known-good, Made, made, each-one, each-two, each-three, table-made}
 use Rattle.table.proofs.BitLaws.{length-toBits, from-to, to-from, to-from-at, zeros, length-bits}
 use Rattle.table.proofs.ByteLaws.{bytes-pad, bytes-bits, bits-packed}
-use Rattle.table.proofs.Records.{no-zero, kind-lt}
+use Rattle.table.proofs.AnswerLaws.{no-zero}
+use Rattle.table.proofs.Records.{kind-lt}
 use Rattle.table.proofs.ReadLaws.{Opened, opened}
 use Rattle.table.proofs.WriteLaws.{tableBits, packed-split, length-split}
 

@@ -10,9 +10,9 @@ use Rattle.table.specs.declared.Taking.the-variants.{Got, Short}
 use Rattle.table.specs.Answers.{cutShort, unknownKind}
 use Rattle.table.specs.Rows.{width, rowOf}
 use Rattle.table.specs.Packed.{takeFields, takeRow, kindWidth}
-use Rattle.table.specs.Codes.{kindAt, rowLength, kindCount}
+use Rattle.table.specs.Private.Codes.{kindAt, rowLength, kindCount}
 use Rattle.table.specs.Places.{takeAt, lastPlace, longestRecord}
-use Rattle.table.specs.Steps.{Found, Missing}
+use Rattle.table.specs.Private.Steps.{Found, Missing}
 use Rattle.table.proofs.Entries.{kind-there, kind-gone, width-le}
 use Rattle.table.proofs.Records.{row-le}
 use Rattle.table.proofs.Windows.{Had, had, too-short}

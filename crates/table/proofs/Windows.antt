@@ -14,7 +14,8 @@ use borrow.Author.Tests.{le-leb, lt-leb, leb-true, leb-false}
 use Rattle.table.specs.declared.Cursor.{Cursor}
 use Rattle.table.specs.declared.Taking.the-variants.{Got, Short}
 use Rattle.table.specs.Bits.{toBits, fromBits, bits}
-use Rattle.table.specs.Places.{window, takeAt, lastPlace, widest}
+use Rattle.table.specs.Places.{takeAt, lastPlace, widest}
+use Rattle.table.specs.Private.Laid.{window}
 use Rattle.table.specs.Answers.{good, refused, cutShort}
 use Rattle.table.specs.Packed.{takeField}
 use Rattle.table.proofs.Tests.{and-right}

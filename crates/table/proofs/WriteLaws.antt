@@ -15,13 +15,14 @@ use Rattle.table.specs.Rows.{Row, width, Words, rowOf, maxFlows}
 use Rattle.table.specs.Plain.{four, split, rowsFrom, countFits, tableOf}
 use Rattle.table.specs.Bits.{toBits, bits, byteCount, bytes}
 use Rattle.table.specs.Packed.{countWidth, kindWidth, rowBits, rowsBits, packed, writing, writeAnswer, bytesAfter}
-use Rattle.table.specs.Codes.{kindAt, rowLength, verdict, kindCount}
-use Rattle.table.specs.Places.{putAt}
+use Rattle.table.specs.Private.Codes.{kindAt, rowLength, verdict, kindCount}
+use Rattle.table.specs.Private.Laid.{putAt}
 use Rattle.table.proofs.Tests.{unless-good}
 use Rattle.table.proofs.Tables.{table-made}
 use Rattle.table.proofs.BitLaws.{length-toBits}
 use Rattle.table.proofs.Entries.{kind-there}
-use Rattle.table.proofs.Records.{no-zero, Outcome, fine, stopped, row-outcome, kind-lt, split-next, split-end, row-size, size-next, survey-next}
+use Rattle.table.proofs.AnswerLaws.{no-zero}
+use Rattle.table.proofs.Records.{Outcome, fine, stopped, row-outcome, kind-lt, split-next, split-end, row-size, size-next, survey-next}
 use Rattle.table.proofs.Puts.{put-next}
 use Rattle.table.proofs.ByteLaws.{laid-bytes, length-bytes}
 

@@ -3,6 +3,5 @@ pub mod Rows
 pub mod Plain
 pub mod Bits
 pub mod Packed
-pub mod Codes
 pub mod Places
-pub mod Steps
+pub mod Private

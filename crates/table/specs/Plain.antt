@@ -34,6 +34,11 @@ countFits m = leb 1 m && leb m maxFlows
 unfoldable pub tableOf : ℕ → List ℕ → Result (List Row)
 tableOf m words = unless (countFits m && eqb (length words) (4 * m)) badCount 0 (rowsFrom m 0 (split m words))
 
+-- the rows of a table that is not refused
+abbrev pub rowsIn : Result (List Row) → List Row
+rowsIn (good rows) = rows
+rowsIn (refused why f) = []
+
 -- what the test of a table in plain form answers
 abbrev pub plainAnswer : ℕ → List ℕ → Answer
 plainAnswer m words = answer length (tableOf m words)

@@ -5,7 +5,8 @@ ghost use mathlib.Core.Path.{_≡_};
 ghost use Prim.Native.Nat.{_+_, _*_, _<_, _≤_, _^_, _%_};
 ghost use lib.ListN.{getD, length};
 ghost use Rattle.table.specs.Bits.{bits, toBits};
-ghost use Rattle.table.specs.Places.{window, takeAt, whole, putAt, Lined, lastPlace};
+ghost use Rattle.table.specs.Places.{takeAt, lastPlace};
+ghost use Rattle.table.specs.Private.Laid.{window, whole, putAt, Lined};
 
 // The byte at i, and 0 past the end.
 fn byte_at(s: &[u8], i: usize) -> u64

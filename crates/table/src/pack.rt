@@ -11,8 +11,9 @@ ghost use Rattle.table.specs.Answers.{answer, success};
 ghost use Rattle.table.specs.Plain.{split, rowsFrom};
 ghost use Rattle.table.specs.Bits.{bits, toBits};
 ghost use Rattle.table.specs.Packed.{rowBits, rowsBits, countWidth};
-ghost use Rattle.table.specs.Places.{putAt, lastPlace, longestRecord};
-ghost use Rattle.table.specs.Codes.{rowLength, wordsOf, kindCount};
+ghost use Rattle.table.specs.Places.{lastPlace, longestRecord};
+ghost use Rattle.table.specs.Private.Laid.{putAt};
+ghost use Rattle.table.specs.Private.Codes.{rowLength, wordsOf, kindCount};
 
 impl Cursor {
     // Puts a row of a known kind, and hands back the place after it.

@@ -8,7 +8,7 @@ ghost use Prim.Native.Nat.{_+_, _*_, _<_, _≤_};
 ghost use lib.ListN.{length, drop};
 ghost use Rattle.table.specs.Answers.{answer};
 ghost use Rattle.table.specs.Plain.{four, split, rowsFrom, tableOf};
-ghost use Rattle.table.specs.Codes.{wordsOf, rowLength, told, Sized, kindCount};
+ghost use Rattle.table.specs.Private.Codes.{wordsOf, rowLength, told, Sized, kindCount};
 
 // The row whose words start at i.
 pub(crate) fn record_at(words: &[u32], i: usize) -> Record

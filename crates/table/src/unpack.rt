@@ -19,7 +19,7 @@ ghost use Rattle.table.specs.Plain.{joined};
 ghost use Rattle.table.specs.Bits.{bits};
 ghost use Rattle.table.specs.Packed.{filling, takeRows, unpacked};
 ghost use Rattle.table.specs.Places.{lastPlace, longestRecord};
-ghost use Rattle.table.specs.Steps.{Stepped, Scanned, plainWords, AllTaken};
+ghost use Rattle.table.specs.Private.Steps.{Stepped, Scanned, plainWords, AllTaken};
 
 impl Cursor {
     // The words of the row at the cursor, with the place after it: its kind, which is to be known, and its fields.

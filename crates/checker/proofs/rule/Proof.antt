@@ -2,7 +2,7 @@
 use native.Mathlib.Omega.{arith}
 use borrow.Author.Tests.{ne-eqb, le-leb, lt-leb}
 use borrow.Author.Needs.{needs}
-use Rattle.checker.specs.Kept.{rule}
+use Rattle.checker.specs.Private.Kept.{rule}
 use Rattle.checker.proofs.rule.Statement.{statement}
 use Rattle.checker.proofs.rule.Tie as tie
 

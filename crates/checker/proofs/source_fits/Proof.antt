@@ -4,7 +4,7 @@ use mathlib.Core.Bool.{true}
 use denote.Ref.{now}
 use borrow.Author.Tests.{eq-eqb, ne-eqb}
 use borrow.Author.Needs.{needs}
-use Rattle.checker.specs.Kept.{rowWords, sourceIn}
+use Rattle.checker.specs.Private.Kept.{rowWords, sourceIn}
 use Rattle.checker.proofs.source_fits.Statement.{statement}
 use Rattle.checker.proofs.source_fits.Tie as tie
 

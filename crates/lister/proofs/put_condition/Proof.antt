@@ -5,7 +5,7 @@ use lib.Dec.{eqb}
 use lib.ListN.{length}
 use denote.Ref.{now}
 use borrow.Author.Needs.{needs}
-use Rattle.lister.specs.Words.{wordText}
+use Rattle.lister.specs.Private.Words.{wordText}
 use Rattle.lister.specs.Listing.{letterC, sign, decimal}
 use Rattle.lister.proofs.Laying.{begin, and-then, room, finish}
 use Rattle.lister.proofs.put_condition.Statement.{statement}

@@ -1,7 +1,7 @@
 -- `lister::put_conditions` meets its contract. Assumes nothing.
 use borrow.Author.Tests.{eq-eqb, ne-eqb}
 use borrow.Author.Needs.{needs}
-use Rattle.lister.specs.Words.{countedText}
+use Rattle.lister.specs.Private.Words.{countedText}
 use Rattle.lister.proofs.put_conditions.Statement.{statement}
 use Rattle.lister.proofs.put_conditions.Tie as tie
 

@@ -6,7 +6,7 @@ use native.Mathlib.Omega.{arith}
 use lib.ListN.{length, drop}
 use denote.Ref.{now}
 use borrow.Author.Needs.{needs}
-use Rattle.lister.specs.Words.{countedText, sevenText}
+use Rattle.lister.specs.Private.Words.{countedText, sevenText}
 use Rattle.lister.specs.Listing.{lineFeed, field}
 use Rattle.lister.proofs.Lines.{seven-by}
 use Rattle.lister.proofs.Laying.{begin, and-then, room, finish}

@@ -7,7 +7,7 @@ use native.Mathlib.Omega.{arith}
 use lib.ListN.{length, drop}
 use denote.Ref.{now}
 use borrow.Author.Needs.{needs}
-use Rattle.lister.specs.Words.{sevenText, sevensText}
+use Rattle.lister.specs.Private.Words.{sevenText, sevensText}
 use Rattle.lister.proofs.Lines.{sevens-step, sevens-end}
 use Rattle.lister.proofs.Laying.{Laying, begin, and-then, room, finish}
 use Rattle.lister.proofs.put_lines.Statement.{statement}

@@ -5,7 +5,7 @@ use native.Mathlib.Omega.{arith}
 use lib.ListN.{length}
 use denote.Ref.{now}
 use borrow.Author.Needs.{needs}
-use Rattle.lister.specs.Words.{sevensText, tableText}
+use Rattle.lister.specs.Private.Words.{sevensText, tableText}
 use Rattle.lister.specs.Listing.{lineFeed, decimal, okay}
 use Rattle.lister.proofs.Laying.{last-room, and-last, begin, and-then, room}
 use Rattle.lister.proofs.put_table.Statement.{statement}

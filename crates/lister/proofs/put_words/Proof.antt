@@ -6,7 +6,7 @@ use native.Mathlib.Nat.{sub-zero, add-zero}
 use lib.ListN.{length, drop, getD}
 use denote.Ref.{now}
 use borrow.Author.Needs.{needs}
-use Rattle.lister.specs.Words.{wordText, wordsText}
+use Rattle.lister.specs.Private.Words.{wordText, wordsText}
 use Rattle.lister.proofs.Lines.{words-step, words-end}
 use Rattle.lister.proofs.Laying.{Laying, begin, and-then, room, finish}
 use Rattle.lister.proofs.put_words.Statement.{statement}

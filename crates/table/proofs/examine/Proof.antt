@@ -1,7 +1,7 @@
 -- `table::examine` meets its contract. Assumes nothing.
 use mathlib.Core.Path.{sym, ap, _∙_}
 use denote.Ref.{now}
-use Rattle.table.specs.Codes.{told}
+use Rattle.table.specs.Private.Codes.{told}
 use Rattle.table.proofs.Records.{rows-counted}
 use borrow.Author.Needs.{needs}
 use Rattle.table.proofs.examine.Statement.{statement}

@@ -4,7 +4,7 @@ use Prim.Native.Nat.{_-_}
 use native.Mathlib.Omega.{arith}
 use denote.Ref.{now}
 use Rattle.table.specs.Plain.{split}
-use Rattle.table.specs.Codes.{told, Sized}
+use Rattle.table.specs.Private.Codes.{told, Sized}
 use Rattle.table.proofs.WriteLaws.{ready, write-refused, write-full, write-done}
 use borrow.Author.Needs.{needs}
 use Rattle.table.proofs.write.Statement.{statement}

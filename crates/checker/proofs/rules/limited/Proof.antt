@@ -1,7 +1,7 @@
 -- `checker::rules::limited` meets its contract. Assumes nothing.
 use borrow.Author.Tests.{le-leb, lt-leb}
 use borrow.Author.Needs.{needs}
-use Rattle.checker.specs.Kept.{limited}
+use Rattle.checker.specs.Private.Kept.{limited}
 use Rattle.checker.proofs.rules.limited.Statement.{statement}
 use Rattle.checker.proofs.rules.limited.Tie as tie
 

@@ -1,7 +1,7 @@
 -- `checker::rules::same` meets its contract. Assumes nothing.
 use borrow.Author.Tests.{eq-eqb, ne-eqb, not-true, not-false}
 use borrow.Author.Needs.{needs}
-use Rattle.checker.specs.Kept.{same}
+use Rattle.checker.specs.Private.Kept.{same}
 use Rattle.checker.proofs.rules.same.Statement.{statement}
 use Rattle.checker.proofs.rules.same.Tie as tie
 

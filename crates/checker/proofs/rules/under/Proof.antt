@@ -3,7 +3,7 @@ use Prim.Native.Nat.{_+_}
 use native.Mathlib.Omega.{arith}
 use borrow.Author.Tests.{le-leb, lt-leb}
 use borrow.Author.Needs.{needs}
-use Rattle.checker.specs.Kept.{under}
+use Rattle.checker.specs.Private.Kept.{under}
 use Rattle.checker.proofs.rules.under.Statement.{statement}
 use Rattle.checker.proofs.rules.under.Tie as tie
 

@@ -7,7 +7,7 @@ use lib.ListN.{length, take, drop, length-set}
 use lib.Seq.{drop-set-lt}
 use denote.Ref.{now}
 use Rattle.table.specs.Bits.{bits, toBits}
-use Rattle.table.specs.Places.{fill, Lined}
+use Rattle.table.specs.Private.Laid.{fill, Lined}
 use Rattle.table.proofs.Puts.{stored, put-done, drop-more}
 use borrow.Author.Needs.{needs}
 use Rattle.table.proofs.Cursor.put.Statement.{statement}

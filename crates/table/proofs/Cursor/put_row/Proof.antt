@@ -9,8 +9,8 @@ use lib.ListN.{length-append}
 use Rattle.table.specs.Rows.{width}
 use Rattle.table.specs.Bits.{bits, toBits}
 use Rattle.table.specs.Packed.{kindWidth}
-use Rattle.table.specs.Codes.{kindAt, rowLength, wordsOf}
-use Rattle.table.specs.Places.{putAt}
+use Rattle.table.specs.Private.Codes.{kindAt, rowLength, wordsOf}
+use Rattle.table.specs.Private.Laid.{putAt}
 use Rattle.table.proofs.BitLaws.{length-toBits, length-bits}
 use Rattle.table.proofs.Records.{row-le}
 use Rattle.table.proofs.WriteLaws.{field-more, row-bits}

@@ -7,8 +7,9 @@ use denote.Ref.{now}
 use Rattle.table.specs.Plain.{split}
 use Rattle.table.specs.Bits.{bits, toBits}
 use Rattle.table.specs.Packed.{countWidth, rowsBits}
-use Rattle.table.specs.Codes.{wordsOf}
-use Rattle.table.specs.Places.{putAt, longestRecord}
+use Rattle.table.specs.Private.Codes.{wordsOf}
+use Rattle.table.specs.Places.{longestRecord}
+use Rattle.table.specs.Private.Laid.{putAt}
 use Rattle.table.proofs.BitLaws.{length-toBits, length-bits}
 use Rattle.table.proofs.Records.{row-le}
 use Rattle.table.proofs.Puts.{put-next}

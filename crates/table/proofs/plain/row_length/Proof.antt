@@ -1,6 +1,6 @@
 -- `table::plain::row_length` meets its contract. Assumes nothing.
 use native.Mathlib.Omega.{arith}
-use Rattle.table.specs.Codes.{rowLength}
+use Rattle.table.specs.Private.Codes.{rowLength}
 use borrow.Author.Needs.{needs}
 use Rattle.table.proofs.plain.row_length.Statement.{statement}
 use Rattle.table.proofs.plain.row_length.Tie as tie

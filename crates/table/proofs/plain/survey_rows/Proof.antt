@@ -2,7 +2,7 @@
 use mathlib.Core.List.{[]}
 use Rattle.table.specs.Places.{longestRecord}
 use Rattle.table.specs.Rows.{rowOf}
-use Rattle.table.specs.Codes.{wordsOf, verdict}
+use Rattle.table.specs.Private.Codes.{wordsOf, verdict}
 use mathlib.Core.Path.{_≡_, sym, _∙_}
 use Prim.Native.Nat.{_+_, _-_, _*_, _≤_, _<_}
 use native.Mathlib.Nat.{sub-zero}

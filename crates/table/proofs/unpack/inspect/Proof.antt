@@ -8,7 +8,7 @@ use Rattle.table.specs.Rows.{Words}
 use Rattle.table.specs.Bits.{bits}
 use Rattle.table.specs.Packed.{takeRows, countWidth}
 use Rattle.table.specs.Places.{takeAt}
-use Rattle.table.specs.Steps.{Scanned, Ended}
+use Rattle.table.specs.Private.Steps.{Scanned, Ended}
 use Rattle.table.proofs.ReadLaws.{no-count, count-there, no-flows, many-flows, counted}
 use mathlib.Core.List.{List, []}
 use borrow.Author.Needs.{needs}

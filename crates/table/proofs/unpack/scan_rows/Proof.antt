@@ -9,7 +9,7 @@ use Rattle.table.specs.Places.{longestRecord}
 use Rattle.table.specs.Answers.{answer}
 use Rattle.table.specs.Bits.{bits}
 use Rattle.table.specs.Packed.{takeRows, countWidth}
-use Rattle.table.specs.Steps.{Stepped, Found}
+use Rattle.table.specs.Private.Steps.{Stepped, Found}
 use Rattle.table.proofs.ReadLaws.{scan-missing, scan-next, scan-stop}
 use borrow.Author.Needs.{needs}
 use Rattle.table.proofs.unpack.scan_rows.Statement.{statement}

@@ -6,7 +6,7 @@ use lib.ListN.{length}
 use denote.Ref.{now}
 use Rattle.table.specs.Places.{longestRecord}
 use Rattle.table.specs.Bits.{bits}
-use Rattle.table.specs.Steps.{Stepped, Found}
+use Rattle.table.specs.Private.Steps.{Stepped, Found}
 use Rattle.table.proofs.StoreLaws.{Storing, storing-starts, storing-ends, storing-found, storing-goes}
 use borrow.Author.Needs.{needs}
 use Rattle.table.proofs.unpack.store_rows.Statement.{statement}

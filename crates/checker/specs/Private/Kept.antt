@@ -148,11 +148,6 @@ abbrev pub place : Found → Option ℕ
 place (At f) = some f
 place Nothing = none
 
--- the rows of a table that is not refused
-abbrev pub rowsIn : Result (List Row) → List Row
-rowsIn (good rows) = rows
-rowsIn (refused why f) = []
-
 -- conditions on flows of a table
 abbrev pub Named : List Condition → Type 0
 Named [] = Unit {0}
