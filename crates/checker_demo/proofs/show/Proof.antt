@@ -8,15 +8,6 @@ use borrow.Author.Needs.{needs}
 use Rattle.checker_demo.proofs.show.Statement.{statement}
 use Rattle.checker_demo.proofs.show.Tie as tie
 
-write-all-requires : tie.Need-write-all-requires
-write-all-requires c κs = search needs
-
-slice-aggregate-write-all : tie.Need-slice-aggregate-write-all
-slice-aggregate-write-all c = search needs
-
-write-all-requires-2 : tie.Need-write-all-requires-2
-write-all-requires-2 c κs = search needs
-
 slice-aggregate-listing : tie.Need-slice-aggregate-listing
 slice-aggregate-listing c = search needs
 
@@ -38,14 +29,14 @@ returns-2 c = search needs
 array-share-prefix-text : tie.Need-array-share-prefix-text
 array-share-prefix-text c = search needs
 
-slice-aggregate-write-all-2 : tie.Need-slice-aggregate-write-all-2
-slice-aggregate-write-all-2 c = let g = c .before .before .before .listed .given in
+slice-aggregate-write-all : tie.Need-slice-aggregate-write-all
+slice-aggregate-write-all c = let g = c .before .before .before .listed .given in
     let l = c .before .before .before .before .before .before .listing in
     let h : g .0 .0 ≤ length (l .last .1 .0) = omega (arith, l .kept .1 .0) in
     sym (length-take-le (g .0 .0) (l .last .1 .0) h)
 
-write-all-requires-3 : tie.Need-write-all-requires-3
-write-all-requires-3 c κs = search needs
+write-all-requires : tie.Need-write-all-requires
+write-all-requires c κs = search needs
 
 returns-3 : tie.Need-returns-3
 returns-3 c = search needs
@@ -54,9 +45,6 @@ pub show-spec : {M : Type 1} → statement M
 show-spec =
     tie.close
     (tie.spec
-    write-all-requires
-    slice-aggregate-write-all
-    write-all-requires-2
     slice-aggregate-listing
     listing-requires
     enum-known-listed
@@ -64,6 +52,6 @@ show-spec =
     returns
     returns-2
     array-share-prefix-text
-    slice-aggregate-write-all-2
-    write-all-requires-3
+    slice-aggregate-write-all
+    write-all-requires
     returns-3)
