@@ -1,1 +1,2 @@
 // The run: each flow's cell at each tick, or a clash.
+mod operators;
