@@ -1,2 +1,3 @@
 // The run: each flow's cell at each tick, or a clash.
 mod operators;
+mod ticks;

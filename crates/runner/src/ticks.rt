@@ -1,0 +1,79 @@
+// One tick: the flows in ascending order, and then the registers' sources.
+ghost use mathlib.Core.Path.{_≡_};
+ghost use Prim.Native.Nat.{ℕ, _+_, _*_, _≤_, _<_, _^_};
+ghost use lib.ListN.{length, getD, set};
+ghost use Rattle.table.proofs.Tables.{Fits};
+ghost use Rattle.runner.specs.Carried.{cellIs, cellsIn, heldIn, decode, stepOf, nextOf, Did};
+use crate::operators;
+use crate::operators::Outcome;
+use crate::operators::Signal;
+
+// What a tick comes to: all of it, or a clash that names a flow.
+pub enum Ticked {
+    Full,
+    Stopped(usize),
+}
+
+// The signal of flow a in this tick, of which the flows below f are worked out.
+fn signal_at(marks: &[u8], values: &[u32], f: usize, a: u32) -> Signal
+    requires { ⌜ (a < f) × (f ≤ length (now marks)) × (f ≤ length (now values)) ⌝ }
+    ensures { λ r. ⌜ cellIs r ≡ cellsIn (now (marks .entry)) (now (values .entry)) f a ⌝ }
+{
+    let i = a as usize;
+    if marks[i] == 0 {
+        Signal::Absent
+    } else {
+        Signal::Present(values[i])
+    }
+}
+
+// What row f comes to at tick t: one decision over the kind.
+fn outcome(
+    kind: u32,
+    p: u32,
+    q: u32,
+    r: u32,
+    t: u32,
+    f: usize,
+    log: &[u32],
+    at: usize,
+    state: &mut [u32],
+    marks: &[u8],
+    values: &[u32],
+) -> Outcome
+    requires { ⌜ (f < 64) × (kind < 16) × (Fits 64 f (decode kind p q r)) × (f ≤ length (now marks)) × (f ≤ length (now values)) × (length (now state) ≡ 256) × (t < 2 ^ 24) × (at < 2 ^ 40) ⌝ }
+    ensures { λ o. ⌜ Did (stepOf (decode kind p q r) t (now (log .entry)) at (cellsIn (now (marks .entry)) (now (values .entry)) f) (heldIn (now (state .entry)) (4 * f))) (nextOf (decode kind p q r) t (cellsIn (now (marks .entry)) (now (values .entry)) f) (heldIn (now (state .entry)) (4 * f))) (4 * f) (now (state .entry)) (now (state .exit)) o ⌝ }
+{
+    let i = 4 * f;
+    match kind {
+        0 => operators::input(t, p, log, at, state, i),
+        1 => operators::constant(t, p, q, state, i),
+        2..=6 => operators::combined(
+            kind,
+            signal_at(marks, values, f, p),
+            signal_at(marks, values, f, q),
+        ),
+        7 => operators::registered(signal_at(marks, values, f, q), state[i]),
+        8 => operators::faster(t, signal_at(marks, values, f, p), q, r, state, i),
+        9 => operators::slower(signal_at(marks, values, f, p), q, state, i),
+        10 => operators::later(q, signal_at(marks, values, f, p), state, i),
+        11 => operators::head(t, signal_at(marks, values, f, p), q, r, state, i),
+        12 => operators::tail(signal_at(marks, values, f, p), state, i),
+        13 => operators::sampled(
+            true,
+            signal_at(marks, values, f, p),
+            signal_at(marks, values, f, q),
+        ),
+        14 => operators::sampled(
+            false,
+            signal_at(marks, values, f, p),
+            signal_at(marks, values, f, q),
+        ),
+        15 => operators::merged(
+            signal_at(marks, values, f, p),
+            signal_at(marks, values, f, q),
+            signal_at(marks, values, f, r),
+        ),
+        _ => Outcome::Clash,
+    }
+}
