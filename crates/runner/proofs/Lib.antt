@@ -1,2 +1,5 @@
 pub mod Words
 pub mod Decoded
+pub mod Copies
+pub mod Histories
+pub mod Steps

@@ -3,3 +3,4 @@ pub mod Operators
 pub mod Runs
 pub mod Answers
 pub mod Carried
+pub mod Ready
