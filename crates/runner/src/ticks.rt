@@ -1,9 +1,12 @@
 // One tick: the flows in ascending order, and then the registers' sources.
 ghost use mathlib.Core.Path.{_≡_};
+ghost use mathlib.Core.List.{[]};
 ghost use Prim.Native.Nat.{ℕ, _+_, _*_, _≤_, _<_, _^_};
 ghost use lib.ListN.{length, getD, set};
 ghost use Rattle.table.proofs.Tables.{Fits};
 ghost use Rattle.runner.specs.Carried.{cellIs, cellsIn, heldIn, decode, stepOf, nextOf, Did};
+ghost use Rattle.runner.specs.Runs.{Ticks, flowsFrom};
+ghost use Rattle.runner.specs.Ready.{rowsIn, Plain, Ready, FlowsEnd};
 use crate::operators;
 use crate::operators::Outcome;
 use crate::operators::Signal;
@@ -76,4 +79,53 @@ fn outcome(
         ),
         _ => Outcome::Clash,
     }
+}
+
+// A cell is written at f.
+fn put(marks: &mut [u8], values: &mut [u32], f: usize, mark: u8, value: u32)
+    requires { ⌜ (f < length (now marks)) × (f < length (now values)) ⌝ }
+    ensures { λ _. ⌜ (now (marks .exit) ≡ set (now (marks .entry)) f mark) × (now (values .exit) ≡ set (now (values .entry)) f value) ⌝ }
+{
+    marks[f] = mark;
+    values[f] = value;
+}
+
+// The cells of the flows in ascending order. `at` is the place of the tick's first word in the log.
+fn flows(
+    n: usize,
+    words: &[u32],
+    log: &[u32],
+    at: usize,
+    t: u32,
+    state: &mut [u32],
+    marks: &mut [u8],
+    values: &mut [u32],
+) -> Ticked
+    requires { ⌜ (Plain n (now words)) × (n ≤ length (now marks)) × (n ≤ length (now values)) × (length (now state) ≡ 256) × (t < 2 ^ 24) × (at < 2 ^ 40) ⌝ }
+    ensures { λ r. ⌜ ((past : Ticks) → Ready (rowsIn n (now (words .entry))) past t at (now (state .entry)) → FlowsEnd (rowsIn n (now (words .entry))) t past (flowsFrom (rowsIn n (now (words .entry))) (now (log .entry)) past [] (rowsIn n (now (words .entry)))) (now (marks .entry)) (now (values .entry)) (now (marks .exit)) (now (values .exit)) (now (state .exit)) r) ⌝ }
+{
+    let mut f = 0;
+    while f < n {
+        let o = outcome(
+            words[4 * f],
+            words[4 * f + 1],
+            words[4 * f + 2],
+            words[4 * f + 3],
+            t,
+            f,
+            log,
+            at,
+            state,
+            marks,
+            values,
+        );
+        let next = f + 1;
+        match o {
+            Outcome::Clash => return Ticked::Stopped(f),
+            Outcome::Absent => put(marks, values, f, 0, 0),
+            Outcome::Present(v) => put(marks, values, f, 1, v),
+        }
+        f = next;
+    }
+    Ticked::Full
 }
