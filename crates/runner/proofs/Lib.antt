@@ -6,3 +6,4 @@ pub mod Steps
 pub mod Tabled
 pub mod Cells
 pub mod Flowing
+pub mod Latching

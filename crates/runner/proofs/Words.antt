@@ -66,3 +66,11 @@ small k g p q = omega (arith, copies-low k g p q)
 
 pub small-sum : (t k g : ℕ) → t < 2 ^ 24 → k < 2 ^ 6 → g < 2 ^ 12 → t + k * g < 2 ^ 32
 small-sum t k g l p q = omega (arith, copies-low k g p q)
+
+-- a row's first word is stored
+pub stored : (s : List ℕ) (i v : ℕ) → i + 4 ≤ length s → heldIn (set s i v) i ≡ held v (getD s (i + 1) 0) (getD s (i + 2) 0)
+stored s i v l = rw (getD-set-same s i v 0 (omega arith), getD-set-other s i (i + 1) v 0 (λ e. omega arith), getD-set-other s i (i + 2) v 0 (λ e. omega arith))
+
+pub stored-other : (s : List ℕ) (f g v : ℕ) → (g ≡ f → ⊥) → heldIn (set s (4 * f) v) (4 * g) ≡ heldIn s (4 * g)
+stored-other s f g v n =
+    rw (getD-set-other s (4 * f) (4 * g) v 0 (λ e. n (omega arith)), getD-set-other s (4 * f) (4 * g + 1) v 0 (λ e. omega arith), getD-set-other s (4 * f) (4 * g + 2) v 0 (λ e. omega arith))

@@ -129,3 +129,11 @@ abbrev pub TickDone : List Row → ℕ → Ticks → TickEnd → List ℕ → Li
 TickDone rows t past (filled now) ms vs ms′ vs′ s′ r =
     (r ≡ ticked.Full) × Wrote now ms vs ms′ vs′ × (length now ≡ length rows) × AllCarry rows (suc t) (now ∷ past) s′
 TickDone rows t past (stopped f now) ms vs ms′ vs′ s′ r = (r ≡ ticked.Stopped f) × Wrote now ms vs ms′ vs′ × (f < length rows)
+
+-- the numbers of the rows of kind k, in ascending order
+pub record Listed (k n : ℕ) (words list : List ℕ) (count : ℕ) : Type 0 where
+  pub room : count ≤ length list
+  pub within : (j : ℕ) → j < count → getD list j 0 < n
+  pub kind : (j : ℕ) → j < count → getD words (4 * getD list j 0) 0 ≡ k
+  pub rising : (i j : ℕ) → i < j → j < count → getD list i 0 < getD list j 0
+  pub all : (f : ℕ) → f < n → getD words (4 * f) 0 ≡ k → (j : ℕ) × (j < count) × (getD list j 0 ≡ f)

@@ -1,12 +1,15 @@
 // One tick: the flows in ascending order, and then the registers' sources.
 ghost use mathlib.Core.Path.{_≡_};
-ghost use mathlib.Core.List.{[]};
+ghost use mathlib.Core.Bool.{cond};
+ghost use mathlib.Core.List.{List, []};
+ghost use lib.Dec.{eqb};
 ghost use Prim.Native.Nat.{ℕ, _+_, _*_, _≤_, _<_, _^_};
 ghost use lib.ListN.{length, getD, set};
 ghost use Rattle.table.proofs.Tables.{Fits};
 ghost use Rattle.runner.specs.Carried.{cellIs, cellsIn, heldIn, decode, stepOf, nextOf, Did};
-ghost use Rattle.runner.specs.Runs.{Ticks, flowsFrom};
-ghost use Rattle.runner.specs.Ready.{rowsIn, Plain, Ready, FlowsEnd};
+ghost use Rattle.table.specs.Rows.{badRegister};
+ghost use Rattle.runner.specs.Runs.{Tick, Ticks, flowsFrom, sourceMeets};
+ghost use Rattle.runner.specs.Ready.{rowsIn, Plain, Ready, AllFollow, Wrote, FlowsEnd, LatchEnd, Listed};
 use crate::operators;
 use crate::operators::Outcome;
 use crate::operators::Signal;
@@ -126,6 +129,41 @@ fn flows(
             Outcome::Present(v) => put(marks, values, f, 1, v),
         }
         f = next;
+    }
+    Ticked::Full
+}
+
+// A register's word after a tick in which its source had a cell.
+fn latched(held: u32, mark: u8, value: u32) -> u32
+    ensures { λ r. ⌜ r ≡ cond (eqb mark 0) held value ⌝ }
+{
+    if mark == 0 { held } else { value }
+}
+
+// After all flows: the lowest register whose source and beat are not both present or both absent. Each register before it takes its
+// source's value.
+fn latch(
+    registers: &[u32],
+    count: usize,
+    n: usize,
+    words: &[u32],
+    state: &mut [u32],
+    marks: &[u8],
+    values: &[u32],
+) -> Ticked
+    requires { ⌜ (Plain n (now words)) × (n ≤ length (now marks)) × (n ≤ length (now values)) × (length (now state) ≡ 256) × (Listed 7 n (now words) (now registers) count) ⌝ }
+    ensures { λ r. ⌜ ((past : Ticks) (cells : Tick) (ms vs : List ℕ) (t : ℕ) → length cells ≡ n → Wrote cells ms vs (now (marks .entry)) (now (values .entry)) → AllFollow (rowsIn n (now (words .entry))) t cells past (now (state .entry)) → LatchEnd (rowsIn n (now (words .entry))) t past cells (badRegister (sourceMeets cells) 0 (rowsIn n (now (words .entry)))) (now (state .exit)) r) ⌝ }
+{
+    let mut j = 0;
+    while j < count {
+        let f = registers[j] as usize;
+        let b = words[4 * f + 2] as usize;
+        let a = words[4 * f + 3] as usize;
+        if marks[a] != marks[b] {
+            return Ticked::Stopped(f);
+        }
+        state[4 * f] = latched(state[4 * f], marks[a], values[a]);
+        j = j + 1;
     }
     Ticked::Full
 }
