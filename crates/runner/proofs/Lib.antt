@@ -7,3 +7,4 @@ pub mod Tabled
 pub mod Cells
 pub mod Flowing
 pub mod Latching
+pub mod Ticking

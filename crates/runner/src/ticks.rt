@@ -8,8 +8,8 @@ ghost use lib.ListN.{length, getD, set};
 ghost use Rattle.table.proofs.Tables.{Fits};
 ghost use Rattle.runner.specs.Carried.{cellIs, cellsIn, heldIn, decode, stepOf, nextOf, Did};
 ghost use Rattle.table.specs.Rows.{badRegister};
-ghost use Rattle.runner.specs.Runs.{Tick, Ticks, flowsFrom, sourceMeets};
-ghost use Rattle.runner.specs.Ready.{rowsIn, Plain, Ready, AllFollow, Wrote, FlowsEnd, LatchEnd, Listed};
+ghost use Rattle.runner.specs.Runs.{Tick, Ticks, flowsFrom, sourceMeets, tickOf};
+ghost use Rattle.runner.specs.Ready.{rowsIn, Plain, Ready, AllFollow, Wrote, FlowsEnd, LatchEnd, TickDone, Listed};
 use crate::operators;
 use crate::operators::Outcome;
 use crate::operators::Signal;
@@ -166,4 +166,26 @@ fn latch(
         j = j + 1;
     }
     Ticked::Full
+}
+
+// One tick, into the parts of the trace that start at its own first cell.
+pub fn tick(
+    n: usize,
+    words: &[u32],
+    registers: &[u32],
+    count: usize,
+    log: &[u32],
+    at: usize,
+    t: u32,
+    state: &mut [u32],
+    marks: &mut [u8],
+    values: &mut [u32],
+) -> Ticked
+    requires { ⌜ (Plain n (now words)) × (n ≤ length (now marks)) × (n ≤ length (now values)) × (length (now state) ≡ 256) × (Listed 7 n (now words) (now registers) count) × (t < 2 ^ 24) × (at < 2 ^ 40) ⌝ }
+    ensures { λ r. ⌜ ((past : Ticks) → Ready (rowsIn n (now (words .entry))) past t at (now (state .entry)) → TickDone (rowsIn n (now (words .entry))) t past (tickOf (rowsIn n (now (words .entry))) (now (log .entry)) past) (now (marks .entry)) (now (values .entry)) (now (marks .exit)) (now (values .exit)) (now (state .exit)) r) ⌝ }
+{
+    match flows(n, words, log, at, t, state, marks, values) {
+        Ticked::Stopped(f) => Ticked::Stopped(f),
+        Ticked::Full => latch(registers, count, n, words, state, marks, values),
+    }
 }
