@@ -8,3 +8,6 @@ pub mod Cells
 pub mod Flowing
 pub mod Latching
 pub mod Ticking
+pub mod Lists
+pub mod Starting
+pub mod Collecting

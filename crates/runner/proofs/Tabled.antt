@@ -3,16 +3,18 @@ use mathlib.Core.Path.{_≡_, refl, sym, _∙_, ap, subst}
 use Prim.Native.Nat.{ℕ, zero, suc, _+_, _*_, _≤_, _<_}
 use native.Mathlib.Nat.{zero-add, add-zero}
 use native.Mathlib.Omega.{arith}
-use mathlib.Core.Bool.{Bool, true}
+use mathlib.Core.Bool.{Bool, true, cond}
 use mathlib.Core.List.{List, [], _∷_}
 use mathlib.Core.Option.{Option, some}
 use lib.ListN.{length, getD, drop, getElem?}
 use lib.Seq.{getD-drop}
+use lib.Dec.{eqb}
 use Rattle.table.specs.Answers.{good}
 use Rattle.table.specs.Rows.{Row, input, constant, combine, register, faster, slower, later, head, tail, sample, merge, onRegister, Kind, kinds, Words}
 use Rattle.table.specs.Plain.{four, tableOf}
 use Rattle.table.proofs.Tables.{Fits, Made, row-fits, Each, entry, rowAt, Table, table-made}
 use Rattle.runner.specs.Cells.{History}
+use Rattle.runner.specs.Runs.{isInput}
 use Rattle.runner.specs.Carried.{Held, decode}
 use Rattle.runner.specs.Ready.{rowsIn, Plain, Collected}
 
@@ -26,10 +28,11 @@ record Makes (i : ℕ) (k : Kind) : Type 0 where
   low : i < 16
   no-register : (i ≡ 7 → ⊥) → (test : ℕ → ℕ → Bool) (p q r : ℕ) → onRegister test (k .make p q r) ≡ true
   no-later : (i ≡ 10 → ⊥) → (p q r : ℕ) (hist : ℕ → History) (w : Held) → Collected (k .make p q r) hist w
+  is-input : (p q r : ℕ) → isInput (k .make p q r) ≡ cond (eqb i 0) 1 0
 
 all-make : Each Makes 0 kinds
 unfolding kinds decode Collected
-all-make = (record { row = λ p q r. refl; low = omega arith; no-register = λ n test p q r. refl; no-later = λ n p q r hist w. tt }, (record { row = λ p q r. refl; low = omega arith; no-register = λ n test p q r. refl; no-later = λ n p q r hist w. tt }, (record { row = λ p q r. refl; low = omega arith; no-register = λ n test p q r. refl; no-later = λ n p q r hist w. tt }, (record { row = λ p q r. refl; low = omega arith; no-register = λ n test p q r. refl; no-later = λ n p q r hist w. tt }, (record { row = λ p q r. refl; low = omega arith; no-register = λ n test p q r. refl; no-later = λ n p q r hist w. tt }, (record { row = λ p q r. refl; low = omega arith; no-register = λ n test p q r. refl; no-later = λ n p q r hist w. tt }, (record { row = λ p q r. refl; low = omega arith; no-register = λ n test p q r. refl; no-later = λ n p q r hist w. tt }, (record { row = λ p q r. refl; low = omega arith; no-register = λ n. absurd (n refl); no-later = λ n p q r hist w. tt }, (record { row = λ p q r. refl; low = omega arith; no-register = λ n test p q r. refl; no-later = λ n p q r hist w. tt }, (record { row = λ p q r. refl; low = omega arith; no-register = λ n test p q r. refl; no-later = λ n p q r hist w. tt }, (record { row = λ p q r. refl; low = omega arith; no-register = λ n test p q r. refl; no-later = λ n. absurd (n refl) }, (record { row = λ p q r. refl; low = omega arith; no-register = λ n test p q r. refl; no-later = λ n p q r hist w. tt }, (record { row = λ p q r. refl; low = omega arith; no-register = λ n test p q r. refl; no-later = λ n p q r hist w. tt }, (record { row = λ p q r. refl; low = omega arith; no-register = λ n test p q r. refl; no-later = λ n p q r hist w. tt }, (record { row = λ p q r. refl; low = omega arith; no-register = λ n test p q r. refl; no-later = λ n p q r hist w. tt }, (record { row = λ p q r. refl; low = omega arith; no-register = λ n test p q r. refl; no-later = λ n p q r hist w. tt }, tt))))))))))))))))
+all-make = (record { row = λ p q r. refl; low = omega arith; no-register = λ n test p q r. refl; no-later = λ n p q r hist w. tt; is-input = λ p q r. refl }, (record { row = λ p q r. refl; low = omega arith; no-register = λ n test p q r. refl; no-later = λ n p q r hist w. tt; is-input = λ p q r. refl }, (record { row = λ p q r. refl; low = omega arith; no-register = λ n test p q r. refl; no-later = λ n p q r hist w. tt; is-input = λ p q r. refl }, (record { row = λ p q r. refl; low = omega arith; no-register = λ n test p q r. refl; no-later = λ n p q r hist w. tt; is-input = λ p q r. refl }, (record { row = λ p q r. refl; low = omega arith; no-register = λ n test p q r. refl; no-later = λ n p q r hist w. tt; is-input = λ p q r. refl }, (record { row = λ p q r. refl; low = omega arith; no-register = λ n test p q r. refl; no-later = λ n p q r hist w. tt; is-input = λ p q r. refl }, (record { row = λ p q r. refl; low = omega arith; no-register = λ n test p q r. refl; no-later = λ n p q r hist w. tt; is-input = λ p q r. refl }, (record { row = λ p q r. refl; low = omega arith; no-register = λ n. absurd (n refl); no-later = λ n p q r hist w. tt; is-input = λ p q r. refl }, (record { row = λ p q r. refl; low = omega arith; no-register = λ n test p q r. refl; no-later = λ n p q r hist w. tt; is-input = λ p q r. refl }, (record { row = λ p q r. refl; low = omega arith; no-register = λ n test p q r. refl; no-later = λ n p q r hist w. tt; is-input = λ p q r. refl }, (record { row = λ p q r. refl; low = omega arith; no-register = λ n test p q r. refl; no-later = λ n. absurd (n refl); is-input = λ p q r. refl }, (record { row = λ p q r. refl; low = omega arith; no-register = λ n test p q r. refl; no-later = λ n p q r hist w. tt; is-input = λ p q r. refl }, (record { row = λ p q r. refl; low = omega arith; no-register = λ n test p q r. refl; no-later = λ n p q r hist w. tt; is-input = λ p q r. refl }, (record { row = λ p q r. refl; low = omega arith; no-register = λ n test p q r. refl; no-later = λ n p q r hist w. tt; is-input = λ p q r. refl }, (record { row = λ p q r. refl; low = omega arith; no-register = λ n test p q r. refl; no-later = λ n p q r hist w. tt; is-input = λ p q r. refl }, (record { row = λ p q r. refl; low = omega arith; no-register = λ n test p q r. refl; no-later = λ n p q r hist w. tt; is-input = λ p q r. refl }, tt))))))))))))))))
 
 makes-at : (k : ℕ) (a : Kind) → getElem? kinds k ≡ some a → Makes k a
 makes-at k a e = subst (λ (i : ℕ). Makes i a) (zero-add k) (entry Makes 0 kinds k a all-make e)
@@ -55,6 +58,7 @@ pub record Row-at (m : ℕ) (words : List ℕ) (row : Row) (f : ℕ) : Type 0 wh
   pub fits-64 : Fits 64 f row
   pub no-register : (getD words (4 * f) 0 ≡ 7 → ⊥) → (test : ℕ → ℕ → Bool) → onRegister test row ≡ true
   pub no-later : (getD words (4 * f) 0 ≡ 10 → ⊥) → (hist : ℕ → History) (w : Held) → Collected row hist w
+  pub is-input : isInput row ≡ cond (eqb (getD words (4 * f) 0) 0) 1 0
 
 module _ (m : ℕ) (words : List ℕ) (rows : List Row) (T : Table m words rows) where
   pub row-of : (f : ℕ) → f < m → Row-at m words (rowAt rows f) f
@@ -71,4 +75,5 @@ module _ (m : ℕ) (words : List ℕ) (rows : List Row) (T : Table m words rows)
         fits-64 = fits-wide m f (rowAt rows f) (T .few) (row-fits m f _ _ d);
         no-register = λ n test. ap (onRegister test) (sym (d .row)) ∙ k .no-register (λ e. n (sym z ∙ e)) test _ _ _;
         no-later = λ n hist w. subst (λ (r : Row). Collected r hist w) (d .row) (k .no-later (λ e. n (sym z ∙ e)) _ _ _ hist w);
+        is-input = ap isInput (sym (d .row)) ∙ k .is-input _ _ _ ∙ ap (λ (j : ℕ). cond (eqb j 0) 1 0) z;
       }

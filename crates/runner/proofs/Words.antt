@@ -1,7 +1,7 @@
 -- What a store leaves of the words that the rows carry. Assumes nothing.
 use mathlib.Core.Path.{_≡_, refl, sym, _∙_, ap}
 use Prim.Native.Nat.{ℕ, _+_, _*_, _≤_, _<_, _^_}
-use native.Mathlib.Nat.{mul-le-mul}
+use native.Mathlib.Nat.{mul-le-mul, mul-le-mul-right}
 use native.Mathlib.Omega.{arith}
 use mathlib.Core.List.{List}
 use lib.ListN.{length, getD, set, length-set}
@@ -74,3 +74,30 @@ stored s i v l = rw (getD-set-same s i v 0 (omega arith), getD-set-other s i (i 
 pub stored-other : (s : List ℕ) (f g v : ℕ) → (g ≡ f → ⊥) → heldIn (set s (4 * f) v) (4 * g) ≡ heldIn s (4 * g)
 stored-other s f g v n =
     rw (getD-set-other s (4 * f) (4 * g) v 0 (λ e. n (omega arith)), getD-set-other s (4 * f) (4 * g + 1) v 0 (λ e. omega arith), getD-set-other s (4 * f) (4 * g + 2) v 0 (λ e. omega arith))
+
+-- a row's first two words are stored
+pub stored-two : (s : List ℕ) (i u v : ℕ) → i + 4 ≤ length s → heldIn (set (set s i u) (i + 1) v) i ≡ held u v (getD s (i + 2) 0)
+stored-two s i u v l =
+    rw (
+      getD-set-other (set s i u) (i + 1) i v 0 (λ e. omega arith),
+      getD-set-same s i u 0 (omega arith),
+      getD-set-same (set s i u) (i + 1) v 0 (omega (arith, length-set s i u)),
+      getD-set-other (set s i u) (i + 1) (i + 2) v 0 (λ e. omega arith),
+      getD-set-other s i (i + 2) u 0 (λ e. omega arith),
+    )
+
+pub stored-two-other : (s : List ℕ) (f g u v : ℕ) → (g ≡ f → ⊥) → heldIn (set (set s (4 * f) u) (4 * f + 1) v) (4 * g) ≡ heldIn s (4 * g)
+stored-two-other s f g u v n =
+    rw (
+      getD-set-other (set s (4 * f) u) (4 * f + 1) (4 * g) v 0 (λ e. omega arith),
+      getD-set-other (set s (4 * f) u) (4 * f + 1) (4 * g + 1) v 0 (λ e. n (omega arith)),
+      getD-set-other (set s (4 * f) u) (4 * f + 1) (4 * g + 2) v 0 (λ e. omega arith),
+    )
+    (stored-other s f g u n)
+
+-- places of the trace
+pub place-in : (i t n a : ℕ) → i ≤ t → a < n → i * n + a < t * n + n
+place-in i t n a l k = let m : i * n ≤ t * n = mul-le-mul-right n l in omega arith
+
+pub place-small : (t n : ℕ) → t < 2 ^ 24 → n ≤ 64 → t * n ≤ 2 ^ 30
+place-small t n l k = let m : t * n ≤ 2 ^ 24 * 64 = mul-le-mul {n₂ = 2 ^ 24} {m₂ = 64} (omega arith) k in omega arith

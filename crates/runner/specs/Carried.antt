@@ -164,3 +164,27 @@ pub record Did (step : Step) (next : Held) (i : ℕ) (s s′ : List ℕ) (r : Ou
   pub carried : heldIn s′ i ≡ next
   pub before : (j : ℕ) → j < i → getD s′ j 0 ≡ getD s j 0
   pub after : (j : ℕ) → i + 3 ≤ j → getD s′ j 0 ≡ getD s j 0
+
+-- A row's words at the start, where j inputs stand before it.
+unfoldable pub startOf : Row → ℕ → Held → Held
+startOf (input n p) j h = held p j (h .z)
+startOf (constant v n p) j h = held p (h .y) (h .z)
+startOf (combine op a b) j h = h
+startOf (register v b a) j h = held v (h .y) (h .z)
+startOf (faster a k g) j h = h
+startOf (slower a k) j h = h
+startOf (later a d) j h = h
+startOf (head a v s) j h = h
+startOf (tail a) j h = h
+startOf (sample u a c) j h = h
+startOf (merge c a b) j h = h
+
+-- row f's words are set, and no other row's
+pub record Started (next : Held) (f : ℕ) (s s′ : List ℕ) : Type 0 where
+  pub carried : heldIn s′ (4 * f) ≡ next
+  pub others : (g : ℕ) → (g ≡ f → ⊥) → heldIn s′ (4 * g) ≡ heldIn s (4 * g)
+
+-- row f's words have the cell of flow a at d ticks before tick t, absent where there is no such tick
+pub record Fetched (n a d f t : ℕ) (ms vs s s′ : List ℕ) : Type 0 where
+  pub cell : cellAt (heldIn s′ (4 * f) .x) (heldIn s′ (4 * f) .y) ≡ cond (leb d t) (cellAt (getD ms ((t - d) * n + a) 0) (getD vs ((t - d) * n + a) 0)) absent
+  pub others : (g : ℕ) → (g ≡ f → ⊥) → heldIn s′ (4 * g) ≡ heldIn s (4 * g)

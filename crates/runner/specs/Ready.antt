@@ -137,3 +137,8 @@ pub record Listed (k n : ℕ) (words list : List ℕ) (count : ℕ) : Type 0 whe
   pub kind : (j : ℕ) → j < count → getD words (4 * getD list j 0) 0 ≡ k
   pub rising : (i j : ℕ) → i < j → j < count → getD list i 0 < getD list j 0
   pub all : (f : ℕ) → f < n → getD words (4 * f) 0 ≡ k → (j : ℕ) × (j < count) × (getD list j 0 ≡ f)
+
+-- every tick so far has n cells
+abbrev pub Regular : ℕ → Ticks → Type 0
+Regular n [] = Unit {0}
+Regular n (now ∷ past) = (length now ≡ n) × Regular n past
