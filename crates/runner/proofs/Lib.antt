@@ -11,3 +11,4 @@ pub mod Ticking
 pub mod Lists
 pub mod Starting
 pub mod Collecting
+pub mod Lent

@@ -8,7 +8,7 @@ use mathlib.Core.Bool.{Bool, true, false, cond}
 use mathlib.Core.Logic.{_⊎_, inl, inr, ⊎-elim}
 use mathlib.Core.List.{List, [], _∷_}
 use lib.ListN.{length, getD, take, replicate}
-use lib.Seq.{take-all}
+use lib.Seq.{take-all, take-length}
 use lib.Dec.{eqb}
 use Rattle.table.specs.Rows.{Row, input, constant, combine, register, faster, slower, later, head, tail, sample, merge}
 use Rattle.table.proofs.Tables.{Fits, rowAt, Table}
@@ -59,6 +59,9 @@ unfolding inputs
 inputs-few rows zero = omega arith
 inputs-few [] (suc f) = omega arith
 inputs-few (r ∷ rows) (suc f) = omega (arith, is-low r, inputs-few rows f)
+
+pub inputs-all : (rows : List Row) → inputs rows ≤ length rows
+inputs-all rows = subst (λ (l : List Row). inputs l ≤ length rows) (take-length rows) (inputs-few rows (length rows))
 
 pub record Starting (rows : List Row) (s : List ℕ) (f j : ℕ) : Type 0 where
   pub before : j ≡ inputs (take f rows)

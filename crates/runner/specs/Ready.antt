@@ -3,10 +3,11 @@ use mathlib.Core.Path.{_≡_}
 use Prim.Native.Nat.{ℕ, suc, _+_, _*_, _-_, _%_, _≤_, _<_}
 use mathlib.Core.Bool.{Bool, true, false, cond}
 use mathlib.Core.Logic.{_⊎_}
-use mathlib.Core.List.{List, [], _∷_, map}
+use mathlib.Core.List.{List, [], _∷_, _++_, map}
 use mathlib.Core.Option.{Option, none, some}
 use lib.ListN.{length, getD, take}
 use lib.Dec.{eqb}
+use Rattle.table.specs.declared.Answer.{Answer}
 use Rattle.table.specs.Answers.{Result, good, refused, over}
 use Rattle.table.specs.Rows.{Row, input, constant, combine, register, faster, slower, later, head, tail, sample, merge, onRegister}
 use Rattle.table.specs.Plain.{tableOf}
@@ -15,8 +16,8 @@ use Rattle.runner.specs.declared.ticks.Ticked.{Ticked}
 use Rattle.runner.specs.declared.ticks.Ticked.the-variants as ticked
 use Rattle.runner.specs.Cells.{Cell, absent, present, value, History, back, count, Presence, latest, onGrid}
 use Rattle.runner.specs.Operators.{valueOr}
-use Rattle.runner.specs.Runs.{Tick, Ticks, history, inputs, TickEnd, filled, stopped}
-use Rattle.runner.specs.Answers.{markByte}
+use Rattle.runner.specs.Runs.{Tick, Ticks, history, inputs, TickEnd, filled, stopped, Ran, cells, trace}
+use Rattle.runner.specs.Answers.{markByte, ranAnswer}
 use Rattle.runner.specs.Carried.{Held, heldIn, cellAt}
 
 -- the rows of a table that is not refused
@@ -109,9 +110,9 @@ pub record Ready (rows : List Row) (past : Ticks) (t at : ℕ) (s : List ℕ) : 
   pub collected : (f : ℕ) → f < length rows → Collected (rowAt rows f) (history past) (heldIn s (4 * f))
 
 -- cells were written from the first place on
-pub record Wrote (cells : List Cell) (ms vs ms′ vs′ : List ℕ) : Type 0 where
-  pub marks : ms′ ≡ over (map markByte cells) ms
-  pub values : vs′ ≡ over (map value cells) vs
+pub record Wrote (written : List Cell) (ms vs ms′ vs′ : List ℕ) : Type 0 where
+  pub marks : ms′ ≡ over (map markByte written) ms
+  pub values : vs′ ≡ over (map value written) vs
 
 -- how the flows of a tick end
 abbrev pub FlowsEnd : List Row → ℕ → Ticks → TickEnd → List ℕ → List ℕ → List ℕ → List ℕ → List ℕ → Ticked → Type 0
@@ -142,3 +143,14 @@ pub record Listed (k n : ℕ) (words list : List ℕ) (count : ℕ) : Type 0 whe
 abbrev pub Regular : ℕ → Ticks → Type 0
 Regular n [] = Unit {0}
 Regular n (now ∷ past) = (length now ≡ n) × Regular n past
+
+-- how a tick ends in the whole trace
+abbrev pub TickAt : List Row → ℕ → Ticks → TickEnd → List ℕ → List ℕ → List ℕ → List ℕ → List ℕ → Ticked → Type 0
+TickAt rows t past (filled now) ms vs ms′ vs′ s′ r =
+    (r ≡ ticked.Full) × Wrote (cells past ++ now) ms vs ms′ vs′ × (length now ≡ length rows) × AllCarry rows (suc t) (now ∷ past) s′
+TickAt rows t past (stopped f now) ms vs ms′ vs′ s′ r = (r ≡ ticked.Stopped f) × Wrote (cells past ++ now) ms vs ms′ vs′ × (f < length rows)
+
+-- how the ticks end
+pub record RanTo (x : Ran) (ticks : ℕ) (ms vs ms′ vs′ : List ℕ) (r : Answer) : Type 0 where
+  pub answer : r ≡ ranAnswer ticks (good x)
+  pub wrote : Wrote (trace x) ms vs ms′ vs′
