@@ -12,3 +12,5 @@ pub mod Lists
 pub mod Starting
 pub mod Collecting
 pub mod Lent
+pub mod Running
+pub mod Called

@@ -81,3 +81,154 @@ fn turn(
         values,
     )
 }
+
+// The ticks from 0 on.
+fn run_ticks(
+    n: usize,
+    words: &[u32],
+    registers: &[u32],
+    register_count: usize,
+    laters: &[u32],
+    later_count: usize,
+    log: &[u32],
+    inputs: usize,
+    ticks: u32,
+    state: &mut [u32],
+    marks: &mut [u8],
+    values: &mut [u32],
+) -> Answer
+    requires { ⌜ (Plain n (now words)) × (ticks * n ≤ length (now marks)) × (ticks * n ≤ length (now values)) × (length (now state) ≡ 256) × (Listed 7 n (now words) (now registers) «register_count») × (Listed 10 n (now words) (now laters) «later_count») × (ticks < 2 ^ 24) × (inputs ≡ runs.inputs (rowsIn n (now words))) × (AllCarry (rowsIn n (now words)) 0 [] (now state)) ⌝ }
+    ensures { λ r. ⌜ RanTo (runs.run (rowsIn n (now (words .entry))) (now (log .entry)) ticks) ticks (now (marks .entry)) (now (values .entry)) (now (marks .exit)) (now (values .exit)) r ⌝ }
+{
+    let mut t: u32 = 0;
+    while t < ticks {
+        let done = turn(
+            n,
+            words,
+            registers,
+            register_count,
+            laters,
+            later_count,
+            log,
+            inputs,
+            t,
+            state,
+            marks,
+            values,
+        );
+        let next = t + 1;
+        match done {
+            Ticked::Stopped(f) => {
+                return Answer {
+                    number: 34,
+                    flow: f as u32,
+                    tick: t,
+                    count: 0,
+                };
+            }
+            Ticked::Full => {}
+        }
+        t = next;
+    }
+    Answer {
+        number: 0,
+        flow: 0,
+        tick: 0,
+        count: ticks,
+    }
+}
+
+// A refusal that names no flow.
+fn refused(number: u32) -> Answer
+    ensures { λ r. ⌜ r ≡ record { number = number; flow = 0; tick = 0; count = 0 } ⌝ }
+{
+    Answer {
+        number,
+        flow: 0,
+        tick: 0,
+        count: 0,
+    }
+}
+
+// The run of a table that is not refused, from its start on.
+fn run_from(
+    n: usize,
+    words: &[u32],
+    log: &[u32],
+    inputs: usize,
+    ticks: u32,
+    state: &mut [u32],
+    marks: &mut [u8],
+    values: &mut [u32],
+) -> Answer
+    requires { ⌜ (Plain n (now words)) × (ticks * n ≤ length (now marks)) × (ticks * n ≤ length (now values)) × (length (now state) ≡ 256) × (ticks < 2 ^ 24) × (inputs ≡ runs.inputs (rowsIn n (now words))) × (AllCarry (rowsIn n (now words)) 0 [] (now state)) ⌝ }
+    ensures { λ r. ⌜ RanTo (runs.run (rowsIn n (now (words .entry))) (now (log .entry)) ticks) ticks (now (marks .entry)) (now (values .entry)) (now (marks .exit)) (now (values .exit)) r ⌝ }
+{
+    let mut registers = [0u32; 64];
+    let mut laters = [0u32; 64];
+    let register_count = state::listed(7, n, words, &mut registers);
+    let later_count = state::listed(10, n, words, &mut laters);
+    run_ticks(
+        n,
+        words,
+        &registers,
+        register_count,
+        &laters,
+        later_count,
+        log,
+        inputs,
+        ticks,
+        state,
+        marks,
+        values,
+    )
+}
+
+// The run of a table that is not refused: 31, 32 and 33, and then its ticks.
+fn run_plain(
+    n: usize,
+    words: &[u32],
+    log: &[u32],
+    ticks: u32,
+    marks: &mut [u8],
+    values: &mut [u32],
+) -> Answer
+    requires { ⌜ Plain n (now words) ⌝ }
+    ensures { λ r. ⌜ Called n (now (words .entry)) (now (log .entry)) ticks (now (marks .entry)) (now (values .entry)) (now (marks .exit)) (now (values .exit)) r ⌝ }
+{
+    if 65535 < ticks {
+        return refused(31);
+    }
+    let mut state = [0u32; 256];
+    let inputs = state::start(n, words, &mut state) as usize;
+    if log.len() != (ticks as usize) * inputs {
+        return refused(32);
+    }
+    let cells = (ticks as usize) * n;
+    if marks.len() < cells {
+        return refused(33);
+    }
+    if values.len() < cells {
+        return refused(33);
+    }
+    run_from(n, words, log, inputs, ticks, &mut state, marks, values)
+}
+
+// The run of a table of `count` rows over a log: each cell into marks and values, tick after tick.
+pub fn run(
+    count: u32,
+    words: &[u32],
+    log: &[u32],
+    ticks: u32,
+    marks: &mut [u8],
+    values: &mut [u32],
+) -> Answer
+    ensures { λ r. ⌜ Called count (now (words .entry)) (now (log .entry)) ticks (now (marks .entry)) (now (values .entry)) (now (marks .exit)) (now (values .exit)) r ⌝ }
+{
+    let found = table::examine(count, words);
+    if found.number == 0 {
+        run_plain(count as usize, words, log, ticks, marks, values)
+    } else {
+        found
+    }
+}
