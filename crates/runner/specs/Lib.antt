@@ -2,3 +2,6 @@ pub mod Cells
 pub mod Operators
 pub mod Runs
 pub mod Answers
+pub mod Called
+pub mod Carried
+pub mod Ready

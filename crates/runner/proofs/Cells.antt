@@ -1,0 +1,74 @@
+-- Cells that stand at the front of marks and values. Assumes nothing.
+use mathlib.Core.Path.{_≡_, refl, sym, _∙_, ap, subst, fun-ext}
+use Prim.Native.Nat.{ℕ, suc, _+_, _≤_, _<_}
+use native.Mathlib.Numerals.{add-one}
+use native.Mathlib.Omega.{arith}
+use mathlib.Core.Bool.{true, false, cond}
+use mathlib.Core.List.{List, [], _∷_, _++_, map}
+use lib.ListN.{length, getD, set, drop, length-append, length-drop, length-map, List·getD-map, List·getD-append, List·getD-eq-default}
+use lib.Seq.{drop-cons, set-at, append-snoc}
+use lib.Dec.{ltb}
+use borrow.Author.Tests.{lt-ltb, le-ltb, ltb-true, ltb-false}
+use Rattle.table.specs.Answers.{over}
+use Rattle.table.proofs.Tests.{Tried, passed, failed, try}
+use Rattle.runner.specs.Cells.{Cell, absent, present, value}
+use Rattle.runner.specs.Runs.{Tick, cellIn}
+use Rattle.runner.specs.Answers.{markByte}
+use Rattle.runner.specs.Carried.{cellAt, cellsIn}
+use Rattle.runner.specs.Ready.{Wrote}
+
+map-snoc : (g : Cell → ℕ) (xs : List Cell) (c : Cell) → map g (xs ++ (c ∷ [])) ≡ map g xs ++ (g c ∷ [])
+map-snoc g [] c = refl
+map-snoc g (x ∷ xs) c = ap (λ (l : List ℕ). g x ∷ l) (map-snoc g xs c)
+
+pub length-over : (xs ys : List ℕ) → length xs ≤ length ys → length (over xs ys) ≡ length ys
+length-over xs ys h = simp (length-append, length-drop) (omega arith)
+
+set-over : (xs ys : List ℕ) (f a : ℕ) → length xs ≡ f → f < length ys → set (over xs ys) f a ≡ over (xs ++ (a ∷ [])) ys
+set-over xs ys f a e h =
+    let h′ : length xs < length ys = omega arith in
+    ap (λ (l : List ℕ). set (xs ++ l) f a) (drop-cons ys (length xs) 0 h′)
+    ∙ set-at xs (getD ys (length xs) 0) (drop (suc (length xs)) ys) a f e
+    ∙ sym (append-snoc xs a (drop (suc (length xs)) ys))
+    ∙ ap (λ (k : ℕ). xs ++ (a ∷ []) ++ drop k ys) (sym (add-one (length xs)) ∙ sym (length-append xs (a ∷ [])))
+
+-- one cell more
+put-over : (g : Cell → ℕ) (xs : List Cell) (c : Cell) (ys zs zs′ : List ℕ) (f : ℕ) → length xs ≡ f → f < length ys → zs ≡ over (map g xs) ys → zs′ ≡ set zs f (g c)
+    → zs′ ≡ over (map g (xs ++ (c ∷ []))) ys
+put-over g xs c ys zs zs′ f e h z z′ =
+    z′
+    ∙ ap (λ (l : List ℕ). set l f (g c)) z
+    ∙ set-over (map g xs) ys f (g c) (length-map xs g ∙ e) h
+    ∙ ap (λ (l : List ℕ). over l ys) (sym (map-snoc g xs c))
+
+pub cell-back : (c : Cell) → cellAt (markByte c) (value c) ≡ c
+cell-back absent = refl
+cell-back (present v) = refl
+
+pub over-at : (g : Cell → ℕ) (xs : List Cell) (ys : List ℕ) (a : ℕ) → g absent ≡ 0 → a < length xs → getD (over (map g xs) ys) a 0 ≡ g (getD xs a absent)
+over-at g xs ys a z h =
+    List·getD-append (map g xs) (drop (length (map g xs)) ys) 0 a (subst (λ (k : ℕ). a < k) (sym (length-map xs g)) h)
+    ∙ ap (λ (d : ℕ). getD (map g xs) a d) (sym z)
+    ∙ List·getD-map g xs a absent
+
+module _ (now : List Cell) (ms₀ vs₀ ms vs : List ℕ) (W : Wrote now ms₀ vs₀ ms vs) where
+  pub wrote-more : (c : Cell) (f : ℕ) (ms′ vs′ : List ℕ) → length now ≡ f → f < length ms₀ → f < length vs₀ → ms′ ≡ set ms f (markByte c) → vs′ ≡ set vs f (value c)
+      → Wrote (now ++ (c ∷ [])) ms₀ vs₀ ms′ vs′
+  wrote-more c f ms′ vs′ e h k p q =
+      record { marks = put-over markByte now c ms₀ ms ms′ f e h (W .marks) p; values = put-over value now c vs₀ vs vs′ f e k (W .values) q }
+
+  pub mark-at : (a : ℕ) → a < length now → getD ms a 0 ≡ markByte (cellIn now a)
+  mark-at a h = ap (λ (l : List ℕ). getD l a 0) (W .marks) ∙ over-at markByte now ms₀ a refl h
+
+  pub value-at : (a : ℕ) → a < length now → getD vs a 0 ≡ value (cellIn now a)
+  value-at a h = ap (λ (l : List ℕ). getD l a 0) (W .values) ∙ over-at value now vs₀ a refl h
+
+  -- what marks and values say of the flows below f is what the cells are
+  pub here-is : (f : ℕ) → length now ≡ f → cellsIn ms vs f ≡ cellIn now
+  here-is f e = fun-ext λ a. go a (try (ltb a f))
+    where
+      go : (a : ℕ) → Tried (ltb a f) → cellsIn ms vs f a ≡ cellIn now a
+      go a (passed t) =
+          let h : a < length now = omega (arith, ltb-true a f t) in
+          rw (t, mark-at a h, value-at a h) (cell-back (cellIn now a))
+      go a (failed t) = rw (t) (sym (List·getD-eq-default now absent {n = a} (omega (arith, ltb-false a f t))))

@@ -1,0 +1,16 @@
+pub mod Words
+pub mod Decoded
+pub mod Copies
+pub mod Histories
+pub mod Steps
+pub mod Tabled
+pub mod Cells
+pub mod Flowing
+pub mod Latching
+pub mod Ticking
+pub mod Lists
+pub mod Starting
+pub mod Collecting
+pub mod Lent
+pub mod Running
+pub mod Called

@@ -1,0 +1,190 @@
+-- The words that a row carries from tick to tick, and what the code's leaves make of them. For the private functions alone: the public
+-- contract says nothing of them.
+use mathlib.Core.Path.{_≡_}
+use Prim.Native.Nat.{ℕ, _+_, _*_, _-_, _<_, _≤_}
+use mathlib.Core.Bool.{Bool, true, false, cond}
+use mathlib.Core.List.{List}
+use lib.ListN.{getD}
+use lib.Dec.{eqb, ltb, leb}
+use Rattle.table.specs.Rows.{Row, Op, add, subtract, less, equal, larger, input, constant, combine, register, faster, slower, later, head, tail, sample, merge}
+use Rattle.runner.specs.declared.operators.Signal.{Signal}
+use Rattle.runner.specs.declared.operators.Outcome.{Outcome}
+use Rattle.runner.specs.declared.operators.Signal.the-variants as signal
+use Rattle.runner.specs.declared.operators.Outcome.the-variants as outcome
+use Rattle.runner.specs.Cells.{Cell, absent, present}
+use Rattle.runner.specs.Operators.{Step, is, clashes, combined, sampled, merged}
+
+-- the cell that a signal is, and the step that an outcome is
+abbrev pub cellIs : Signal → Cell
+cellIs signal.Absent = absent
+cellIs (signal.Present v) = present v
+
+abbrev pub stepIs : Outcome → Step
+stepIs outcome.Absent = is absent
+stepIs (outcome.Present v) = is (present v)
+stepIs outcome.Clash = clashes
+
+-- a cell from its mark and its value
+abbrev pub cellAt : ℕ → ℕ → Cell
+cellAt m v = cond (eqb m 0) absent (present v)
+
+-- the cells of a tick's flows below f
+abbrev pub cellsIn : List ℕ → List ℕ → ℕ → ℕ → Cell
+cellsIn ms vs f a = cond (ltb a f) (cellAt (getD ms a 0) (getD vs a 0)) absent
+
+-- a row's words
+pub record Held : Type 0 where
+  pub x : ℕ
+  pub y : ℕ
+  pub z : ℕ
+
+abbrev pub held : ℕ → ℕ → ℕ → Held
+held x y z = record { x = x; y = y; z = z }
+
+abbrev pub heldIn : List ℕ → ℕ → Held
+heldIn s i = held (getD s i 0) (getD s (i + 1) 0) (getD s (i + 2) 0)
+
+-- kinds 2 to 6 by number
+abbrev pub opOf : ℕ → Op
+opOf k = cond (eqb k 2) add (cond (eqb k 3) subtract (cond (eqb k 4) less (cond (eqb k 5) equal larger)))
+
+-- the row of a kind that is 15 or below
+unfoldable pub decode : ℕ → ℕ → ℕ → ℕ → Row
+decode k p q r =
+    cond (eqb k 0) (input p q)
+    (cond (eqb k 1) (constant p q r)
+    (cond (ltb k 7) (combine (opOf k) p q)
+    (cond (eqb k 7) (register p q r)
+    (cond (eqb k 8) (faster p q r)
+    (cond (eqb k 9) (slower p q)
+    (cond (eqb k 10) (later p q)
+    (cond (eqb k 11) (head p q r)
+    (cond (eqb k 12) (tail p)
+    (cond (eqb k 13) (sample true p q)
+    (cond (eqb k 14) (sample false p q) (merge p q r)))))))))))
+
+-- Input, constant: x is the next tick at which it is present; of an input, y is its number among the inputs.
+abbrev pub timedStep : ℕ → ℕ → Held → Step
+timedStep t v h = cond (eqb t (h .x)) (is (present v)) (is absent)
+
+abbrev pub timedNext : ℕ → ℕ → Held → Held
+timedNext t n h = cond (eqb t (h .x)) (held (t + n) (h .y) (h .z)) h
+
+-- Register: x is the value of the source's latest presence, or the initial value.
+abbrev pub registerStep : Cell → Held → Step
+registerStep absent h = is absent
+registerStep (present b) h = is (present (h .x))
+
+-- Faster: x is the latest value, y the next copy's tick, z the tick at which the next presence is due, 0 before the first.
+abbrev pub fasterStep : ℕ → Cell → Held → Step
+fasterStep t absent h = cond (eqb t (h .y)) (cond (ltb (h .y) (h .z)) (is (present (h .x))) (is absent)) (is absent)
+fasterStep t (present v) h = cond (eqb (h .z) 0) (is (present v)) (cond (eqb t (h .z)) (is (present v)) clashes)
+
+abbrev pub begun : ℕ → ℕ → ℕ → ℕ → Held
+begun t v k g = held v (t + g) (t + k * g)
+
+abbrev pub fasterNext : ℕ → Cell → ℕ → ℕ → Held → Held
+fasterNext t absent k g h = cond (eqb t (h .y)) (cond (ltb (h .y) (h .z)) (held (h .x) (t + g) (h .z)) h) h
+fasterNext t (present v) k g h = cond (eqb (h .z) 0) (begun t v k g) (cond (eqb t (h .z)) (begun t v k g) h)
+
+-- Slower: x is how many presences are still to be left out.
+abbrev pub slowerStep : Cell → Held → Step
+slowerStep absent h = is absent
+slowerStep (present v) h = cond (eqb (h .x) 0) (is (present v)) (is absent)
+
+abbrev pub slowerNext : Cell → ℕ → Held → Held
+slowerNext absent k h = h
+slowerNext (present v) k h = cond (eqb (h .x) 0) (held (k - 1) (h .y) (h .z)) (held (h .x - 1) (h .y) (h .z))
+
+-- Later: x and y are the mark and the value of the cell d ticks before.
+abbrev pub laterStep : Cell → ℕ → Held → Step
+laterStep a d h = cond (eqb d 0) (is a) (is (cellAt (h .x) (h .y)))
+
+-- Head: x is 0 before the operand's first presence, then the tick at which the second is due, and 1 after that.
+abbrev pub afterStep : ℕ → ℕ → Held → Step
+afterStep t v h =
+    cond (eqb (h .x) 0) (is (present v))
+    (cond (eqb (h .x) 1) (is (present v))
+    (cond (eqb t (h .x)) (is (present v)) clashes))
+
+abbrev pub headStep : ℕ → Cell → ℕ → ℕ → Held → Step
+headStep t absent v s h = cond (eqb t s) (is (present v)) (is absent)
+headStep t (present x) v s h = cond (leb t s) clashes (afterStep t x h)
+
+abbrev pub afterNext : ℕ → ℕ → Held → Held
+afterNext t s h =
+    cond (eqb (h .x) 0) (held (t + (t - s)) (h .y) (h .z))
+    (cond (eqb (h .x) 1) h
+    (cond (eqb t (h .x)) (held 1 (h .y) (h .z)) h))
+
+abbrev pub headNext : ℕ → Cell → ℕ → Held → Held
+headNext t absent s h = h
+headNext t (present x) s h = cond (leb t s) h (afterNext t s h)
+
+-- Tail: x is 0 before the operand's first presence, then 1.
+abbrev pub tailStep : Cell → Held → Step
+tailStep absent h = is absent
+tailStep (present v) h = cond (eqb (h .x) 0) (is absent) (is (present v))
+
+abbrev pub tailNext : Cell → Held → Held
+tailNext absent h = h
+tailNext (present v) h = cond (eqb (h .x) 0) (held 1 (h .y) (h .z)) h
+
+-- What a row comes to at tick t, where at is the place of the tick's first word in the log and here has the cells of lower flows.
+unfoldable pub stepOf : Row → ℕ → List ℕ → ℕ → (ℕ → Cell) → Held → Step
+stepOf (input n p) t log at here h = timedStep t (getD log (at + h .y) 0) h
+stepOf (constant v n p) t log at here h = timedStep t v h
+stepOf (combine op a b) t log at here h = combined op (here a) (here b)
+stepOf (register v b a) t log at here h = registerStep (here b) h
+stepOf (faster a k g) t log at here h = fasterStep t (here a) h
+stepOf (slower a k) t log at here h = slowerStep (here a) h
+stepOf (later a d) t log at here h = laterStep (here a) d h
+stepOf (head a v s) t log at here h = headStep t (here a) v s h
+stepOf (tail a) t log at here h = tailStep (here a) h
+stepOf (sample u a c) t log at here h = sampled u (here a) (here c)
+stepOf (merge c a b) t log at here h = merged (here c) (here a) (here b)
+
+-- and what it then carries
+unfoldable pub nextOf : Row → ℕ → (ℕ → Cell) → Held → Held
+nextOf (input n p) t here h = timedNext t n h
+nextOf (constant v n p) t here h = timedNext t n h
+nextOf (combine op a b) t here h = h
+nextOf (register v b a) t here h = h
+nextOf (faster a k g) t here h = fasterNext t (here a) k g h
+nextOf (slower a k) t here h = slowerNext (here a) k h
+nextOf (later a d) t here h = h
+nextOf (head a v s) t here h = headNext t (here a) s h
+nextOf (tail a) t here h = tailNext (here a) h
+nextOf (sample u a c) t here h = h
+nextOf (merge c a b) t here h = h
+
+-- A row's step: its outcome, the words that it carries from place i on, and no other word changed.
+pub record Did (step : Step) (next : Held) (i : ℕ) (s s′ : List ℕ) (r : Outcome) : Type 0 where
+  pub answer : stepIs r ≡ step
+  pub carried : heldIn s′ i ≡ next
+  pub before : (j : ℕ) → j < i → getD s′ j 0 ≡ getD s j 0
+  pub after : (j : ℕ) → i + 3 ≤ j → getD s′ j 0 ≡ getD s j 0
+
+-- A row's words at the start, where j inputs stand before it.
+unfoldable pub startOf : Row → ℕ → Held → Held
+startOf (input n p) j h = held p j (h .z)
+startOf (constant v n p) j h = held p (h .y) (h .z)
+startOf (combine op a b) j h = h
+startOf (register v b a) j h = held v (h .y) (h .z)
+startOf (faster a k g) j h = h
+startOf (slower a k) j h = h
+startOf (later a d) j h = h
+startOf (head a v s) j h = h
+startOf (tail a) j h = h
+startOf (sample u a c) j h = h
+startOf (merge c a b) j h = h
+
+-- row f's words are set, and no other row's
+pub record Started (next : Held) (f : ℕ) (s s′ : List ℕ) : Type 0 where
+  pub carried : heldIn s′ (4 * f) ≡ next
+  pub others : (g : ℕ) → (g ≡ f → ⊥) → heldIn s′ (4 * g) ≡ heldIn s (4 * g)
+
+-- row f's words have the cell of flow a at d ticks before tick t, absent where there is no such tick
+pub record Fetched (n a d f t : ℕ) (ms vs s s′ : List ℕ) : Type 0 where
+  pub cell : cellAt (heldIn s′ (4 * f) .x) (heldIn s′ (4 * f) .y) ≡ cond (leb d t) (cellAt (getD ms ((t - d) * n + a) 0) (getD vs ((t - d) * n + a) 0)) absent
+  pub others : (g : ℕ) → (g ≡ f → ⊥) → heldIn s′ (4 * g) ≡ heldIn s (4 * g)

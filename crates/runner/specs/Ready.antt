@@ -1,0 +1,156 @@
+-- What the carried words say of the ticks so far, and what a tick's code leaves. For the private functions alone.
+use mathlib.Core.Path.{_≡_}
+use Prim.Native.Nat.{ℕ, suc, _+_, _*_, _-_, _%_, _≤_, _<_}
+use mathlib.Core.Bool.{Bool, true, false, cond}
+use mathlib.Core.Logic.{_⊎_}
+use mathlib.Core.List.{List, [], _∷_, _++_, map}
+use mathlib.Core.Option.{Option, none, some}
+use lib.ListN.{length, getD, take}
+use lib.Dec.{eqb}
+use Rattle.table.specs.declared.Answer.{Answer}
+use Rattle.table.specs.Answers.{Result, good, refused, over}
+use Rattle.table.specs.Rows.{Row, input, constant, combine, register, faster, slower, later, head, tail, sample, merge, onRegister}
+use Rattle.table.specs.Plain.{tableOf}
+use Rattle.table.proofs.Tables.{rowAt}
+use Rattle.runner.specs.declared.ticks.Ticked.{Ticked}
+use Rattle.runner.specs.declared.ticks.Ticked.the-variants as ticked
+use Rattle.runner.specs.Cells.{Cell, absent, present, value, History, back, count, Presence, latest, onGrid}
+use Rattle.runner.specs.Operators.{valueOr}
+use Rattle.runner.specs.Runs.{Tick, Ticks, history, inputs, TickEnd, filled, stopped, Ran, cells, trace}
+use Rattle.runner.specs.Answers.{markByte, ranAnswer}
+use Rattle.runner.specs.Carried.{Held, heldIn, cellAt}
+
+-- the rows of a table that is not refused
+abbrev pub rowsOr : Result (List Row) → List Row
+rowsOr (good rows) = rows
+rowsOr (refused why f) = []
+
+unfoldable pub rowsIn : ℕ → List ℕ → List Row
+rowsIn m words = rowsOr (tableOf m words)
+
+unfoldable pub Plain : ℕ → List ℕ → Type 0
+Plain m words = tableOf m words ≡ good (rowsIn m words)
+
+-- x is the next tick, from t on, at phase p plus whole periods n
+pub record Due (n p t x : ℕ) : Type 0 where
+  pub from : t ≤ x
+  pub on : onGrid n p x ≡ true
+  pub off : (s : ℕ) → t ≤ s → s < x → onGrid n p s ≡ false
+
+-- A faster row's words after a presence d ticks before the latest tick, of which c copies are past.
+pub record Copying (k g : ℕ) (h : History) (w : Held) : Type 0 where
+  pub tick : ℕ
+  pub d : ℕ
+  pub c : ℕ
+  pub at : tick + suc d ≡ length h
+  pub last : latest h ≡ some record { tick = tick; value = w .x }
+  pub there : back h d ≡ present (w .x)
+  pub quiet : (j : ℕ) → j < d + k * g → (j ≡ d → ⊥) → back h j ≡ absent
+  pub due : w .z ≡ tick + k * g
+  pub next : w .y ≡ tick + suc c * g
+  pub few : c < k
+  pub passed : c * g ≤ d
+  pub ahead : (suc d ≤ suc c * g) ⊎ (suc c ≡ k)
+
+pub data Copies (k g : ℕ) (h : History) (w : Held) : Type 0 where
+  unseen : ((j : ℕ) → back h j ≡ absent) → latest h ≡ none → w .z ≡ 0 → Copies k g h w
+  copying : Copying k g h w → Copies k g h w
+
+-- A head row's word.
+pub data Heads (s : ℕ) (h : History) (x : ℕ) : Type 0 where
+  never : count h ≡ 0 → x ≡ 0 → Heads s h x
+  once : (e v : ℕ) → count h ≡ 1 → latest h ≡ some record { tick = e; value = v } → s < e → e < length h → x ≡ e + (e - s) → Heads s h x
+  often : 2 ≤ count h → x ≡ 1 → Heads s h x
+
+-- what row f's words say before tick t
+unfoldable pub Carries : List Row → ℕ → Row → ℕ → (ℕ → History) → Held → Type 0
+Carries rows f (input n p) t hist w = Due n p t (w .x) × (w .y ≡ inputs (take f rows))
+Carries rows f (constant v n p) t hist w = Due n p t (w .x)
+Carries rows f (combine op a b) t hist w = Unit {0}
+Carries rows f (register v b a) t hist w = w .x ≡ valueOr v (latest (hist a))
+Carries rows f (faster a k g) t hist w = Copies k g (hist a) w
+Carries rows f (slower a k) t hist w = ((count (hist a) + w .x) % k ≡ 0) × (w .x < k)
+Carries rows f (later a d) t hist w = Unit {0}
+Carries rows f (head a v s) t hist w = Heads s (hist a) (w .x)
+Carries rows f (tail a) t hist w = eqb (w .x) 0 ≡ eqb (count (hist a)) 0
+Carries rows f (sample u a c) t hist w = Unit {0}
+Carries rows f (merge c a b) t hist w = Unit {0}
+
+-- what was collected for a later row
+unfoldable pub Collected : Row → (ℕ → History) → Held → Type 0
+Collected (input n p) hist w = Unit {0}
+Collected (constant v n p) hist w = Unit {0}
+Collected (combine op a b) hist w = Unit {0}
+Collected (register v b a) hist w = Unit {0}
+Collected (faster a k g) hist w = Unit {0}
+Collected (slower a k) hist w = Unit {0}
+Collected (later a d) hist w = 0 < d → cellAt (w .x) (w .y) ≡ back (hist a) (d - 1)
+Collected (head a v s) hist w = Unit {0}
+Collected (tail a) hist w = Unit {0}
+Collected (sample u a c) hist w = Unit {0}
+Collected (merge c a b) hist w = Unit {0}
+
+-- a register's word follows its source after all flows of a tick, any other row's words with the row
+unfoldable pub Follows : List Row → ℕ → Row → ℕ → Tick → Ticks → Held → Type 0
+Follows rows f row t now past w =
+    cond (onRegister (λ b a. false) row) (Carries rows f row (suc t) (history (now ∷ past)) w) (Carries rows f row t (history past) w)
+
+-- the same of every row
+unfoldable pub AllCarry : List Row → ℕ → Ticks → List ℕ → Type 0
+AllCarry rows t past s = (f : ℕ) → f < length rows → Carries rows f (rowAt rows f) t (history past) (heldIn s (4 * f))
+
+unfoldable pub AllFollow : List Row → ℕ → Tick → Ticks → List ℕ → Type 0
+AllFollow rows t now past s = (f : ℕ) → f < length rows → Follows rows f (rowAt rows f) t now past (heldIn s (4 * f))
+
+-- the words are ready for tick t, whose first word stands at a place in the log
+pub record Ready (rows : List Row) (past : Ticks) (t at : ℕ) (s : List ℕ) : Type 0 where
+  pub ticks : length past ≡ t
+  pub place : at ≡ t * inputs rows
+  pub carried : AllCarry rows t past s
+  pub collected : (f : ℕ) → f < length rows → Collected (rowAt rows f) (history past) (heldIn s (4 * f))
+
+-- cells were written from the first place on
+pub record Wrote (written : List Cell) (ms vs ms′ vs′ : List ℕ) : Type 0 where
+  pub marks : ms′ ≡ over (map markByte written) ms
+  pub values : vs′ ≡ over (map value written) vs
+
+-- how the flows of a tick end
+abbrev pub FlowsEnd : List Row → ℕ → Ticks → TickEnd → List ℕ → List ℕ → List ℕ → List ℕ → List ℕ → Ticked → Type 0
+FlowsEnd rows t past (filled now) ms vs ms′ vs′ s′ r =
+    (r ≡ ticked.Full) × Wrote now ms vs ms′ vs′ × (length now ≡ length rows) × AllFollow rows t now past s′
+FlowsEnd rows t past (stopped f now) ms vs ms′ vs′ s′ r = (r ≡ ticked.Stopped f) × Wrote now ms vs ms′ vs′ × (f < length rows)
+
+-- how the registers' test ends
+abbrev pub LatchEnd : List Row → ℕ → Ticks → Tick → Option ℕ → List ℕ → Ticked → Type 0
+LatchEnd rows t past now none s′ r = (r ≡ ticked.Full) × AllCarry rows (suc t) (now ∷ past) s′
+LatchEnd rows t past now (some f) s′ r = (r ≡ ticked.Stopped f) × (f < length rows)
+
+-- how a tick ends
+abbrev pub TickDone : List Row → ℕ → Ticks → TickEnd → List ℕ → List ℕ → List ℕ → List ℕ → List ℕ → Ticked → Type 0
+TickDone rows t past (filled now) ms vs ms′ vs′ s′ r =
+    (r ≡ ticked.Full) × Wrote now ms vs ms′ vs′ × (length now ≡ length rows) × AllCarry rows (suc t) (now ∷ past) s′
+TickDone rows t past (stopped f now) ms vs ms′ vs′ s′ r = (r ≡ ticked.Stopped f) × Wrote now ms vs ms′ vs′ × (f < length rows)
+
+-- the numbers of the rows of kind k, in ascending order
+pub record Listed (k n : ℕ) (words list : List ℕ) (count : ℕ) : Type 0 where
+  pub room : count ≤ length list
+  pub within : (j : ℕ) → j < count → getD list j 0 < n
+  pub kind : (j : ℕ) → j < count → getD words (4 * getD list j 0) 0 ≡ k
+  pub rising : (i j : ℕ) → i < j → j < count → getD list i 0 < getD list j 0
+  pub all : (f : ℕ) → f < n → getD words (4 * f) 0 ≡ k → (j : ℕ) × (j < count) × (getD list j 0 ≡ f)
+
+-- every tick so far has n cells
+abbrev pub Regular : ℕ → Ticks → Type 0
+Regular n [] = Unit {0}
+Regular n (now ∷ past) = (length now ≡ n) × Regular n past
+
+-- how a tick ends in the whole trace
+abbrev pub TickAt : List Row → ℕ → Ticks → TickEnd → List ℕ → List ℕ → List ℕ → List ℕ → List ℕ → Ticked → Type 0
+TickAt rows t past (filled now) ms vs ms′ vs′ s′ r =
+    (r ≡ ticked.Full) × Wrote (cells past ++ now) ms vs ms′ vs′ × (length now ≡ length rows) × AllCarry rows (suc t) (now ∷ past) s′
+TickAt rows t past (stopped f now) ms vs ms′ vs′ s′ r = (r ≡ ticked.Stopped f) × Wrote (cells past ++ now) ms vs ms′ vs′ × (f < length rows)
+
+-- how the ticks end
+pub record RanTo (x : Ran) (ticks : ℕ) (ms vs ms′ vs′ : List ℕ) (r : Answer) : Type 0 where
+  pub answer : r ≡ ranAnswer ticks (good x)
+  pub wrote : Wrote (trace x) ms vs ms′ vs′

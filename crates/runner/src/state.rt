@@ -1,0 +1,143 @@
+// The words that the rows carry into tick 0, the rows of a kind, and what is collected of earlier ticks.
+ghost use mathlib.Core.Path.{_≡_};
+ghost use Prim.Native.Nat.{ℕ, _+_, _*_, _-_, _≤_, _<_, _^_};
+ghost use mathlib.Core.Bool.{cond};
+ghost use mathlib.Core.List.{List, []};
+ghost use lib.Dec.{eqb};
+ghost use lib.ListN.{length, getD, set, replicate};
+ghost use Rattle.runner.specs.Runs.{Ticks, inputs, cells};
+ghost use Rattle.runner.specs.Carried.{heldIn, decode, Started, startOf, Fetched};
+ghost use Rattle.runner.specs.Ready.{rowsIn, Plain, AllCarry, Ready, Regular, Wrote, Listed};
+
+// Row f is added to the list where it is of the kind.
+fn listed_with(kind: u32, words: &[u32], f: usize, list: &mut [u32], found: usize) -> usize
+    requires { ⌜ (f < 64) × (4 * f < length (now words)) × (found < length (now list)) ⌝ }
+    ensures { λ r. ⌜ (now (list .exit) ≡ cond (eqb (getD (now (words .entry)) (4 * f) 0) kind) (set (now (list .entry)) found f) (now (list .entry))) × (r ≡ cond (eqb (getD (now (words .entry)) (4 * f) 0) kind) (found + 1) found) ⌝ }
+{
+    if words[4 * f] == kind {
+        list[found] = f as u32;
+        found + 1
+    } else {
+        found
+    }
+}
+
+// The numbers of the rows of a kind, in ascending order, and how many there are.
+pub fn listed(kind: u32, n: usize, words: &[u32], list: &mut [u32]) -> usize
+    requires { ⌜ (n ≤ 64) × (length (now words) ≡ 4 * n) × (n ≤ length (now list)) ⌝ }
+    ensures { λ r. ⌜ Listed kind n (now (words .entry)) (now (list .exit)) r ⌝ }
+{
+    let mut f = 0;
+    let mut found = 0;
+    while f < n {
+        found = listed_with(kind, words, f, list, found);
+        f = f + 1;
+    }
+    found
+}
+
+// The words that row f carries into tick 0, where j inputs stand before it.
+fn start_row(kind: u32, p: u32, q: u32, r: u32, f: usize, j: u32, state: &mut [u32])
+    requires { ⌜ (f < 64) × (length (now state) ≡ 256) ⌝ }
+    ensures { λ _. ⌜ Started (startOf (decode kind p q r) j (heldIn (now (state .entry)) (4 * f))) f (now (state .entry)) (now (state .exit)) ⌝ }
+{
+    let i = 4 * f;
+    match kind {
+        0 => {
+            state[i] = q;
+            state[i + 1] = j;
+        }
+        1 => {
+            state[i] = r;
+        }
+        7 => {
+            state[i] = p;
+        }
+        _ => {}
+    }
+}
+
+// 1 where a row is an input, else 0.
+fn input_bit(kind: u32) -> u32
+    ensures { λ r. ⌜ r ≡ cond (eqb kind 0) 1 0 ⌝ }
+{
+    if kind == 0 { 1 } else { 0 }
+}
+
+// The words that the rows carry into tick 0, and the count of inputs.
+pub fn start(n: usize, words: &[u32], state: &mut [u32]) -> u32
+    requires { ⌜ (Plain n (now words)) × (now state ≡ replicate 256 0) ⌝ }
+    ensures { λ r. ⌜ (r ≡ inputs (rowsIn n (now (words .entry)))) × (AllCarry (rowsIn n (now (words .entry))) 0 [] (now (state .exit))) ⌝ }
+{
+    let mut f = 0;
+    let mut j = 0;
+    while f < n {
+        let kind = words[4 * f];
+        start_row(
+            kind,
+            words[4 * f + 1],
+            words[4 * f + 2],
+            words[4 * f + 3],
+            f,
+            j,
+            state,
+        );
+        j = j + input_bit(kind);
+        f = f + 1;
+    }
+    j
+}
+
+// What a later row needs of an earlier tick.
+fn collect_row(
+    n: usize,
+    a: usize,
+    d: u32,
+    f: usize,
+    t: u32,
+    marks: &[u8],
+    values: &[u32],
+    state: &mut [u32],
+)
+    requires { ⌜ (n ≤ 64) × (a < n) × (f < 64) × (t < 2 ^ 24) × (t * n + n ≤ length (now marks)) × (t * n + n ≤ length (now values)) × (length (now state) ≡ 256) ⌝ }
+    ensures { λ _. ⌜ Fetched n a d f t (now (marks .entry)) (now (values .entry)) (now (state .entry)) (now (state .exit)) ⌝ }
+{
+    if d <= t {
+        let place = ((t - d) as usize) * n + a;
+        state[4 * f] = marks[place] as u32;
+        state[4 * f + 1] = values[place];
+    } else {
+        state[4 * f] = 0;
+    }
+}
+
+// What tick t needs of earlier ticks.
+pub fn collect(
+    laters: &[u32],
+    count: usize,
+    n: usize,
+    words: &[u32],
+    t: u32,
+    marks: &[u8],
+    values: &[u32],
+    state: &mut [u32],
+)
+    requires { ⌜ (Plain n (now words)) × (t < 2 ^ 24) × (t * n + n ≤ length (now marks)) × (t * n + n ≤ length (now values)) × (length (now state) ≡ 256) × (Listed 10 n (now words) (now laters) count) ⌝ }
+    ensures { λ _. ⌜ ((past : Ticks) (ms vs : List ℕ) (at : ℕ) → length past ≡ t → at ≡ t * inputs (rowsIn n (now (words .entry))) → Regular n past → Wrote (cells past) ms vs (now (marks .entry)) (now (values .entry)) → AllCarry (rowsIn n (now (words .entry))) t past (now (state .entry)) → Ready (rowsIn n (now (words .entry))) past t at (now (state .exit))) ⌝ }
+{
+    let mut j = 0;
+    while j < count {
+        let f = laters[j] as usize;
+        collect_row(
+            n,
+            words[4 * f + 1] as usize,
+            words[4 * f + 2],
+            f,
+            t,
+            marks,
+            values,
+            state,
+        );
+        j = j + 1;
+    }
+}

@@ -1,0 +1,191 @@
+// One tick: the flows in ascending order, and then the registers' sources.
+ghost use mathlib.Core.Path.{_≡_};
+ghost use mathlib.Core.Bool.{cond};
+ghost use mathlib.Core.List.{List, []};
+ghost use lib.Dec.{eqb};
+ghost use Prim.Native.Nat.{ℕ, _+_, _*_, _≤_, _<_, _^_};
+ghost use lib.ListN.{length, getD, set};
+ghost use Rattle.table.proofs.Tables.{Fits};
+ghost use Rattle.runner.specs.Carried.{cellIs, cellsIn, heldIn, decode, stepOf, nextOf, Did};
+ghost use Rattle.table.specs.Rows.{badRegister};
+ghost use Rattle.runner.specs.Runs.{Tick, Ticks, flowsFrom, sourceMeets, tickOf};
+ghost use Rattle.runner.specs.Ready.{rowsIn, Plain, Ready, AllFollow, Wrote, FlowsEnd, LatchEnd, TickDone, Listed};
+use crate::operators;
+use crate::operators::Outcome;
+use crate::operators::Signal;
+
+// What a tick comes to: all of it, or a clash that names a flow.
+pub enum Ticked {
+    Full,
+    Stopped(usize),
+}
+
+// The signal of flow a in this tick, of which the flows below f are worked out.
+fn signal_at(marks: &[u8], values: &[u32], f: usize, a: u32) -> Signal
+    requires { ⌜ (a < f) × (f ≤ length (now marks)) × (f ≤ length (now values)) ⌝ }
+    ensures { λ r. ⌜ cellIs r ≡ cellsIn (now (marks .entry)) (now (values .entry)) f a ⌝ }
+{
+    let i = a as usize;
+    if marks[i] == 0 {
+        Signal::Absent
+    } else {
+        Signal::Present(values[i])
+    }
+}
+
+// What row f comes to at tick t: one decision over the kind.
+fn outcome(
+    kind: u32,
+    p: u32,
+    q: u32,
+    r: u32,
+    t: u32,
+    f: usize,
+    log: &[u32],
+    at: usize,
+    state: &mut [u32],
+    marks: &[u8],
+    values: &[u32],
+) -> Outcome
+    requires { ⌜ (f < 64) × (kind < 16) × (Fits 64 f (decode kind p q r)) × (f ≤ length (now marks)) × (f ≤ length (now values)) × (length (now state) ≡ 256) × (t < 2 ^ 24) × (at < 2 ^ 40) ⌝ }
+    ensures { λ o. ⌜ Did (stepOf (decode kind p q r) t (now (log .entry)) at (cellsIn (now (marks .entry)) (now (values .entry)) f) (heldIn (now (state .entry)) (4 * f))) (nextOf (decode kind p q r) t (cellsIn (now (marks .entry)) (now (values .entry)) f) (heldIn (now (state .entry)) (4 * f))) (4 * f) (now (state .entry)) (now (state .exit)) o ⌝ }
+{
+    let i = 4 * f;
+    match kind {
+        0 => operators::input(t, p, log, at, state, i),
+        1 => operators::constant(t, p, q, state, i),
+        2..=6 => operators::combined(
+            kind,
+            signal_at(marks, values, f, p),
+            signal_at(marks, values, f, q),
+        ),
+        7 => operators::registered(signal_at(marks, values, f, q), state[i]),
+        8 => operators::faster(t, signal_at(marks, values, f, p), q, r, state, i),
+        9 => operators::slower(signal_at(marks, values, f, p), q, state, i),
+        10 => operators::later(q, signal_at(marks, values, f, p), state, i),
+        11 => operators::head(t, signal_at(marks, values, f, p), q, r, state, i),
+        12 => operators::tail(signal_at(marks, values, f, p), state, i),
+        13 => operators::sampled(
+            true,
+            signal_at(marks, values, f, p),
+            signal_at(marks, values, f, q),
+        ),
+        14 => operators::sampled(
+            false,
+            signal_at(marks, values, f, p),
+            signal_at(marks, values, f, q),
+        ),
+        15 => operators::merged(
+            signal_at(marks, values, f, p),
+            signal_at(marks, values, f, q),
+            signal_at(marks, values, f, r),
+        ),
+        _ => Outcome::Clash,
+    }
+}
+
+// A cell is written at f.
+fn put(marks: &mut [u8], values: &mut [u32], f: usize, mark: u8, value: u32)
+    requires { ⌜ (f < length (now marks)) × (f < length (now values)) ⌝ }
+    ensures { λ _. ⌜ (now (marks .exit) ≡ set (now (marks .entry)) f mark) × (now (values .exit) ≡ set (now (values .entry)) f value) ⌝ }
+{
+    marks[f] = mark;
+    values[f] = value;
+}
+
+// The cells of the flows in ascending order. `at` is the place of the tick's first word in the log.
+fn flows(
+    n: usize,
+    words: &[u32],
+    log: &[u32],
+    at: usize,
+    t: u32,
+    state: &mut [u32],
+    marks: &mut [u8],
+    values: &mut [u32],
+) -> Ticked
+    requires { ⌜ (Plain n (now words)) × (n ≤ length (now marks)) × (n ≤ length (now values)) × (length (now state) ≡ 256) × (t < 2 ^ 24) × (at < 2 ^ 40) ⌝ }
+    ensures { λ r. ⌜ ((past : Ticks) → Ready (rowsIn n (now (words .entry))) past t at (now (state .entry)) → FlowsEnd (rowsIn n (now (words .entry))) t past (flowsFrom (rowsIn n (now (words .entry))) (now (log .entry)) past [] (rowsIn n (now (words .entry)))) (now (marks .entry)) (now (values .entry)) (now (marks .exit)) (now (values .exit)) (now (state .exit)) r) ⌝ }
+{
+    let mut f = 0;
+    while f < n {
+        let o = outcome(
+            words[4 * f],
+            words[4 * f + 1],
+            words[4 * f + 2],
+            words[4 * f + 3],
+            t,
+            f,
+            log,
+            at,
+            state,
+            marks,
+            values,
+        );
+        let next = f + 1;
+        match o {
+            Outcome::Clash => return Ticked::Stopped(f),
+            Outcome::Absent => put(marks, values, f, 0, 0),
+            Outcome::Present(v) => put(marks, values, f, 1, v),
+        }
+        f = next;
+    }
+    Ticked::Full
+}
+
+// A register's word after a tick in which its source had a cell.
+fn latched(held: u32, mark: u8, value: u32) -> u32
+    ensures { λ r. ⌜ r ≡ cond (eqb mark 0) held value ⌝ }
+{
+    if mark == 0 { held } else { value }
+}
+
+// After all flows: the lowest register whose source and beat are not both present or both absent. Each register before it takes its
+// source's value.
+fn latch(
+    registers: &[u32],
+    count: usize,
+    n: usize,
+    words: &[u32],
+    state: &mut [u32],
+    marks: &[u8],
+    values: &[u32],
+) -> Ticked
+    requires { ⌜ (Plain n (now words)) × (n ≤ length (now marks)) × (n ≤ length (now values)) × (length (now state) ≡ 256) × (Listed 7 n (now words) (now registers) count) ⌝ }
+    ensures { λ r. ⌜ ((past : Ticks) (cells : Tick) (ms vs : List ℕ) (t : ℕ) → length cells ≡ n → Wrote cells ms vs (now (marks .entry)) (now (values .entry)) → AllFollow (rowsIn n (now (words .entry))) t cells past (now (state .entry)) → LatchEnd (rowsIn n (now (words .entry))) t past cells (badRegister (sourceMeets cells) 0 (rowsIn n (now (words .entry)))) (now (state .exit)) r) ⌝ }
+{
+    let mut j = 0;
+    while j < count {
+        let f = registers[j] as usize;
+        let b = words[4 * f + 2] as usize;
+        let a = words[4 * f + 3] as usize;
+        if marks[a] != marks[b] {
+            return Ticked::Stopped(f);
+        }
+        state[4 * f] = latched(state[4 * f], marks[a], values[a]);
+        j = j + 1;
+    }
+    Ticked::Full
+}
+
+// One tick, into the parts of the trace that start at its own first cell.
+pub fn tick(
+    n: usize,
+    words: &[u32],
+    registers: &[u32],
+    count: usize,
+    log: &[u32],
+    at: usize,
+    t: u32,
+    state: &mut [u32],
+    marks: &mut [u8],
+    values: &mut [u32],
+) -> Ticked
+    requires { ⌜ (Plain n (now words)) × (n ≤ length (now marks)) × (n ≤ length (now values)) × (length (now state) ≡ 256) × (Listed 7 n (now words) (now registers) count) × (t < 2 ^ 24) × (at < 2 ^ 40) ⌝ }
+    ensures { λ r. ⌜ ((past : Ticks) → Ready (rowsIn n (now (words .entry))) past t at (now (state .entry)) → TickDone (rowsIn n (now (words .entry))) t past (tickOf (rowsIn n (now (words .entry))) (now (log .entry)) past) (now (marks .entry)) (now (values .entry)) (now (marks .exit)) (now (values .exit)) (now (state .exit)) r) ⌝ }
+{
+    match flows(n, words, log, at, t, state, marks, values) {
+        Ticked::Stopped(f) => Ticked::Stopped(f),
+        Ticked::Full => latch(registers, count, n, words, state, marks, values),
+    }
+}
