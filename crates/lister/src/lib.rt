@@ -5,7 +5,7 @@ ghost use Prim.Native.Nat.{_+_, _*_, _%_, _≤_};
 ghost use lib.ListN.{length, getD, drop};
 ghost use lib.Dec.{eqb};
 ghost use Rattle.lister.specs.Listing.{decimal, field, space, sign, refusalText, checked, listed, textAfter};
-ghost use Rattle.table.specs.Answers.{parts, answer, leaves};
+ghost use Rattle.table.specs.Answers.{answer, leaves};
 ghost use Rattle.checker.specs.Answers.{clocksWords};
 ghost use Rattle.lister.specs.Private.Words.{Wrote, wordText, wordsText, countedText, sevenText, sevensText, tableText};
 use table::Answer;
@@ -162,26 +162,6 @@ fn put_refusal(text: &mut [u8], number: u32, flow: u32) -> usize
     put(text, named, b'\n')
 }
 
-// The four parts of a reading's answer.
-fn parts(reading: Reading) -> Answer
-    ensures { λ r. ⌜ r ≡ parts reading ⌝ }
-{
-    match reading {
-        Reading::Table { count } => Answer {
-            number: 0,
-            flow: 0,
-            tick: 0,
-            count,
-        },
-        Reading::Refused { number, row } => Answer {
-            number,
-            flow: row,
-            tick: 0,
-            count: 0,
-        },
-    }
-}
-
 // Reads a packed table, stops where that fails, and checks the table.
 fn checked(packed: &[u8], clocks: &mut [u32]) -> Answer
     requires { ⌜ length (now clocks) ≡ 448 ⌝ }
@@ -191,7 +171,7 @@ fn checked(packed: &[u8], clocks: &mut [u32]) -> Answer
     let mut words = [0u32; 256];
     let reading = table::read(packed, &mut words);
     let Reading::Table { count } = reading else {
-        return parts(reading);
+        return table::parts(reading);
     };
     let size = 4 * (count as usize);
     checker::check(count, &words[..size], clocks)

@@ -8,14 +8,15 @@ use lib.ListN.{length}
 use lib.Dec.{leb, eqb}
 use borrow.Author.Tests.{le-leb, lt-leb, eq-eqb, ne-eqb}
 use Rattle.table.specs.declared.Answer.{Answer}
-use Rattle.table.specs.Answers.{Refusal, noRoom, badCount, cutShort, unknownKind, outOfRange, misplaced, badFilling, clocksDiffer, beyondLimits, notPlain, tooManyTicks, wrongLog, shortTrace, clash, Result, good, refused, unless, then, number, refusal, answer, leaves}
+use Rattle.table.specs.Answers.{Refusal, tooManyTicks, wrongLog, shortTrace, Result, good, refused, unless, then, refusal, answer, leaves}
 use Rattle.table.specs.Rows.{Row}
-use Rattle.table.specs.Plain.{tableOf, plainAnswer}
+use Rattle.table.specs.Plain.{tableOf, rowsIn as goodRows, plainAnswer}
+use Rattle.table.proofs.AnswerLaws.{no-zero}
 use Rattle.runner.specs.Cells.{value}
 use Rattle.runner.specs.Runs.{inputs, Ran, run, trace}
 use Rattle.runner.specs.Answers.{maxTicks, running, ranAnswer, markByte}
 use Rattle.runner.specs.Called.{Called}
-use Rattle.runner.specs.Ready.{rowsIn, rowsOr, Plain, Wrote, RanTo}
+use Rattle.runner.specs.Private.Ready.{rowsIn, Plain, Wrote, RanTo}
 
 -- what a call leaves, by what its run comes to
 called : (m : ℕ) (words log : List ℕ) (ticks : ℕ) (ms vs ms′ vs′ : List ℕ) (r : Answer) (x : Result Ran) → running m words log ticks (length ms) (length vs) ≡ x → r ≡ ranAnswer ticks x
@@ -59,30 +60,13 @@ module _ (m : ℕ) (words log : List ℕ) (ticks : ℕ) (ms vs : List ℕ) where
         (tests ∙ rw (le-leb ticks maxTicks l, eq-eqb (length log) (ticks * inputs (rowsIn m words)) e, le-leb (ticks * m) (length ms) j, le-leb (ticks * m) (length vs) k))
         (R .answer) (R .wrote .marks) (R .wrote .values)
 
--- the test of a table: no refusal has the number 0
-some-number : (why : Refusal) → number why ≡ 0 → ⊥
-some-number noRoom e = omega arith
-some-number badCount e = omega arith
-some-number cutShort e = omega arith
-some-number unknownKind e = omega arith
-some-number outOfRange e = omega arith
-some-number misplaced e = omega arith
-some-number badFilling e = omega arith
-some-number clocksDiffer e = omega arith
-some-number beyondLimits e = omega arith
-some-number notPlain e = omega arith
-some-number tooManyTicks e = omega arith
-some-number wrongLog e = omega arith
-some-number shortTrace e = omega arith
-some-number clash e = omega arith
-
 pub accepted : (m : ℕ) (words : List ℕ) (r : Answer) → r ≡ plainAnswer m words → r .number ≡ 0 → Plain m words
 unfolding Plain rowsIn
 accepted m words r e z = go (tableOf m words) refl (ap (λ (a : Answer). a .number) (sym e) ∙ z)
   where
-    go : (x : Result (List Row)) → tableOf m words ≡ x → answer length x .number ≡ 0 → tableOf m words ≡ good (rowsOr (tableOf m words))
-    go (good rows) q n = q ∙ ap good (sym (ap rowsOr q))
-    go (refused why f) q n = absurd (some-number why n)
+    go : (x : Result (List Row)) → tableOf m words ≡ x → answer length x .number ≡ 0 → tableOf m words ≡ good (goodRows (tableOf m words))
+    go (good rows) q n = q ∙ ap good (sym (ap goodRows q))
+    go (refused why f) q n = absurd (no-zero why n)
 
 down-by : (m : ℕ) (words log : List ℕ) (ticks a b : ℕ) (why : Refusal) (f : ℕ) → tableOf m words ≡ refused why f → running m words log ticks a b ≡ refused why f
 unfolding running

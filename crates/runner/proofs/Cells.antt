@@ -14,8 +14,8 @@ use Rattle.table.proofs.Tests.{Tried, passed, failed, try}
 use Rattle.runner.specs.Cells.{Cell, absent, present, value}
 use Rattle.runner.specs.Runs.{Tick, cellIn}
 use Rattle.runner.specs.Answers.{markByte}
-use Rattle.runner.specs.Carried.{cellAt, cellsIn}
-use Rattle.runner.specs.Ready.{Wrote}
+use Rattle.runner.specs.Private.Carried.{cellAt, cellsIn}
+use Rattle.runner.specs.Private.Ready.{Wrote}
 
 map-snoc : (g : Cell → ℕ) (xs : List Cell) (c : Cell) → map g (xs ++ (c ∷ [])) ≡ map g xs ++ (g c ∷ [])
 map-snoc g [] c = refl

@@ -16,8 +16,8 @@ use Rattle.table.proofs.Tables.{Fits, rowAt, Table}
 use Rattle.runner.specs.Cells.{Cell, absent, value, History, back}
 use Rattle.runner.specs.Runs.{Tick, Ticks, cellIn, history, inputs, cells}
 use Rattle.runner.specs.Answers.{markByte}
-use Rattle.runner.specs.Carried.{Held, heldIn, cellAt, decode, Fetched}
-use Rattle.runner.specs.Ready.{Carries, Collected, AllCarry, Ready, Regular, Wrote, Listed}
+use Rattle.runner.specs.Private.Carried.{Held, heldIn, cellAt, decode, Fetched}
+use Rattle.runner.specs.Private.Ready.{Carries, Collected, AllCarry, Ready, Regular, Wrote, Listed}
 use Rattle.runner.proofs.Cells.{mark-at, value-at, cell-back}
 use Rattle.runner.proofs.Steps.{history-length}
 use Rattle.runner.proofs.Tabled.{Row-at, row-of}

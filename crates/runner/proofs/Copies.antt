@@ -13,8 +13,8 @@ use borrow.Author.Tests.{eq-eqb, ne-eqb, lt-ltb, le-ltb, eqb-true, eqb-false, lt
 use Rattle.table.proofs.Tests.{Tried, passed, failed, try, same-test}
 use Rattle.runner.specs.Cells.{Cell, absent, present, History, back, latest}
 use Rattle.runner.specs.Operators.{Step, is, clashes, clashUnless, copied, exactly, spaced, fasterOf}
-use Rattle.runner.specs.Carried.{Held, held, fasterStep, fasterNext, begun}
-use Rattle.runner.specs.Ready.{Copying, Copies, unseen, copying}
+use Rattle.runner.specs.Private.Carried.{Held, held, fasterStep, fasterNext, begun}
+use Rattle.runner.specs.Private.Ready.{Copying, Copies, unseen, copying}
 
 copied-none : (k g j : ℕ) (h : History) → ((i : ℕ) → i < k → back h (j + i * g) ≡ absent) → copied k g j h ≡ absent
 unfolding copied

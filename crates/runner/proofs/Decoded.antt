@@ -6,7 +6,7 @@ use mathlib.Core.Bool.{Bool, true, false, cond}
 use lib.Dec.{eqb, ltb}
 use borrow.Author.Tests.{ne-eqb, lt-ltb}
 use Rattle.table.specs.Rows.{Row, combine, faster, slower, later, head, tail, sample, merge}
-use Rattle.runner.specs.Carried.{Held, opOf, decode, startOf}
+use Rattle.runner.specs.Private.Carried.{Held, opOf, decode, startOf}
 
 -- kinds 2 to 6
 pub combines : (k p q r : ℕ) → (k ≡ 0 → ⊥) → (k ≡ 1 → ⊥) → k < 7 → decode k p q r ≡ combine (opOf k) p q

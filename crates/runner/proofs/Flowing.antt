@@ -17,8 +17,8 @@ use Rattle.runner.specs.Cells.{Cell, absent, present, value, History}
 use Rattle.runner.specs.Operators.{Step, is, clashes}
 use Rattle.runner.specs.Runs.{Tick, Ticks, cellIn, history, inputs, cellOf, TickEnd, filled, stopped, onStep, flowsFrom}
 use Rattle.runner.specs.Answers.{markByte}
-use Rattle.runner.specs.Carried.{stepIs, Held, heldIn, cellsIn, decode, stepOf, nextOf, Did}
-use Rattle.runner.specs.Ready.{Carries, Collected, Follows, AllCarry, AllFollow, Ready, Wrote, FlowsEnd}
+use Rattle.runner.specs.Private.Carried.{stepIs, Held, heldIn, cellsIn, decode, stepOf, nextOf, Did}
+use Rattle.runner.specs.Private.Ready.{Carries, Collected, Follows, AllCarry, AllFollow, Ready, Wrote, FlowsEnd}
 use Rattle.runner.proofs.Cells.{wrote-more, here-is}
 use Rattle.runner.proofs.Tabled.{Row-at, row-of}
 use Rattle.runner.proofs.Steps.{row-steps, row-follows, follows-on}

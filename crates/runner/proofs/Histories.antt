@@ -12,8 +12,8 @@ use borrow.Author.Tests.{eq-eqb, ne-eqb, lt-ltb, le-ltb, le-leb, lt-leb, eqb-tru
 use Rattle.table.proofs.Tests.{Tried, passed, failed, try, same-test, and-left, and-right, and-both}
 use Rattle.runner.specs.Cells.{Cell, absent, present, History, count, Presence, latest, onGrid}
 use Rattle.runner.specs.Operators.{Step, is, clashes, clashUnless, timed, slowerOf, tailOf, evenly, headFits, headOf}
-use Rattle.runner.specs.Carried.{Held, held, timedStep, timedNext, slowerStep, slowerNext, headStep, headNext, afterStep, afterNext, tailStep, tailNext}
-use Rattle.runner.specs.Ready.{Due, Heads, never, once, often}
+use Rattle.runner.specs.Private.Carried.{Held, held, timedStep, timedNext, slowerStep, slowerNext, headStep, headNext, afterStep, afterNext, tailStep, tailNext}
+use Rattle.runner.specs.Private.Ready.{Due, Heads, never, once, often}
 use Rattle.runner.proofs.Copies.{never-is}
 
 -- a multiple of n and less than n more

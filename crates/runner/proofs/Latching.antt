@@ -18,8 +18,8 @@ use Rattle.runner.specs.Cells.{Cell, absent, present, mark, value, Histo
 use Rattle.runner.specs.Operators.{valueOr}
 use Rattle.runner.specs.Runs.{Tick, Ticks, cellIn, history, sourceMeets}
 use Rattle.runner.specs.Answers.{markByte}
-use Rattle.runner.specs.Carried.{Held, held, heldIn, decode}
-use Rattle.runner.specs.Ready.{Carries, Follows, AllCarry, AllFollow, Wrote, LatchEnd, Listed}
+use Rattle.runner.specs.Private.Carried.{Held, held, heldIn, decode}
+use Rattle.runner.specs.Private.Ready.{Carries, Follows, AllCarry, AllFollow, Wrote, LatchEnd, Listed}
 use Rattle.runner.proofs.Words.{stored, stored-other}
 use Rattle.runner.proofs.Cells.{mark-at, value-at}
 use Rattle.runner.proofs.Tabled.{Row-at, row-of}

@@ -11,7 +11,7 @@ use Rattle.runner.specs.declared.ticks.Ticked.{Ticked}
 use Rattle.runner.specs.Cells.{Cell, value}
 use Rattle.runner.specs.Runs.{Tick, Ticks, TickEnd, filled, stopped, cells}
 use Rattle.runner.specs.Answers.{markByte}
-use Rattle.runner.specs.Ready.{Wrote, TickDone, TickAt}
+use Rattle.runner.specs.Private.Ready.{Wrote, TickDone, TickAt}
 
 -- the part of s from a on, as it is lent, and as it comes back
 part-is : (a : ℕ) (s : List ℕ) → take (length s - a) (drop a s) ≡ drop a s

@@ -11,7 +11,7 @@ use lib.Seq.{getD-set-same, getD-set-other}
 use lib.Dec.{eqb}
 use borrow.Author.Tests.{eqb-true, eqb-false}
 use Rattle.table.proofs.Tests.{Tried, passed, failed, try}
-use Rattle.runner.specs.Ready.{Listed}
+use Rattle.runner.specs.Private.Ready.{Listed}
 
 pub no-rows : (k : ℕ) (words list : List ℕ) → Listed k 0 words list 0
 no-rows k words list =

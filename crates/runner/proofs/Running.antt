@@ -14,7 +14,7 @@ use Rattle.runner.specs.declared.ticks.Ticked.the-variants as ticked
 use Rattle.runner.specs.Cells.{Cell, value}
 use Rattle.runner.specs.Runs.{Tick, Ticks, TickEnd, filled, stopped, tickOf, Ran, done, clashed, onTick, onRun, run, cells, trace}
 use Rattle.runner.specs.Answers.{markByte}
-use Rattle.runner.specs.Ready.{AllCarry, Regular, Wrote, TickAt, RanTo}
+use Rattle.runner.specs.Private.Ready.{AllCarry, Regular, Wrote, TickAt, RanTo}
 use Rattle.runner.proofs.Cells.{length-over}
 use Rattle.runner.proofs.Collecting.{cells-length}
 use Rattle.runner.proofs.Ticking.{full-or-stopped, same-flow}

@@ -14,8 +14,8 @@ use Rattle.table.specs.Rows.{Row, input, constant, combine, register, faster, s
 use Rattle.table.proofs.Tables.{Fits, rowAt, Table}
 use Rattle.runner.specs.Cells.{Cell, absent, History, count, latest}
 use Rattle.runner.specs.Runs.{Ticks, history, inputs, isInput}
-use Rattle.runner.specs.Carried.{Held, held, heldIn, decode, startOf, Started}
-use Rattle.runner.specs.Ready.{Copies, unseen, Heads, never, Carries, AllCarry}
+use Rattle.runner.specs.Private.Carried.{Held, held, heldIn, decode, startOf, Started}
+use Rattle.runner.specs.Private.Ready.{Copies, unseen, Heads, never, Carries, AllCarry}
 use Rattle.runner.proofs.Tabled.{Row-at, row-of}
 use Rattle.runner.proofs.Histories.{timed-starts}
 use Rattle.runner.proofs.Flowing.{fields}

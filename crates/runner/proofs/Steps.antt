@@ -12,8 +12,8 @@ use Rattle.table.proofs.Tables.{Fits}
 use Rattle.runner.specs.Cells.{Cell, absent, present, History, back, count, latest}
 use Rattle.runner.specs.Operators.{Step, is, clashes, timed, combined, registered, fasterOf, slowerOf, laterOf, tailOf, headOf, sampled, merged, valueOr}
 use Rattle.runner.specs.Runs.{Tick, Ticks, cellIn, history, inputs, word, cellOf}
-use Rattle.runner.specs.Carried.{Held, cellAt, timedStep, timedNext, registerStep, fasterStep, fasterNext, slowerStep, slowerNext, laterStep, headStep, headNext, tailStep, tailNext, stepOf, nextOf}
-use Rattle.runner.specs.Ready.{Due, Copies, Heads, Carries, Collected, Follows}
+use Rattle.runner.specs.Private.Carried.{Held, cellAt, timedStep, timedNext, registerStep, fasterStep, fasterNext, slowerStep, slowerNext, laterStep, headStep, headNext, tailStep, tailNext, stepOf, nextOf}
+use Rattle.runner.specs.Private.Ready.{Due, Copies, Heads, Carries, Collected, Follows}
 use Rattle.runner.proofs.Copies.{faster-steps, faster-follows}
 use Rattle.runner.proofs.Histories.{timed-steps, timed-follows, timed-keeps, slower-steps, slower-follows, tail-steps, tail-follows, head-steps, head-follows}
 

@@ -12,11 +12,12 @@ use lib.Dec.{eqb}
 use Rattle.table.specs.Answers.{good}
 use Rattle.table.specs.Rows.{Row, input, constant, combine, register, faster, slower, later, head, tail, sample, merge, onRegister, Kind, kinds, Words}
 use Rattle.table.specs.Plain.{four, tableOf}
-use Rattle.table.proofs.Tables.{Fits, Made, row-fits, Each, entry, rowAt, Table, table-made}
+use Rattle.table.proofs.Tables.{Fits, Made, row-fits, rowAt, Table, table-made}
+use Rattle.table.proofs.Lists.{Each, each-entry}
 use Rattle.runner.specs.Cells.{History}
 use Rattle.runner.specs.Runs.{isInput}
-use Rattle.runner.specs.Carried.{Held, decode}
-use Rattle.runner.specs.Ready.{rowsIn, Plain, Collected}
+use Rattle.runner.specs.Private.Carried.{Held, decode}
+use Rattle.runner.specs.Private.Ready.{rowsIn, Plain, Collected}
 
 pub plain-table : (m : ℕ) (words : List ℕ) → Plain m words → Table m words (rowsIn m words)
 unfolding Plain
@@ -32,10 +33,55 @@ record Makes (i : ℕ) (k : Kind) : Type 0 where
 
 all-make : Each Makes 0 kinds
 unfolding kinds decode Collected
-all-make = (record { row = λ p q r. refl; low = omega arith; no-register = λ n test p q r. refl; no-later = λ n p q r hist w. tt; is-input = λ p q r. refl }, (record { row = λ p q r. refl; low = omega arith; no-register = λ n test p q r. refl; no-later = λ n p q r hist w. tt; is-input = λ p q r. refl }, (record { row = λ p q r. refl; low = omega arith; no-register = λ n test p q r. refl; no-later = λ n p q r hist w. tt; is-input = λ p q r. refl }, (record { row = λ p q r. refl; low = omega arith; no-register = λ n test p q r. refl; no-later = λ n p q r hist w. tt; is-input = λ p q r. refl }, (record { row = λ p q r. refl; low = omega arith; no-register = λ n test p q r. refl; no-later = λ n p q r hist w. tt; is-input = λ p q r. refl }, (record { row = λ p q r. refl; low = omega arith; no-register = λ n test p q r. refl; no-later = λ n p q r hist w. tt; is-input = λ p q r. refl }, (record { row = λ p q r. refl; low = omega arith; no-register = λ n test p q r. refl; no-later = λ n p q r hist w. tt; is-input = λ p q r. refl }, (record { row = λ p q r. refl; low = omega arith; no-register = λ n. absurd (n refl); no-later = λ n p q r hist w. tt; is-input = λ p q r. refl }, (record { row = λ p q r. refl; low = omega arith; no-register = λ n test p q r. refl; no-later = λ n p q r hist w. tt; is-input = λ p q r. refl }, (record { row = λ p q r. refl; low = omega arith; no-register = λ n test p q r. refl; no-later = λ n p q r hist w. tt; is-input = λ p q r. refl }, (record { row = λ p q r. refl; low = omega arith; no-register = λ n test p q r. refl; no-later = λ n. absurd (n refl); is-input = λ p q r. refl }, (record { row = λ p q r. refl; low = omega arith; no-register = λ n test p q r. refl; no-later = λ n p q r hist w. tt; is-input = λ p q r. refl }, (record { row = λ p q r. refl; low = omega arith; no-register = λ n test p q r. refl; no-later = λ n p q r hist w. tt; is-input = λ p q r. refl }, (record { row = λ p q r. refl; low = omega arith; no-register = λ n test p q r. refl; no-later = λ n p q r hist w. tt; is-input = λ p q r. refl }, (record { row = λ p q r. refl; low = omega arith; no-register = λ n test p q r. refl; no-later = λ n p q r hist w. tt; is-input = λ p q r. refl }, (record { row = λ p q r. refl; low = omega arith; no-register = λ n test p q r. refl; no-later = λ n p q r hist w. tt; is-input = λ p q r. refl }, tt))))))))))))))))
+all-make = (
+  record { row = λ p q r. refl; low = omega arith; no-register = λ n test p q r. refl; no-later = λ n p q r hist w. tt; is-input = λ p q r. refl },
+  (
+    record { row = λ p q r. refl; low = omega arith; no-register = λ n test p q r. refl; no-later = λ n p q r hist w. tt; is-input = λ p q r. refl },
+    (
+      record { row = λ p q r. refl; low = omega arith; no-register = λ n test p q r. refl; no-later = λ n p q r hist w. tt; is-input = λ p q r. refl },
+      (
+        record { row = λ p q r. refl; low = omega arith; no-register = λ n test p q r. refl; no-later = λ n p q r hist w. tt; is-input = λ p q r. refl },
+        (
+          record { row = λ p q r. refl; low = omega arith; no-register = λ n test p q r. refl; no-later = λ n p q r hist w. tt; is-input = λ p q r. refl },
+          (
+            record { row = λ p q r. refl; low = omega arith; no-register = λ n test p q r. refl; no-later = λ n p q r hist w. tt; is-input = λ p q r. refl },
+            (
+              record { row = λ p q r. refl; low = omega arith; no-register = λ n test p q r. refl; no-later = λ n p q r hist w. tt; is-input = λ p q r. refl },
+              (
+                record { row = λ p q r. refl; low = omega arith; no-register = λ n. absurd (n refl); no-later = λ n p q r hist w. tt; is-input = λ p q r. refl },
+                (
+                  record { row = λ p q r. refl; low = omega arith; no-register = λ n test p q r. refl; no-later = λ n p q r hist w. tt; is-input = λ p q r. refl },
+                  (
+                    record { row = λ p q r. refl; low = omega arith; no-register = λ n test p q r. refl; no-later = λ n p q r hist w. tt; is-input = λ p q r. refl },
+                    (
+                      record { row = λ p q r. refl; low = omega arith; no-register = λ n test p q r. refl; no-later = λ n. absurd (n refl); is-input = λ p q r. refl },
+                      (
+                        record { row = λ p q r. refl; low = omega arith; no-register = λ n test p q r. refl; no-later = λ n p q r hist w. tt; is-input = λ p q r. refl },
+                        (
+                          record { row = λ p q r. refl; low = omega arith; no-register = λ n test p q r. refl; no-later = λ n p q r hist w. tt; is-input = λ p q r. refl },
+                          (
+                            record { row = λ p q r. refl; low = omega arith; no-register = λ n test p q r. refl; no-later = λ n p q r hist w. tt; is-input = λ p q r. refl },
+                            (
+                              record { row = λ p q r. refl; low = omega arith; no-register = λ n test p q r. refl; no-later = λ n p q r hist w. tt; is-input = λ p q r. refl },
+                              (record { row = λ p q r. refl; low = omega arith; no-register = λ n test p q r. refl; no-later = λ n p q r hist w. tt; is-input = λ p q r. refl }, tt),
+                            ),
+                          ),
+                        ),
+                      ),
+                    ),
+                  ),
+                ),
+              ),
+            ),
+          ),
+        ),
+      ),
+    ),
+  ),
+)
 
 makes-at : (k : ℕ) (a : Kind) → getElem? kinds k ≡ some a → Makes k a
-makes-at k a e = subst (λ (i : ℕ). Makes i a) (zero-add k) (entry Makes 0 kinds k a all-make e)
+makes-at k a e = subst (λ (i : ℕ). Makes i a) (zero-add k) (each-entry Makes 0 kinds k a all-make e)
 
 fits-wide : (m f : ℕ) (row : Row) → m ≤ 64 → Fits m f row → Fits 64 f row
 fits-wide m f (input n p) l h = h

@@ -9,7 +9,7 @@ use Rattle.table.specs.Rows.{Row, badRegister}
 use Rattle.runner.specs.declared.ticks.Ticked.{Ticked}
 use Rattle.runner.specs.declared.ticks.Ticked.the-variants as ticked
 use Rattle.runner.specs.Runs.{Tick, Ticks, TickEnd, filled, stopped, sourceMeets, sourcedTick, onFlows}
-use Rattle.runner.specs.Ready.{AllFollow, Wrote, FlowsEnd, LatchEnd, TickDone}
+use Rattle.runner.specs.Private.Ready.{AllFollow, Wrote, FlowsEnd, LatchEnd, TickDone}
 
 pub full-or-stopped : {A : Type 0} {f : ℕ} → ticked.Full ≡ ticked.Stopped f → A
 full-or-stopped e = absurd (let z : _≡_ {A = ℕ} 0 1 = cc in omega arith)

@@ -8,7 +8,7 @@ use lib.ListN.{length, getD, set, length-set}
 use lib.Seq.{getD-set-same, getD-set-other}
 use Rattle.runner.specs.declared.operators.Outcome.{Outcome}
 use Rattle.runner.specs.Operators.{Step}
-use Rattle.runner.specs.Carried.{stepIs, Held, held, heldIn, Did}
+use Rattle.runner.specs.Private.Carried.{stepIs, Held, held, heldIn, Did}
 
 module _ {step : Step} {next : Held} {i : ℕ} {s : List ℕ} {r : Outcome} where
   -- nothing is stored

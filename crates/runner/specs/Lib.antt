@@ -3,5 +3,4 @@ pub mod Operators
 pub mod Runs
 pub mod Answers
 pub mod Called
-pub mod Carried
-pub mod Ready
+pub mod Private

@@ -6,7 +6,7 @@ ghost use lib.ListN.{length};
 ghost use Rattle.runner.specs.Runs.{Ticks, inputs, cells, tickOf};
 ghost use Rattle.runner.specs.Runs as runs;
 ghost use Rattle.runner.specs.Called.{Called};
-ghost use Rattle.runner.specs.Ready.{rowsIn, Plain, AllCarry, Ready, Regular, Wrote, Listed, TickAt, RanTo};
+ghost use Rattle.runner.specs.Private.Ready.{rowsIn, Plain, AllCarry, Ready, Regular, Wrote, Listed, TickAt, RanTo};
 
 mod operators;
 mod state;

@@ -7,7 +7,7 @@ ghost use lib.ListN.{length, getD};
 ghost use Rattle.table.specs.Bits.{bit};
 ghost use Rattle.table.specs.Rows.{larger};
 ghost use Rattle.runner.specs.Operators.{below, apply, combined, sampled, neither, alone, merged};
-ghost use Rattle.runner.specs.Carried.{cellIs, stepIs, Held, heldIn, opOf, Did, timedStep, timedNext, registerStep, fasterStep, fasterNext, begun, slowerStep, slowerNext, laterStep, afterStep, afterNext, headStep, headNext, tailStep, tailNext};
+ghost use Rattle.runner.specs.Private.Carried.{cellIs, stepIs, Held, heldIn, opOf, Did, timedStep, timedNext, registerStep, fasterStep, fasterNext, begun, slowerStep, slowerNext, laterStep, afterStep, afterNext, headStep, headNext, tailStep, tailNext};
 ghost use Rattle.runner.specs.Operators.{is};
 ghost use Rattle.runner.specs.Cells.{absent, present};
 
@@ -66,7 +66,14 @@ fn word_at(log: &[u32], i: usize) -> u32
 }
 
 // Input: carries the next tick at which it is present, and its number among the inputs.
-pub fn input(t: u32, period: u32, log: &[u32], at: usize, state: &mut [u32], i: usize) -> Outcome
+pub(crate) fn input(
+    t: u32,
+    period: u32,
+    log: &[u32],
+    at: usize,
+    state: &mut [u32],
+    i: usize,
+) -> Outcome
     requires { ⌜ (i + 4 ≤ length (now state)) × (t < 2 ^ 24) × (period < 2 ^ 12) × (at < 2 ^ 40) ⌝ }
     ensures { λ r. ⌜ Did (timedStep t (getD (now (log .entry)) (at + heldIn (now (state .entry)) i .y) 0) (heldIn (now (state .entry)) i)) (timedNext t period (heldIn (now (state .entry)) i)) i (now (state .entry)) (now (state .exit)) r ⌝ }
 {
@@ -80,7 +87,7 @@ pub fn input(t: u32, period: u32, log: &[u32], at: usize, state: &mut [u32], i: 
 }
 
 // Constant: carries the next tick at which it is present.
-pub fn constant(t: u32, value: u32, period: u32, state: &mut [u32], i: usize) -> Outcome
+pub(crate) fn constant(t: u32, value: u32, period: u32, state: &mut [u32], i: usize) -> Outcome
     requires { ⌜ (i + 4 ≤ length (now state)) × (t < 2 ^ 24) × (period < 2 ^ 12) ⌝ }
     ensures { λ r. ⌜ Did (timedStep t value (heldIn (now (state .entry)) i)) (timedNext t period (heldIn (now (state .entry)) i)) i (now (state .entry)) (now (state .exit)) r ⌝ }
 {
@@ -93,7 +100,7 @@ pub fn constant(t: u32, value: u32, period: u32, state: &mut [u32], i: usize) ->
 }
 
 // Kinds 2 to 6: present when both operands are.
-pub fn combined(kind: u32, x: Signal, y: Signal) -> Outcome
+pub(crate) fn combined(kind: u32, x: Signal, y: Signal) -> Outcome
     ensures { λ r. ⌜ stepIs r ≡ combined (opOf kind) (cellIs x) (cellIs y) ⌝ }
 {
     match x {
@@ -109,7 +116,7 @@ pub fn combined(kind: u32, x: Signal, y: Signal) -> Outcome
 }
 
 // Register: carries the value of its source's latest presence, at first the initial value.
-pub fn registered(beat: Signal, held: u32) -> Outcome
+pub(crate) fn registered(beat: Signal, held: u32) -> Outcome
     ensures { λ r. ⌜ ((h : Held) → h .x ≡ held → stepIs r ≡ registerStep (cellIs beat) h) ⌝ }
 {
     match beat {
@@ -149,7 +156,7 @@ fn copied(t: u32, gap: u32, state: &mut [u32], i: usize) -> Outcome
 }
 
 // Faster: carries the latest value, the next copy's tick, and the tick at which the next presence is due, 0 before the first.
-pub fn faster(t: u32, a: Signal, k: u32, gap: u32, state: &mut [u32], i: usize) -> Outcome
+pub(crate) fn faster(t: u32, a: Signal, k: u32, gap: u32, state: &mut [u32], i: usize) -> Outcome
     requires { ⌜ (i + 4 ≤ length (now state)) × (t < 2 ^ 24) × (k < 2 ^ 6) × (gap < 2 ^ 12) ⌝ }
     ensures { λ r. ⌜ Did (fasterStep t (cellIs a) (heldIn (now (state .entry)) i)) (fasterNext t (cellIs a) k gap (heldIn (now (state .entry)) i)) i (now (state .entry)) (now (state .exit)) r ⌝ }
 {
@@ -171,7 +178,7 @@ pub fn faster(t: u32, a: Signal, k: u32, gap: u32, state: &mut [u32], i: usize) 
 }
 
 // Slower: carries how many presences are still to be left out.
-pub fn slower(a: Signal, k: u32, state: &mut [u32], i: usize) -> Outcome
+pub(crate) fn slower(a: Signal, k: u32, state: &mut [u32], i: usize) -> Outcome
     requires { ⌜ (i + 4 ≤ length (now state)) × (1 ≤ k) ⌝ }
     ensures { λ r. ⌜ Did (slowerStep (cellIs a) (heldIn (now (state .entry)) i)) (slowerNext (cellIs a) k (heldIn (now (state .entry)) i)) i (now (state .entry)) (now (state .exit)) r ⌝ }
 {
@@ -201,7 +208,7 @@ fn same(a: Signal) -> Outcome
 }
 
 // Later: the operand itself where d is 0, else what was collected.
-pub fn later(d: u32, a: Signal, state: &[u32], i: usize) -> Outcome
+pub(crate) fn later(d: u32, a: Signal, state: &[u32], i: usize) -> Outcome
     requires { ⌜ i + 4 ≤ length (now state) ⌝ }
     ensures { λ r. ⌜ stepIs r ≡ laterStep (cellIs a) d (heldIn (now (state .entry)) i) ⌝ }
 {
@@ -237,7 +244,7 @@ fn after(t: u32, x: u32, s: u32, state: &mut [u32], i: usize) -> Outcome
 }
 
 // Head: carries 0 before the operand's first presence, then the tick at which the second is due, and 1 after that.
-pub fn head(t: u32, a: Signal, v: u32, s: u32, state: &mut [u32], i: usize) -> Outcome
+pub(crate) fn head(t: u32, a: Signal, v: u32, s: u32, state: &mut [u32], i: usize) -> Outcome
     requires { ⌜ (i + 4 ≤ length (now state)) × (t < 2 ^ 24) ⌝ }
     ensures { λ r. ⌜ Did (headStep t (cellIs a) v s (heldIn (now (state .entry)) i)) (headNext t (cellIs a) s (heldIn (now (state .entry)) i)) i (now (state .entry)) (now (state .exit)) r ⌝ }
 {
@@ -260,7 +267,7 @@ pub fn head(t: u32, a: Signal, v: u32, s: u32, state: &mut [u32], i: usize) -> O
 }
 
 // Tail: carries 0 before the operand's first presence, then 1.
-pub fn tail(a: Signal, state: &mut [u32], i: usize) -> Outcome
+pub(crate) fn tail(a: Signal, state: &mut [u32], i: usize) -> Outcome
     requires { ⌜ i + 4 ≤ length (now state) ⌝ }
     ensures { λ r. ⌜ Did (tailStep (cellIs a) (heldIn (now (state .entry)) i)) (tailNext (cellIs a) (heldIn (now (state .entry)) i)) i (now (state .entry)) (now (state .exit)) r ⌝ }
 {
@@ -278,7 +285,7 @@ pub fn tail(a: Signal, state: &mut [u32], i: usize) -> Outcome
 }
 
 // When, when-not: present where both are and c has the truth wanted.
-pub fn sampled(wanted: bool, a: Signal, c: Signal) -> Outcome
+pub(crate) fn sampled(wanted: bool, a: Signal, c: Signal) -> Outcome
     ensures { λ r. ⌜ stepIs r ≡ sampled wanted (cellIs a) (cellIs c) ⌝ }
 {
     match a {
@@ -339,7 +346,7 @@ fn neither(x: Signal, y: Signal) -> Outcome
 }
 
 // Merge: the one that the truth of c names, alone.
-pub fn merged(c: Signal, a: Signal, b: Signal) -> Outcome
+pub(crate) fn merged(c: Signal, a: Signal, b: Signal) -> Outcome
     ensures { λ r. ⌜ stepIs r ≡ merged (cellIs c) (cellIs a) (cellIs b) ⌝ }
 {
     match c {

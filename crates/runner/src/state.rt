@@ -6,8 +6,8 @@ ghost use mathlib.Core.List.{List, []};
 ghost use lib.Dec.{eqb};
 ghost use lib.ListN.{length, getD, set, replicate};
 ghost use Rattle.runner.specs.Runs.{Ticks, inputs, cells};
-ghost use Rattle.runner.specs.Carried.{heldIn, decode, Started, startOf, Fetched};
-ghost use Rattle.runner.specs.Ready.{rowsIn, Plain, AllCarry, Ready, Regular, Wrote, Listed};
+ghost use Rattle.runner.specs.Private.Carried.{heldIn, decode, Started, startOf, Fetched};
+ghost use Rattle.runner.specs.Private.Ready.{rowsIn, Plain, AllCarry, Ready, Regular, Wrote, Listed};
 
 // Row f is added to the list where it is of the kind.
 fn listed_with(kind: u32, words: &[u32], f: usize, list: &mut [u32], found: usize) -> usize
@@ -23,7 +23,7 @@ fn listed_with(kind: u32, words: &[u32], f: usize, list: &mut [u32], found: usiz
 }
 
 // The numbers of the rows of a kind, in ascending order, and how many there are.
-pub fn listed(kind: u32, n: usize, words: &[u32], list: &mut [u32]) -> usize
+pub(crate) fn listed(kind: u32, n: usize, words: &[u32], list: &mut [u32]) -> usize
     requires { ⌜ (n ≤ 64) × (length (now words) ≡ 4 * n) × (n ≤ length (now list)) ⌝ }
     ensures { λ r. ⌜ Listed kind n (now (words .entry)) (now (list .exit)) r ⌝ }
 {
@@ -65,7 +65,7 @@ fn input_bit(kind: u32) -> u32
 }
 
 // The words that the rows carry into tick 0, and the count of inputs.
-pub fn start(n: usize, words: &[u32], state: &mut [u32]) -> u32
+pub(crate) fn start(n: usize, words: &[u32], state: &mut [u32]) -> u32
     requires { ⌜ (Plain n (now words)) × (now state ≡ replicate 256 0) ⌝ }
     ensures { λ r. ⌜ (r ≡ inputs (rowsIn n (now (words .entry)))) × (AllCarry (rowsIn n (now (words .entry))) 0 [] (now (state .exit))) ⌝ }
 {
@@ -112,7 +112,7 @@ fn collect_row(
 }
 
 // What tick t needs of earlier ticks.
-pub fn collect(
+pub(crate) fn collect(
     laters: &[u32],
     count: usize,
     n: usize,

@@ -6,10 +6,10 @@ ghost use lib.Dec.{eqb};
 ghost use Prim.Native.Nat.{ℕ, _+_, _*_, _≤_, _<_, _^_};
 ghost use lib.ListN.{length, getD, set};
 ghost use Rattle.table.proofs.Tables.{Fits};
-ghost use Rattle.runner.specs.Carried.{cellIs, cellsIn, heldIn, decode, stepOf, nextOf, Did};
+ghost use Rattle.runner.specs.Private.Carried.{cellIs, cellsIn, heldIn, decode, stepOf, nextOf, Did};
 ghost use Rattle.table.specs.Rows.{badRegister};
 ghost use Rattle.runner.specs.Runs.{Tick, Ticks, flowsFrom, sourceMeets, tickOf};
-ghost use Rattle.runner.specs.Ready.{rowsIn, Plain, Ready, AllFollow, Wrote, FlowsEnd, LatchEnd, TickDone, Listed};
+ghost use Rattle.runner.specs.Private.Ready.{rowsIn, Plain, Ready, AllFollow, Wrote, FlowsEnd, LatchEnd, TickDone, Listed};
 use crate::operators;
 use crate::operators::Outcome;
 use crate::operators::Signal;
@@ -169,7 +169,7 @@ fn latch(
 }
 
 // One tick, into the parts of the trace that start at its own first cell.
-pub fn tick(
+pub(crate) fn tick(
     n: usize,
     words: &[u32],
     registers: &[u32],

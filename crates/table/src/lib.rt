@@ -104,6 +104,21 @@ pub fn read(packed: &[u8], words: &mut [u32]) -> Reading
     Reading::Table { count }
 }
 
+// The four parts of what reading answers.
+pub fn parts(reading: Reading) -> Answer
+    ensures { λ r. ⌜ r ≡ parts reading ⌝ }
+{
+    match reading {
+        Reading::Table { count } => Answer {
+            number: 0,
+            flow: 0,
+            tick: 0,
+            count,
+        },
+        Reading::Refused { number, row } => refused(number, row),
+    }
+}
+
 // An answer that names a refusal and a row.
 fn refused(number: u32, flow: u32) -> Answer
     ensures { λ r. ⌜ r ≡ record { number = number; flow = flow; tick = 0; count = 0 } ⌝ }

@@ -40,28 +40,10 @@ fn print_answer(a: Answer) {
     print_cell(wide(a.count));
 }
 
-// The four parts of what reading answers.
-fn parts(r: Reading) -> Answer {
-    match r {
-        Reading::Table { count } => Answer {
-            number: 0,
-            flow: 0,
-            tick: 0,
-            count,
-        },
-        Reading::Refused { number, row } => Answer {
-            number,
-            flow: row,
-            tick: 0,
-            count: 0,
-        },
-    }
-}
-
 fn read(packed: &[u8], words: &mut [u32]) {
     let found = table::read(packed, words);
     io::write_all(STDOUT_FILENO, b"read");
-    print_answer(parts(found));
+    print_answer(table::parts(found));
     io::write_all(STDOUT_FILENO, b" :");
     print_words(words);
     io::write_all(STDOUT_FILENO, b"\n");

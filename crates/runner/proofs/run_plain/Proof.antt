@@ -1,7 +1,7 @@
 use Rattle.runner.proofs.Called.{too-many, wrong-log, short-marks, short-values, ran}
 use Rattle.runner.proofs.Starting.{inputs-all}
 use Rattle.runner.proofs.Words.{place-small}
-use Rattle.runner.specs.Ready.{rowsIn}
+use Rattle.runner.specs.Private.Ready.{rowsIn}
 use Rattle.runner.proofs.Tabled.{plain-table}
 use Rattle.table.proofs.Tables.{Table}
 use Prim.Native.Nat.{ℕ, _+_, _*_, _-_, _≤_, _<_, _^_}

@@ -1,6 +1,6 @@
 use Rattle.runner.proofs.Running.{Running, starts, goes-on, stops, ends, tick-fits}
 use Rattle.runner.proofs.Tabled.{plain-table}
-use Rattle.runner.specs.Ready.{rowsIn}
+use Rattle.runner.specs.Private.Ready.{rowsIn}
 use Rattle.table.proofs.Tables.{Table}
 use lib.ListN.{length}
 use borrow.Author.Needs.{needs}

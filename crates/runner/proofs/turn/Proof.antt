@@ -1,4 +1,4 @@
-use Rattle.runner.specs.Ready.{rowsIn}
+use Rattle.runner.specs.Private.Ready.{rowsIn}
 use Rattle.runner.proofs.Collecting.{cells-length}
 use Rattle.runner.proofs.Starting.{inputs-all}
 use Rattle.runner.proofs.Words.{place-small}

@@ -1,6 +1,6 @@
 use Rattle.runner.proofs.Collecting.{Collecting, starts, goes-on, ends, operand-low}
 use Rattle.runner.proofs.Tabled.{plain-table}
-use Rattle.runner.specs.Ready.{rowsIn, Regular, Wrote, AllCarry}
+use Rattle.runner.specs.Private.Ready.{rowsIn, Regular, Wrote, AllCarry}
 use Rattle.runner.specs.Runs.{Ticks, inputs, cells}
 use Rattle.table.proofs.Tables.{Table}
 use lib.ListN.{length, getD}

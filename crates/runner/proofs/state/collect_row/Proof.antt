@@ -1,4 +1,4 @@
-use Rattle.runner.specs.Carried.{Held, cellAt}
+use Rattle.runner.specs.Private.Carried.{Held, cellAt}
 use borrow.Author.Tests.{eq-eqb, ne-eqb, le-leb, lt-leb}
 use Rattle.runner.proofs.Words.{stored, stored-other, stored-two, stored-two-other, place-in, place-small}
 use lib.ListN.{length, getD, set, length-set}

@@ -1,5 +1,5 @@
 use Rattle.runner.proofs.Lists.{no-rows, listed-more}
-use Rattle.runner.specs.Ready.{Listed}
+use Rattle.runner.specs.Private.Ready.{Listed}
 use lib.ListN.{length, getD, set, length-set}
 use Prim.Native.Nat.{ℕ, _+_, _*_, _-_, _≤_, _<_}
 use mathlib.Core.Path.{_≡_, refl, sym, _∙_, ap, subst}

@@ -1,6 +1,6 @@
 use Rattle.runner.proofs.Starting.{Starting, starts, goes-on, ends}
 use Rattle.runner.proofs.Tabled.{plain-table}
-use Rattle.runner.specs.Ready.{rowsIn}
+use Rattle.runner.specs.Private.Ready.{rowsIn}
 use Rattle.table.proofs.Tables.{Table}
 use lib.Dec.{eqb}
 use lib.ListN.{length, getD, length-replicate}

@@ -1,5 +1,5 @@
-use Rattle.runner.specs.Carried.{heldIn}
-use Rattle.runner.specs.Carried.{decode, startOf}
+use Rattle.runner.specs.Private.Carried.{heldIn}
+use Rattle.runner.specs.Private.Carried.{decode, startOf}
 use Rattle.runner.proofs.Decoded.{starts-same}
 use Rattle.runner.proofs.Words.{stored, stored-other, stored-two, stored-two-other, place-in, place-small}
 use lib.ListN.{length, getD, set, length-set}

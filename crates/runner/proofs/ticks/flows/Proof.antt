@@ -7,8 +7,8 @@ use borrow.Author.Needs.{needs}
 use lib.ListN.{length, getD, set, length-set}
 use Rattle.table.proofs.Tables.{Fits, Table}
 use Rattle.runner.specs.Runs.{Ticks}
-use Rattle.runner.specs.Carried.{stepIs}
-use Rattle.runner.specs.Ready.{rowsIn, Ready}
+use Rattle.runner.specs.Private.Carried.{stepIs}
+use Rattle.runner.specs.Private.Ready.{rowsIn, Ready}
 use Rattle.runner.proofs.Tabled.{plain-table, row-of}
 use Rattle.runner.proofs.Flowing.{Going, starts, ends, stops, goes-on}
 use Rattle.runner.proofs.ticks.flows.Statement.{statement}

@@ -6,7 +6,7 @@ use mathlib.Core.List.{List}
 use lib.ListN.{length, getD, set, length-set}
 use Rattle.table.proofs.Tables.{Table}
 use Rattle.runner.specs.Runs.{Tick, Ticks}
-use Rattle.runner.specs.Ready.{rowsIn, Wrote, AllFollow, Listed}
+use Rattle.runner.specs.Private.Ready.{rowsIn, Wrote, AllFollow, Listed}
 use Rattle.runner.proofs.Tabled.{plain-table}
 use Rattle.runner.proofs.Latching.{Latching, starts, ends, stops, goes-on, operands-low}
 use Rattle.runner.proofs.ticks.latch.Statement.{statement}

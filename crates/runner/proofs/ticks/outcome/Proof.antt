@@ -1,6 +1,6 @@
 use Prim.Native.Nat.{ℕ, _<_}
 use Rattle.table.proofs.Tables.{Fits}
-use Rattle.runner.specs.Carried.{decode, stepOf, nextOf, cellsIn}
+use Rattle.runner.specs.Private.Carried.{decode, stepOf, nextOf, cellsIn}
 use Rattle.runner.proofs.Decoded.{combines, above-eleven, no-other}
 use Rattle.runner.proofs.Words.{unchanged}
 use mathlib.Core.Path.{_≡_, refl, sym, _∙_, ap, subst}

@@ -1,7 +1,7 @@
 use Rattle.table.proofs.Tables.{Table}
 use Rattle.runner.proofs.Ticking.{stops, latches}
 use Rattle.runner.proofs.Tabled.{plain-table}
-use Rattle.runner.specs.Ready.{rowsIn}
+use Rattle.runner.specs.Private.Ready.{rowsIn}
 use Rattle.runner.specs.Runs.{flowsFrom, tickOf}
 use mathlib.Core.List.{[]}
 use borrow.Author.Needs.{needs}

@@ -8,9 +8,9 @@ use mathlib.Core.Option.{Option, none, some}
 use lib.ListN.{length, getD, take}
 use lib.Dec.{eqb}
 use Rattle.table.specs.declared.Answer.{Answer}
-use Rattle.table.specs.Answers.{Result, good, refused, over}
+use Rattle.table.specs.Answers.{good, over}
 use Rattle.table.specs.Rows.{Row, input, constant, combine, register, faster, slower, later, head, tail, sample, merge, onRegister}
-use Rattle.table.specs.Plain.{tableOf}
+use Rattle.table.specs.Plain.{tableOf, rowsIn as accepted}
 use Rattle.table.proofs.Tables.{rowAt}
 use Rattle.runner.specs.declared.ticks.Ticked.{Ticked}
 use Rattle.runner.specs.declared.ticks.Ticked.the-variants as ticked
@@ -18,15 +18,11 @@ use Rattle.runner.specs.Cells.{Cell, absent, present, value, History, ba
 use Rattle.runner.specs.Operators.{valueOr}
 use Rattle.runner.specs.Runs.{Tick, Ticks, history, inputs, TickEnd, filled, stopped, Ran, cells, trace}
 use Rattle.runner.specs.Answers.{markByte, ranAnswer}
-use Rattle.runner.specs.Carried.{Held, heldIn, cellAt}
+use Rattle.runner.specs.Private.Carried.{Held, heldIn, cellAt}
 
--- the rows of a table that is not refused
-abbrev pub rowsOr : Result (List Row) → List Row
-rowsOr (good rows) = rows
-rowsOr (refused why f) = []
-
+-- the rows of a table in plain form
 unfoldable pub rowsIn : ℕ → List ℕ → List Row
-rowsIn m words = rowsOr (tableOf m words)
+rowsIn m words = accepted (tableOf m words)
 
 unfoldable pub Plain : ℕ → List ℕ → Type 0
 Plain m words = tableOf m words ≡ good (rowsIn m words)
