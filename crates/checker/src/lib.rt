@@ -49,6 +49,7 @@ struct Row {
     three: u32,
 }
 
+// The numbers of refusals: too little room, a kind that no table has, clocks differ.
 const NO_ROOM: u32 = 10;
 
 const UNKNOWN: u32 = 13;
@@ -146,6 +147,7 @@ fn assign(n: u32, words: &[u32], kept: &mut [u32]) -> Answer
     success(n)
 }
 
+// A refusal that names a flow.
 fn refusal(number: u32, flow: u32) -> Answer
     ensures { λ r. ⌜ r ≡ record { number = number; flow = flow; tick = 0; count = 0 } ⌝ }
 {
@@ -157,6 +159,7 @@ fn refusal(number: u32, flow: u32) -> Answer
     }
 }
 
+// Success, with a count of flows.
 fn success(count: u32) -> Answer
     ensures { λ r. ⌜ r ≡ record { number = 0; flow = 0; tick = 0; count = count } ⌝ }
 {
