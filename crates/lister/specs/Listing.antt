@@ -1,5 +1,5 @@
 -- The listing of a packed table, byte by byte.
-use Prim.Native.Nat.{ℕ, zero, suc, _+_, _*_, _/_, _%_}
+use Prim.Native.Nat.{ℕ, zero, suc, _+_, _*_, _/_, _%_, _≤_}
 use mathlib.Core.Bool.{Bool, true, false, cond}
 use mathlib.Core.List.{List, [], _∷_, _++_}
 use lib.ListN.{length}
@@ -107,6 +107,11 @@ listed packed room = fits (leb longest room)
     fits : Bool → Listed
     fits true = Bytes (length (listingOf packed))
     fits false = NoRoom
+
+-- no listing is longer than the longest
+abbrev pub Short : Listed → Type 0
+Short (Bytes n) = n ≤ longest
+Short NoRoom = Unit {0}
 
 abbrev pub textAfter : List ℕ → List ℕ → List ℕ
 textAfter packed old = cond (leb longest (length old)) (over (listingOf packed) old) old

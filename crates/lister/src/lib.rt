@@ -4,7 +4,7 @@ ghost use mathlib.Core.List.{[], _∷_};
 ghost use Prim.Native.Nat.{_+_, _*_, _%_, _≤_};
 ghost use lib.ListN.{length, getD, drop};
 ghost use lib.Dec.{eqb};
-ghost use Rattle.lister.specs.Listing.{decimal, field, space, sign, refusalText, checked, listed, textAfter};
+ghost use Rattle.lister.specs.Listing.{decimal, field, space, sign, refusalText, checked, listed, textAfter, Short};
 ghost use Rattle.table.specs.Answers.{answer, leaves};
 ghost use Rattle.checker.specs.Answers.{clocksWords};
 ghost use Rattle.lister.specs.Private.Words.{Wrote, wordText, wordsText, countedText, sevenText, sevensText, tableText};
@@ -155,6 +155,7 @@ fn put_table(text: &mut [u8], words: &[u32], n: u32) -> usize
 fn put_refusal(text: &mut [u8], number: u32, flow: u32) -> usize
     requires { ⌜ 32 ≤ length (now text) ⌝ }
     ensures { λ r. ⌜ Wrote 0 (refusalText number flow) (now (text .entry)) r (now (text .exit)) ⌝ }
+    ensures { λ r. ⌜ r ≤ 25 ⌝ }
 {
     let tagged = put_tag(text, 0, b'n', b'o');
     let numbered = put_field(text, tagged, number);
@@ -179,8 +180,9 @@ fn checked(packed: &[u8], clocks: &mut [u32]) -> Answer
 
 // The listing of a packed table: its clocks, or the one line of a refusal by reading or by the check.
 pub fn listing(packed: &[u8], text: &mut [u8]) -> Listed
-    ensures { λ r. ⌜ r ≡ listed (now (packed .entry)) (length (now (text .entry))) ⌝ }
-    ensures { λ _. ⌜ now (text .exit) ≡ textAfter (now (packed .entry)) (now (text .entry)) ⌝ }
+    ensures answered { λ r. ⌜ r ≡ listed (now (packed .entry)) (length (now (text .entry))) ⌝ }
+    ensures written { λ _. ⌜ now (text .exit) ≡ textAfter (now (packed .entry)) (now (text .entry)) ⌝ }
+    ensures short { λ r. ⌜ Short r ⌝ }
 {
     if text.len() < LONGEST {
         return Listed::NoRoom;

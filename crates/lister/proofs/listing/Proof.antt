@@ -14,7 +14,9 @@ use Rattle.lister.proofs.listing.Statement.{statement}
 use Rattle.lister.proofs.listing.Tie as tie
 
 returns : tie.Need-returns
-returns c = no-room (now (c .before .before .before .args .packed)) (now (c .before .before .before .args .text)) (c .if1 .taken)
+returns c =
+    let x = no-room (now (c .before .before .before .args .packed)) (now (c .before .before .before .args .text)) (c .if1 .taken) in
+    (x .0, (x .1, tt))
 
 slice-aggregate-checked : tie.Need-slice-aggregate-checked
 slice-aggregate-checked c = search needs
@@ -36,7 +38,8 @@ returns-2 c = let a = c .before .before .before .before .before .before .before 
     let x = answer-other length (checked bs) (λ z. c .before .before .before .before .if2 .taken (ap (λ w. w .number) (k .ensures .0) ∙ z)) in
     let q = k .ensures .0 ∙ ap (answer length) (x .2) in
     let e = ap₂ refusalText (ap (λ w. w .number) q) (ap (λ w. w .flow) q) ∙ sym (listing-refused bs (x .0) (x .1) (x .2)) in
-    all-room bs old _ _ _ (c .before .before .before .before .before .before .before .before .before .if1 .left) e (c .before .before .put-refusal .ensures)
+    let y = all-room bs old _ _ _ (c .before .before .before .before .before .before .before .before .before .if1 .left) e (c .before .before .put-refusal .ensures .0) in
+    (y .0, (y .1, omega (arith, c .before .before .put-refusal .ensures .1)))
 
 slice-aggregate-put-table : tie.Need-slice-aggregate-put-table
 slice-aggregate-put-table c = search needs
@@ -62,7 +65,8 @@ returns-3 c = let a = c .before .before .before .before .before .before .before 
     let z = answer-zero length (checked bs) (ap (λ w. w .number) (sym (k .ensures .0)) ∙ c .before .before .before .before .before .if2 .left) in
     let n = ap (λ w. w .count) (k .ensures .0 ∙ ap (answer length) (z .1)) in
     let t = listing-table bs (z .0) (k .result .count) _ (k .last .1 .0) (z .1) n (k .ensures .1) in
-    all-room bs old _ _ _ (c .before .before .before .before .before .before .before .before .before .before .if1 .left) (t .2) (c .before .before .put-table .ensures)
+    let y = all-room bs old _ _ _ (c .before .before .before .before .before .before .before .before .before .before .if1 .left) (t .2) (c .before .before .put-table .ensures) in
+    (y .0, (y .1, omega (arith, t .1, c .before .before .put-table .ensures .0)))
 
 pub listing-spec : {M : Type 1} → statement M
 listing-spec =

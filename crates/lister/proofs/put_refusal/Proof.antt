@@ -60,7 +60,8 @@ returns c = let a = c .before .before .before .before .before .before .before .b
     let s1 = and-then no (field (a .number) ++ tail) h s0 (c .before .before .before .before .before .before .before .before .before .before .before .before .before .before .put-tag .ensures) in
     let s2 = and-then (field (a .number)) tail h s1 (c .before .before .before .before .before .before .before .before .before .before .put-field .ensures) in
     let s3 = and-then (decimal (a .flow)) (lineFeed ∷ []) h s2 (c .before .before .before .before .before .before .put-decimal .ensures) in
-    finish (and-then (lineFeed ∷ []) [] h s3 (c .before .before .put .ensures))
+    let w = finish (and-then (lineFeed ∷ []) [] h s3 (c .before .before .put .ensures)) in
+    (w, omega (arith, w .0, refusal-room (a .number) (a .flow) (search needs) (search needs)))
 
 pub put-refusal-spec : {M : Type 1} → statement M
 put-refusal-spec =

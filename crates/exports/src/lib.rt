@@ -1,0 +1,120 @@
+// The calls for C and Rust. Each returns the answer's number, 0 for success, and gives flow, tick and count out through pointers. A
+// slice passes as a pointer and a length.
+ghost use mathlib.Core.Path.{_≡_};
+ghost use lib.ListN.{length};
+ghost use Rattle.table.specs.Packed.{readAnswer, wordsAfter, writeAnswer, bytesAfter};
+ghost use Rattle.checker.specs.Answers.{checkAnswer, clocksAfter};
+ghost use Rattle.runner.specs.Answers.{runAnswer, marksAfter, valuesAfter};
+ghost use Rattle.lister.specs.Listing.{textAfter};
+ghost use Rattle.exports.specs.Parts.{Given, listingAnswer};
+use lister::Listed;
+
+// Reads a packed table into plain form: the count of flows, and four words a flow.
+#[no_mangle]
+pub extern "C" fn baarqidho_read(
+    packed: &[u8],
+    words: &mut [u32],
+    flow: &mut u32,
+    tick: &mut u32,
+    count: &mut u32,
+) -> u32
+    ensures answered { λ r. ⌜ Given (readAnswer (now (packed .entry)) (length (now (words .entry)))) r (now (flow .exit)) (now (tick .exit)) (now (count .exit)) ⌝ }
+    ensures stored { λ r. ⌜ now (words .exit) ≡ wordsAfter (now (packed .entry)) (now (words .entry)) ⌝ }
+{
+    let answer = table::parts(table::read(packed, words));
+    *flow = answer.flow;
+    *tick = answer.tick;
+    *count = answer.count;
+    answer.number
+}
+
+// Writes a table in plain form as a packed table: the count of bytes.
+#[no_mangle]
+pub extern "C" fn baarqidho_write(
+    flows: u32,
+    words: &[u32],
+    packed: &mut [u8],
+    flow: &mut u32,
+    tick: &mut u32,
+    count: &mut u32,
+) -> u32
+    ensures answered { λ r. ⌜ Given (writeAnswer flows (now (words .entry)) (length (now (packed .entry)))) r (now (flow .exit)) (now (tick .exit)) (now (count .exit)) ⌝ }
+    ensures stored { λ r. ⌜ now (packed .exit) ≡ bytesAfter flows (now (words .entry)) (now (packed .entry)) ⌝ }
+{
+    let answer = table::write(flows, words, packed);
+    *flow = answer.flow;
+    *tick = answer.tick;
+    *count = answer.count;
+    answer.number
+}
+
+// Checks a table in plain form: the count of flows, and seven words of clock a flow.
+#[no_mangle]
+pub extern "C" fn baarqidho_check(
+    flows: u32,
+    words: &[u32],
+    clocks: &mut [u32],
+    flow: &mut u32,
+    tick: &mut u32,
+    count: &mut u32,
+) -> u32
+    ensures answered { λ r. ⌜ Given (checkAnswer flows (now (words .entry)) (length (now (clocks .entry)))) r (now (flow .exit)) (now (tick .exit)) (now (count .exit)) ⌝ }
+    ensures stored { λ r. ⌜ now (clocks .exit) ≡ clocksAfter flows (now (words .entry)) (now (clocks .entry)) ⌝ }
+{
+    let answer = checker::check(flows, words, clocks);
+    *flow = answer.flow;
+    *tick = answer.tick;
+    *count = answer.count;
+    answer.number
+}
+
+// Runs a table in plain form over a log: the count of ticks, and a mark and a value a cell.
+#[no_mangle]
+pub extern "C" fn baarqidho_run(
+    flows: u32,
+    words: &[u32],
+    log: &[u32],
+    ticks: u32,
+    marks: &mut [u8],
+    values: &mut [u32],
+    flow: &mut u32,
+    tick: &mut u32,
+    count: &mut u32,
+) -> u32
+    ensures answered { λ r. ⌜ Given (runAnswer flows (now (words .entry)) (now (log .entry)) ticks (length (now (marks .entry))) (length (now (values .entry)))) r (now (flow .exit)) (now (tick .exit)) (now (count .exit)) ⌝ }
+    ensures marked { λ r. ⌜ now (marks .exit) ≡ marksAfter flows (now (words .entry)) (now (log .entry)) ticks (now (marks .entry)) (now (values .entry)) ⌝ }
+    ensures valued { λ r. ⌜ now (values .exit) ≡ valuesAfter flows (now (words .entry)) (now (log .entry)) ticks (now (marks .entry)) (now (values .entry)) ⌝ }
+{
+    let answer = runner::run(flows, words, log, ticks, marks, values);
+    *flow = answer.flow;
+    *tick = answer.tick;
+    *count = answer.count;
+    answer.number
+}
+
+// Lists a packed table as text: the count of bytes.
+#[no_mangle]
+pub extern "C" fn baarqidho_listing(
+    packed: &[u8],
+    text: &mut [u8],
+    flow: &mut u32,
+    tick: &mut u32,
+    count: &mut u32,
+) -> u32
+    ensures answered { λ r. ⌜ Given (listingAnswer (now (packed .entry)) (length (now (text .entry)))) r (now (flow .exit)) (now (tick .exit)) (now (count .exit)) ⌝ }
+    ensures stored { λ r. ⌜ now (text .exit) ≡ textAfter (now (packed .entry)) (now (text .entry)) ⌝ }
+{
+    let listed = lister::listing(packed, text);
+    *flow = 0;
+    *tick = 0;
+    match listed {
+        Listed::Bytes(size) => {
+            *count = size as u32;
+            0
+        }
+        Listed::NoRoom => {
+            *count = 0;
+            10
+        }
+    }
+}
