@@ -2,20 +2,20 @@
 use mathlib.Core.Path.{_≡_, refl, sym, _∙_, ap, subst}
 use Prim.Native.Nat.{ℕ, _*_, _≤_, _<_}
 use native.Mathlib.Omega.{arith}
-use mathlib.Core.Bool.{Bool, true, false, _&&_}
+use mathlib.Core.Bool.{_&&_}
 use mathlib.Core.List.{List, map}
 use lib.ListN.{length}
 use lib.Dec.{leb, eqb}
 use borrow.Author.Tests.{le-leb, lt-leb, eq-eqb, ne-eqb}
 use Rattle.table.specs.declared.Answer.{Answer}
-use Rattle.table.specs.Answers.{Refusal, noRoom, badCount, cutShort, unknownKind, outOfRange, misplaced, badFilling, clocksDiffer, beyondLimits, notPlain, tooManyTicks, wrongLog, shortTrace, clash, Result, good, refused, unless, then, number, refusal, answer, leaves}
+use Rattle.table.specs.Answers.{Refusal, noRoom, badCount, cutShort, unknownKind, outOfRange, misplaced, badFilling, clocksDiffer, beyondLimits, notPlain, tooManyTicks, wrongLog, shortTrace, clash, Result, good, refused, unless, number, refusal, answer, leaves}
 use Rattle.table.specs.Rows.{Row}
 use Rattle.table.specs.Plain.{tableOf, plainAnswer}
 use Rattle.runner.specs.Cells.{value}
 use Rattle.runner.specs.Runs.{inputs, Ran, run, trace}
 use Rattle.runner.specs.Answers.{maxTicks, running, ranAnswer, markByte}
 use Rattle.runner.specs.Called.{Called}
-use Rattle.runner.specs.Ready.{rowsIn, rowsOr, Plain, Wrote, RanTo}
+use Rattle.runner.specs.Ready.{rowsIn, rowsOr, Plain, RanTo}
 
 -- what a call leaves, by what its run comes to
 called : (m : ℕ) (words log : List ℕ) (ticks : ℕ) (ms vs ms′ vs′ : List ℕ) (r : Answer) (x : Result Ran) → running m words log ticks (length ms) (length vs) ≡ x → r ≡ ranAnswer ticks x

@@ -1,6 +1,5 @@
 -- `run_from` meets its contract. Assumes nothing.
 use Rattle.runner.proofs.Tabled.{plain-table}
-use Rattle.table.proofs.Tables.{Table}
 use borrow.Author.Needs.{needs}
 use Rattle.runner.proofs.run_from.Statement.{statement}
 use Rattle.runner.proofs.run_from.Tie as tie

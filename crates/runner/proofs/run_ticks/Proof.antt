@@ -5,8 +5,8 @@ use Rattle.runner.specs.Ready.{rowsIn}
 use Rattle.table.proofs.Tables.{Table}
 use lib.ListN.{length}
 use borrow.Author.Needs.{needs}
-use Prim.Native.Nat.{ℕ, _+_, _*_, _-_, _≤_, _<_, _^_}
-use mathlib.Core.Path.{_≡_, refl, sym, _∙_, ap, subst}
+use Prim.Native.Nat.{_+_, _*_, _-_, _≤_}
+use mathlib.Core.Path.{_≡_, refl, sym, _∙_}
 use native.Mathlib.Omega.{arith}
 use Rattle.runner.proofs.run_ticks.Statement.{statement}
 use Rattle.runner.proofs.run_ticks.Tie as tie

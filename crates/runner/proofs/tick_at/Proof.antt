@@ -2,8 +2,6 @@
 use Rattle.runner.proofs.Lent.{lent, part-length}
 use Rattle.runner.specs.Ready.{rowsIn}
 use Rattle.runner.specs.Runs.{tickOf}
-use Prim.Native.Nat.{ℕ, _+_, _*_, _-_, _≤_, _<_, _^_}
-use mathlib.Core.Path.{_≡_, refl, sym, _∙_, ap, subst}
 use native.Mathlib.Omega.{arith}
 use borrow.Author.Needs.{needs}
 use Rattle.runner.proofs.tick_at.Statement.{statement}

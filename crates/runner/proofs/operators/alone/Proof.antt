@@ -1,5 +1,5 @@
 -- `alone` meets its contract. Assumes nothing.
-use Rattle.runner.specs.Operators.{combined, sampled, neither, alone, merged}
+use Rattle.runner.specs.Operators.{alone}
 use borrow.Author.Needs.{needs}
 use Rattle.runner.proofs.operators.alone.Statement.{statement}
 use Rattle.runner.proofs.operators.alone.Tie as tie

@@ -1,6 +1,6 @@
 -- `apply` meets its contract. Assumes nothing.
 use native.Mathlib.Omega.{arith}
-use borrow.Author.Tests.{eq-eqb, ne-eqb, lt-ltb, le-ltb, le-leb, lt-leb}
+use borrow.Author.Tests.{ne-eqb}
 use borrow.Author.Needs.{needs}
 use Rattle.runner.proofs.operators.apply.Statement.{statement}
 use Rattle.runner.proofs.operators.apply.Tie as tie

@@ -1,11 +1,10 @@
 -- `begin` meets its contract. Assumes nothing.
 use Rattle.runner.proofs.Words.{small, small-sum}
 use Prim.Native.Nat.{_+_}
-use lib.ListN.{length, getD, set, length-set}
-use mathlib.Core.Path.{_≡_, refl, sym, _∙_, ap}
+use lib.ListN.{set, length-set}
+use mathlib.Core.Path.{refl}
 use native.Mathlib.Omega.{arith}
-use Rattle.runner.proofs.Words.{unchanged, first, second, all}
-use borrow.Author.Tests.{eq-eqb, ne-eqb, lt-ltb, le-ltb, le-leb, lt-leb}
+use Rattle.runner.proofs.Words.{all}
 use borrow.Author.Needs.{needs}
 use Rattle.runner.proofs.operators.begin.Statement.{statement}
 use Rattle.runner.proofs.operators.begin.Tie as tie

@@ -1,6 +1,6 @@
 -- `chosen` meets its contract. Assumes nothing.
-use Rattle.runner.specs.Operators.{combined, sampled, neither, alone, merged}
-use borrow.Author.Tests.{eq-eqb, ne-eqb, lt-ltb, le-ltb, le-leb, lt-leb}
+use Rattle.runner.specs.Operators.{sampled}
+use borrow.Author.Tests.{eq-eqb, ne-eqb}
 use Rattle.runner.proofs.operators.chosen.Statement.{statement}
 use Rattle.runner.proofs.operators.chosen.Tie as tie
 

@@ -1,5 +1,5 @@
 -- `combined` meets its contract. Assumes nothing.
-use Rattle.runner.specs.Operators.{combined, sampled, neither, alone, merged}
+use Rattle.runner.specs.Operators.{combined}
 use borrow.Author.Needs.{needs}
 use Rattle.runner.proofs.operators.combined.Statement.{statement}
 use Rattle.runner.proofs.operators.combined.Tie as tie

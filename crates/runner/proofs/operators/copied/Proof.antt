@@ -1,11 +1,10 @@
 -- `copied` meets its contract. Assumes nothing.
 use Prim.Native.Nat.{_+_}
-use lib.Seq.{getD-set-same, getD-set-other}
-use lib.ListN.{length, getD, set, length-set}
-use mathlib.Core.Path.{_≡_, refl, sym, _∙_, ap}
+use lib.Seq.{getD-set-other}
+use lib.ListN.{length-set}
 use native.Mathlib.Omega.{arith}
-use Rattle.runner.proofs.Words.{unchanged, first, second, all}
-use borrow.Author.Tests.{eq-eqb, ne-eqb, lt-ltb, le-ltb, le-leb, lt-leb}
+use Rattle.runner.proofs.Words.{unchanged, second}
+use borrow.Author.Tests.{eq-eqb, ne-eqb, lt-ltb, le-ltb}
 use borrow.Author.Needs.{needs}
 use Rattle.runner.proofs.operators.copied.Statement.{statement}
 use Rattle.runner.proofs.operators.copied.Tie as tie

@@ -1,6 +1,6 @@
 -- `head` meets its contract. Assumes nothing.
-use Rattle.runner.proofs.Words.{unchanged, first, second, all}
-use borrow.Author.Tests.{eq-eqb, ne-eqb, lt-ltb, le-ltb, le-leb, lt-leb}
+use Rattle.runner.proofs.Words.{unchanged}
+use borrow.Author.Tests.{eq-eqb, ne-eqb, le-leb, lt-leb}
 use borrow.Author.Needs.{needs}
 use Rattle.runner.proofs.operators.head.Statement.{statement}
 use Rattle.runner.proofs.operators.head.Tie as tie

@@ -1,5 +1,5 @@
 -- `larger` meets its contract. Assumes nothing.
-use mathlib.Core.Path.{_≡_, refl, sym, _∙_, ap}
+use mathlib.Core.Path.{sym}
 use borrow.Author.Needs.{needs}
 use Rattle.runner.proofs.operators.larger.Statement.{statement}
 use Rattle.runner.proofs.operators.larger.Tie as tie

@@ -1,5 +1,5 @@
 -- `later` meets its contract. Assumes nothing.
-use borrow.Author.Tests.{eq-eqb, ne-eqb, lt-ltb, le-ltb, le-leb, lt-leb}
+use borrow.Author.Tests.{eq-eqb, ne-eqb}
 use borrow.Author.Needs.{needs}
 use Rattle.runner.proofs.operators.later.Statement.{statement}
 use Rattle.runner.proofs.operators.later.Tie as tie

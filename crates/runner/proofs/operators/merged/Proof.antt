@@ -1,6 +1,6 @@
 -- `merged` meets its contract. Assumes nothing.
-use Rattle.runner.specs.Operators.{combined, sampled, neither, alone, merged}
-use borrow.Author.Tests.{eq-eqb, ne-eqb, lt-ltb, le-ltb, le-leb, lt-leb}
+use Rattle.runner.specs.Operators.{neither, alone, merged}
+use borrow.Author.Tests.{eq-eqb, ne-eqb}
 use borrow.Author.Needs.{needs}
 use Rattle.runner.proofs.operators.merged.Statement.{statement}
 use Rattle.runner.proofs.operators.merged.Tie as tie

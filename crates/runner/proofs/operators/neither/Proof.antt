@@ -1,5 +1,5 @@
 -- `neither` meets its contract. Assumes nothing.
-use Rattle.runner.specs.Operators.{combined, sampled, neither, alone, merged}
+use Rattle.runner.specs.Operators.{neither}
 use borrow.Author.Needs.{needs}
 use Rattle.runner.proofs.operators.neither.Statement.{statement}
 use Rattle.runner.proofs.operators.neither.Tie as tie

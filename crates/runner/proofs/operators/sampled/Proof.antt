@@ -1,5 +1,5 @@
 -- `sampled` meets its contract. Assumes nothing.
-use Rattle.runner.specs.Operators.{combined, sampled, neither, alone, merged}
+use Rattle.runner.specs.Operators.{sampled}
 use borrow.Author.Needs.{needs}
 use Rattle.runner.proofs.operators.sampled.Statement.{statement}
 use Rattle.runner.proofs.operators.sampled.Tie as tie

@@ -1,6 +1,6 @@
 -- `word_at` meets its contract. Assumes nothing.
 use lib.ListN.{List·getD-eq-default}
-use mathlib.Core.Path.{_≡_, refl, sym, _∙_, ap}
+use mathlib.Core.Path.{sym}
 use borrow.Author.Needs.{needs}
 use Rattle.runner.proofs.operators.word_at.Statement.{statement}
 use Rattle.runner.proofs.operators.word_at.Tie as tie

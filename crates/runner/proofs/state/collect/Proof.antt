@@ -7,7 +7,7 @@ use Rattle.table.proofs.Tables.{Table}
 use lib.ListN.{length, getD}
 use mathlib.Core.List.{List}
 use Prim.Native.Nat.{ℕ, _+_, _*_, _-_, _≤_, _<_}
-use mathlib.Core.Path.{_≡_, refl, sym, _∙_, ap, subst}
+use mathlib.Core.Path.{_≡_, sym, _∙_}
 use native.Mathlib.Omega.{arith}
 use Rattle.runner.proofs.state.collect.Statement.{statement}
 use Rattle.runner.proofs.state.collect.Tie as tie

@@ -1,10 +1,10 @@
 -- `collect_row` meets its contract. Assumes nothing.
 use Rattle.runner.specs.Carried.{Held, cellAt}
-use borrow.Author.Tests.{eq-eqb, ne-eqb, le-leb, lt-leb}
+use borrow.Author.Tests.{le-leb, lt-leb}
 use Rattle.runner.proofs.Words.{stored, stored-other, stored-two, stored-two-other, place-in, place-small}
-use lib.ListN.{length, getD, set, length-set}
-use Prim.Native.Nat.{ℕ, _+_, _*_, _-_, _≤_, _<_}
-use mathlib.Core.Path.{_≡_, refl, sym, _∙_, ap, subst}
+use lib.ListN.{getD, length-set}
+use Prim.Native.Nat.{_+_, _*_, _-_}
+use mathlib.Core.Path.{ap}
 use native.Mathlib.Omega.{arith}
 use borrow.Author.Needs.{needs}
 use Rattle.runner.proofs.state.collect_row.Statement.{statement}

@@ -1,5 +1,5 @@
 -- `input_bit` meets its contract. Assumes nothing.
-use borrow.Author.Tests.{eq-eqb, ne-eqb, le-leb, lt-leb}
+use borrow.Author.Tests.{eq-eqb, ne-eqb}
 use Rattle.runner.proofs.state.input_bit.Statement.{statement}
 use Rattle.runner.proofs.state.input_bit.Tie as tie
 

@@ -1,9 +1,9 @@
 -- `listed` meets its contract. Assumes nothing.
 use Rattle.runner.proofs.Lists.{no-rows, listed-more}
 use Rattle.runner.specs.Ready.{Listed}
-use lib.ListN.{length, getD, set, length-set}
-use Prim.Native.Nat.{ℕ, _+_, _*_, _-_, _≤_, _<_}
-use mathlib.Core.Path.{_≡_, refl, sym, _∙_, ap, subst}
+use lib.ListN.{length}
+use Prim.Native.Nat.{ℕ, _-_, _≤_}
+use mathlib.Core.Path.{_≡_, refl, subst}
 use native.Mathlib.Omega.{arith}
 use Rattle.runner.proofs.state.listed.Statement.{statement}
 use Rattle.runner.proofs.state.listed.Tie as tie

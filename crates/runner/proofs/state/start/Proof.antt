@@ -6,8 +6,8 @@ use Rattle.table.proofs.Tables.{Table}
 use lib.Dec.{eqb}
 use lib.ListN.{length, getD, length-replicate}
 use mathlib.Core.Bool.{Bool, true, false, cond}
-use Prim.Native.Nat.{ℕ, _+_, _*_, _-_, _≤_, _<_}
-use mathlib.Core.Path.{_≡_, refl, sym, _∙_, ap, subst}
+use Prim.Native.Nat.{ℕ, _+_, _*_, _-_, _≤_}
+use mathlib.Core.Path.{_≡_, sym, _∙_, ap}
 use native.Mathlib.Omega.{arith}
 use Rattle.runner.proofs.state.start.Statement.{statement}
 use Rattle.runner.proofs.state.start.Tie as tie

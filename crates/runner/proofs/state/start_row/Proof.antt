@@ -2,10 +2,10 @@
 use Rattle.runner.specs.Carried.{heldIn}
 use Rattle.runner.specs.Carried.{decode, startOf}
 use Rattle.runner.proofs.Decoded.{starts-same}
-use Rattle.runner.proofs.Words.{stored, stored-other, stored-two, stored-two-other, place-in, place-small}
-use lib.ListN.{length, getD, set, length-set}
-use Prim.Native.Nat.{ℕ, _+_, _*_, _-_, _≤_, _<_}
-use mathlib.Core.Path.{_≡_, refl, sym, _∙_, ap, subst}
+use Rattle.runner.proofs.Words.{stored, stored-other, stored-two, stored-two-other}
+use lib.ListN.{length-set}
+use Prim.Native.Nat.{_*_}
+use mathlib.Core.Path.{refl, sym}
 use native.Mathlib.Omega.{arith}
 use borrow.Author.Needs.{needs}
 use Rattle.runner.proofs.state.start_row.Statement.{statement}

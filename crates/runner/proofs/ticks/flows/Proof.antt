@@ -1,10 +1,10 @@
 -- `flows` meets its contract. The invariant: the cells so far stand in the parts, each row below carries its words on, and what is left to do is
 -- the whole tick. Assumes nothing.
 use mathlib.Core.Path.{_≡_, refl, sym, _∙_, ap, subst}
-use Prim.Native.Nat.{ℕ, _+_, _*_, _-_, _≤_, _<_}
+use Prim.Native.Nat.{_*_, _-_, _≤_}
 use native.Mathlib.Omega.{arith}
 use borrow.Author.Needs.{needs}
-use lib.ListN.{length, getD, set, length-set}
+use lib.ListN.{length}
 use Rattle.table.proofs.Tables.{Fits, Table}
 use Rattle.runner.specs.Runs.{Ticks}
 use Rattle.runner.specs.Carried.{stepIs}

@@ -1,12 +1,12 @@
 -- `latch` meets its contract. The invariant: each register so far met its source and has its value. Assumes nothing.
-use mathlib.Core.Path.{_≡_, refl, sym, _∙_, ap, subst}
+use mathlib.Core.Path.{_≡_, sym, _∙_, ap}
 use Prim.Native.Nat.{ℕ, _+_, _*_, _-_, _≤_, _<_}
 use native.Mathlib.Omega.{arith}
 use mathlib.Core.List.{List}
 use lib.ListN.{length, getD, set, length-set}
 use Rattle.table.proofs.Tables.{Table}
 use Rattle.runner.specs.Runs.{Tick, Ticks}
-use Rattle.runner.specs.Ready.{rowsIn, Wrote, AllFollow, Listed}
+use Rattle.runner.specs.Ready.{rowsIn, Wrote, AllFollow}
 use Rattle.runner.proofs.Tabled.{plain-table}
 use Rattle.runner.proofs.Latching.{Latching, starts, ends, stops, goes-on, operands-low}
 use Rattle.runner.proofs.ticks.latch.Statement.{statement}

@@ -1,12 +1,11 @@
 -- `outcome` meets its contract. Assumes nothing.
 use Prim.Native.Nat.{ℕ, _<_}
 use Rattle.table.proofs.Tables.{Fits}
-use Rattle.runner.specs.Carried.{decode, stepOf, nextOf, cellsIn}
+use Rattle.runner.specs.Carried.{decode, stepOf, nextOf}
 use Rattle.runner.proofs.Decoded.{combines, above-eleven, no-other}
 use Rattle.runner.proofs.Words.{unchanged}
-use mathlib.Core.Path.{_≡_, refl, sym, _∙_, ap, subst}
+use mathlib.Core.Path.{_≡_, refl, sym, subst}
 use native.Mathlib.Omega.{arith}
-use borrow.Author.Tests.{eq-eqb, ne-eqb, lt-ltb, le-ltb, le-leb, lt-leb}
 use borrow.Author.Needs.{needs}
 use Rattle.runner.proofs.ticks.outcome.Statement.{statement}
 use Rattle.runner.proofs.ticks.outcome.Tie as tie

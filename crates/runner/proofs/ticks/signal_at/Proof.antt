@@ -1,5 +1,5 @@
 -- `signal_at` meets its contract. Assumes nothing.
-use borrow.Author.Tests.{eq-eqb, ne-eqb, lt-ltb, le-ltb, le-leb, lt-leb}
+use borrow.Author.Tests.{eq-eqb, ne-eqb, lt-ltb}
 use borrow.Author.Needs.{needs}
 use Rattle.runner.proofs.ticks.signal_at.Statement.{statement}
 use Rattle.runner.proofs.ticks.signal_at.Tie as tie

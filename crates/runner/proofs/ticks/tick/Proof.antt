@@ -1,5 +1,4 @@
 -- `tick` meets its contract. Assumes nothing.
-use Rattle.table.proofs.Tables.{Table}
 use Rattle.runner.proofs.Ticking.{stops, latches}
 use Rattle.runner.proofs.Tabled.{plain-table}
 use Rattle.runner.specs.Ready.{rowsIn}
