@@ -2,7 +2,7 @@
 use mathlib.Core.Path.{_≡_, refl, sym, _∙_, ap, subst}
 use Prim.Native.Nat.{ℕ, _*_, _≤_, _<_}
 use native.Mathlib.Omega.{arith}
-use mathlib.Core.Bool.{Bool, true, false, _&&_}
+use mathlib.Core.Bool.{_&&_}
 use mathlib.Core.List.{List, map}
 use lib.ListN.{length}
 use lib.Dec.{leb, eqb}
@@ -16,7 +16,7 @@ use Rattle.runner.specs.Cells.{value}
 use Rattle.runner.specs.Runs.{inputs, Ran, run, trace}
 use Rattle.runner.specs.Answers.{maxTicks, running, ranAnswer, markByte}
 use Rattle.runner.specs.Called.{Called}
-use Rattle.runner.specs.Private.Ready.{rowsIn, Plain, Wrote, RanTo}
+use Rattle.runner.specs.Private.Ready.{rowsIn, Plain, RanTo}
 
 -- what a call leaves, by what its run comes to
 called : (m : ℕ) (words log : List ℕ) (ticks : ℕ) (ms vs ms′ vs′ : List ℕ) (r : Answer) (x : Result Ran) → running m words log ticks (length ms) (length vs) ≡ x → r ≡ ranAnswer ticks x

@@ -1,18 +1,17 @@
 -- Cells that stand at the front of marks and values. Assumes nothing.
 use mathlib.Core.Path.{_≡_, refl, sym, _∙_, ap, subst, fun-ext}
-use Prim.Native.Nat.{ℕ, suc, _+_, _≤_, _<_}
+use Prim.Native.Nat.{ℕ, suc, _≤_, _<_}
 use native.Mathlib.Numerals.{add-one}
 use native.Mathlib.Omega.{arith}
-use mathlib.Core.Bool.{true, false, cond}
 use mathlib.Core.List.{List, [], _∷_, _++_, map}
 use lib.ListN.{length, getD, set, drop, length-append, length-drop, length-map, List·getD-map, List·getD-append, List·getD-eq-default}
 use lib.Seq.{drop-cons, set-at, append-snoc}
 use lib.Dec.{ltb}
-use borrow.Author.Tests.{lt-ltb, le-ltb, ltb-true, ltb-false}
+use borrow.Author.Tests.{ltb-true, ltb-false}
 use Rattle.table.specs.Answers.{over}
 use Rattle.table.proofs.Tests.{Tried, passed, failed, try}
 use Rattle.runner.specs.Cells.{Cell, absent, present, value}
-use Rattle.runner.specs.Runs.{Tick, cellIn}
+use Rattle.runner.specs.Runs.{cellIn}
 use Rattle.runner.specs.Answers.{markByte}
 use Rattle.runner.specs.Private.Carried.{cellAt, cellsIn}
 use Rattle.runner.specs.Private.Ready.{Wrote}

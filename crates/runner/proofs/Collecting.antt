@@ -3,24 +3,23 @@ use mathlib.Core.Path.{_≡_, refl, sym, _∙_, ap, subst}
 use Prim.Native.Nat.{ℕ, zero, suc, _+_, _*_, _-_, _≤_, _<_}
 use native.Mathlib.Nat.{eq-or-lt-of-le, suc-mul, mul-le-mul-right, zero-mul}
 use native.Mathlib.Omega.{arith}
-use mathlib.Core.Bool.{Bool, true, false, cond}
+use mathlib.Core.Bool.{cond}
 use mathlib.Core.Logic.{_⊎_, inl, inr, ⊎-elim}
 use mathlib.Core.List.{List, [], _∷_, _++_}
 use lib.ListN.{length, getD, length-append, List·getD-append, List·getD-eq-default}
 use lib.Seq.{getD-append-add}
-use lib.Dec.{eqb, ltb, leb}
-use borrow.Author.Tests.{eqb-true, eqb-false, ltb-true, ltb-false, leb-true, leb-false}
+use lib.Dec.{eqb, leb}
+use borrow.Author.Tests.{eqb-true, eqb-false, leb-true, leb-false}
 use Rattle.table.specs.Rows.{Row, later}
 use Rattle.table.proofs.Tests.{Tried, passed, failed, try}
 use Rattle.table.proofs.Tables.{Fits, rowAt, Table}
-use Rattle.runner.specs.Cells.{Cell, absent, value, History, back}
-use Rattle.runner.specs.Runs.{Tick, Ticks, cellIn, history, inputs, cells}
-use Rattle.runner.specs.Answers.{markByte}
+use Rattle.runner.specs.Cells.{absent, back}
+use Rattle.runner.specs.Runs.{Ticks, history, inputs, cells}
 use Rattle.runner.specs.Private.Carried.{Held, heldIn, cellAt, decode, Fetched}
 use Rattle.runner.specs.Private.Ready.{Carries, Collected, AllCarry, Ready, Regular, Wrote, Listed}
 use Rattle.runner.proofs.Cells.{mark-at, value-at, cell-back}
 use Rattle.runner.proofs.Steps.{history-length}
-use Rattle.runner.proofs.Tabled.{Row-at, row-of}
+use Rattle.runner.proofs.Tabled.{row-of}
 
 -- the trace has n cells a tick
 pub cells-length : (n : ℕ) (past : Ticks) → Regular n past → length (cells past) ≡ length past * n

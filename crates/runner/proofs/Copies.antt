@@ -1,18 +1,17 @@
 -- A faster row from its words: the copies of the latest presence, while the presences are k × g ticks apart. Assumes nothing.
-use mathlib.Core.Path.{_≡_, refl, sym, _∙_, ap, subst}
+use mathlib.Core.Path.{_≡_, refl, sym, _∙_, ap}
 use Prim.Native.Nat.{ℕ, zero, suc, _+_, _*_, _-_, _≤_, _<_}
 use native.Mathlib.Nat.{mul-le-mul, mul-le-mul-right, mul-lt-mul-of-pos-right, lt-of-mul-lt-mul-right, suc-mul, zero-mul, one-mul, zero-add}
 use native.Mathlib.Omega.{arith}
 use mathlib.Core.Bool.{Bool, true, false, cond}
 use mathlib.Core.Logic.{_⊎_, inl, inr, ⊎-elim}
-use mathlib.Core.List.{List, _∷_}
-use mathlib.Core.Option.{Option, none, some}
+use mathlib.Core.List.{_∷_}
 use lib.ListN.{length}
 use lib.Dec.{eqb, ltb}
-use borrow.Author.Tests.{eq-eqb, ne-eqb, lt-ltb, le-ltb, eqb-true, eqb-false, ltb-true, ltb-false}
+use borrow.Author.Tests.{eq-eqb, ne-eqb, le-ltb, eqb-true, eqb-false, ltb-true, ltb-false}
 use Rattle.table.proofs.Tests.{Tried, passed, failed, try, same-test}
 use Rattle.runner.specs.Cells.{Cell, absent, present, History, back, latest}
-use Rattle.runner.specs.Operators.{Step, is, clashes, clashUnless, copied, exactly, spaced, fasterOf}
+use Rattle.runner.specs.Operators.{Step, is, clashes, clashUnless, copied, fasterOf}
 use Rattle.runner.specs.Private.Carried.{Held, held, fasterStep, fasterNext, begun}
 use Rattle.runner.specs.Private.Ready.{Copying, Copies, unseen, copying}
 

@@ -1,11 +1,11 @@
 -- The row that a kind's number makes of three fields. Assumes nothing.
-use mathlib.Core.Path.{_≡_, refl, sym, _∙_, ap, subst}
-use Prim.Native.Nat.{ℕ, zero, suc, _+_, _*_, _<_, _≤_}
+use mathlib.Core.Path.{_≡_, refl}
+use Prim.Native.Nat.{ℕ, _<_, _≤_}
 use native.Mathlib.Omega.{arith}
 use mathlib.Core.Bool.{Bool, true, false, cond}
 use lib.Dec.{eqb, ltb}
 use borrow.Author.Tests.{ne-eqb, lt-ltb}
-use Rattle.table.specs.Rows.{Row, combine, faster, slower, later, head, tail, sample, merge}
+use Rattle.table.specs.Rows.{combine, faster, slower, later, head, tail, sample, merge}
 use Rattle.runner.specs.Private.Carried.{Held, opOf, decode, startOf}
 
 -- kinds 2 to 6

@@ -1,19 +1,18 @@
 -- The loop over the flows of one tick: what its invariant says, and how a turn keeps it. Assumes nothing.
 use mathlib.Core.Path.{_≡_, refl, sym, _∙_, ap, subst}
-use Prim.Native.Nat.{ℕ, zero, suc, _+_, _*_, _≤_, _<_}
+use Prim.Native.Nat.{ℕ, suc, _+_, _*_, _≤_, _<_}
 use native.Mathlib.Numerals.{add-one}
 use native.Mathlib.Omega.{arith}
-use mathlib.Core.Bool.{Bool, true, false}
-use mathlib.Core.Logic.{_⊎_, inl, inr, ⊎-elim}
-use mathlib.Core.List.{List, [], _∷_, _++_, append-nil}
+use mathlib.Core.Logic.{⊎-elim}
+use mathlib.Core.List.{List, [], _∷_, _++_}
 use lib.ListN.{length, getD, set, drop, length-append, List·getD-append}
 use lib.Seq.{drop-cons, drop-length}
 use native.Mathlib.Nat.{eq-or-lt-of-le}
 use Rattle.table.specs.Rows.{Row, tail}
-use Rattle.table.proofs.Tables.{Fits, rowAt, Table}
+use Rattle.table.proofs.Tables.{rowAt, Table}
 use Rattle.runner.specs.declared.operators.Outcome.{Outcome}
 use Rattle.runner.specs.declared.ticks.Ticked.the-variants as ticked
-use Rattle.runner.specs.Cells.{Cell, absent, present, value, History}
+use Rattle.runner.specs.Cells.{Cell, absent, value}
 use Rattle.runner.specs.Operators.{Step, is, clashes}
 use Rattle.runner.specs.Runs.{Tick, Ticks, cellIn, history, inputs, cellOf, TickEnd, filled, stopped, onStep, flowsFrom}
 use Rattle.runner.specs.Answers.{markByte}

@@ -1,17 +1,17 @@
 -- The other rows that carry words: what the words say is what the history says, at the tick and after it. Assumes nothing.
 use mathlib.Core.Path.{_≡_, refl, sym, _∙_, ap, subst}
-use Prim.Native.Nat.{ℕ, zero, suc, _+_, _*_, _-_, _%_, _≤_, _<_}
+use Prim.Native.Nat.{ℕ, suc, _+_, _-_, _%_, _≤_, _<_}
 use native.Mathlib.Nat.{mod-add-mod, mod-eq-of-lt, add-mod-right, sub-self, zero-mod, zero-add}
 use native.Mathlib.Omega.{arith}
 use mathlib.Core.Bool.{Bool, true, false, cond, _&&_, _||_, not}
-use mathlib.Core.List.{List, _∷_}
-use mathlib.Core.Option.{Option, none, some}
+use mathlib.Core.List.{_∷_}
+use mathlib.Core.Option.{none}
 use lib.ListN.{length}
 use lib.Dec.{eqb, ltb, leb}
 use borrow.Author.Tests.{eq-eqb, ne-eqb, lt-ltb, le-ltb, le-leb, lt-leb, eqb-true, eqb-false, leb-true, leb-false}
 use Rattle.table.proofs.Tests.{Tried, passed, failed, try, same-test, and-left, and-right, and-both}
-use Rattle.runner.specs.Cells.{Cell, absent, present, History, count, Presence, latest, onGrid}
-use Rattle.runner.specs.Operators.{Step, is, clashes, clashUnless, timed, slowerOf, tailOf, evenly, headFits, headOf}
+use Rattle.runner.specs.Cells.{Cell, absent, present, History, count, latest, onGrid}
+use Rattle.runner.specs.Operators.{is, clashes, clashUnless, timed, slowerOf, tailOf, evenly, headFits, headOf}
 use Rattle.runner.specs.Private.Carried.{Held, held, timedStep, timedNext, slowerStep, slowerNext, headStep, headNext, afterStep, afterNext, tailStep, tailNext}
 use Rattle.runner.specs.Private.Ready.{Due, Heads, never, once, often}
 use Rattle.runner.proofs.Copies.{never-is}

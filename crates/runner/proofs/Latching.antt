@@ -3,14 +3,14 @@ use mathlib.Core.Path.{_≡_, refl, sym, _∙_, ap, subst}
 use Prim.Native.Nat.{ℕ, zero, suc, _+_, _*_, _≤_, _<_}
 use native.Mathlib.Nat.{eq-or-lt-of-le, add-zero, zero-add}
 use native.Mathlib.Omega.{arith}
-use mathlib.Core.Bool.{Bool, true, false, cond, Bool·beq, true≢false, false≢true}
+use mathlib.Core.Bool.{Bool, true, false, cond, Bool·beq}
 use mathlib.Core.Logic.{_⊎_, inl, inr, ⊎-elim}
 use mathlib.Core.List.{List, [], _∷_}
 use mathlib.Core.Option.{Option, none, some}
 use lib.ListN.{length, getD, set}
 use lib.Dec.{eqb, ltb}
 use borrow.Author.Tests.{eq-eqb, ne-eqb, eqb-true, eqb-false, ltb-true, ltb-false}
-use Rattle.table.specs.Rows.{Row, register, tail, onRegister, badRegister}
+use Rattle.table.specs.Rows.{Row, register, onRegister, badRegister}
 use Rattle.table.proofs.Tests.{Tried, passed, failed, try}
 use Rattle.table.proofs.Tables.{Fits, rowAt, Table}
 use Rattle.runner.specs.declared.ticks.Ticked.the-variants as ticked
@@ -18,11 +18,11 @@ use Rattle.runner.specs.Cells.{Cell, absent, present, mark, value, Histo
 use Rattle.runner.specs.Operators.{valueOr}
 use Rattle.runner.specs.Runs.{Tick, Ticks, cellIn, history, sourceMeets}
 use Rattle.runner.specs.Answers.{markByte}
-use Rattle.runner.specs.Private.Carried.{Held, held, heldIn, decode}
+use Rattle.runner.specs.Private.Carried.{Held, heldIn, decode}
 use Rattle.runner.specs.Private.Ready.{Carries, Follows, AllCarry, AllFollow, Wrote, LatchEnd, Listed}
 use Rattle.runner.proofs.Words.{stored, stored-other}
 use Rattle.runner.proofs.Cells.{mark-at, value-at}
-use Rattle.runner.proofs.Tabled.{Row-at, row-of}
+use Rattle.runner.proofs.Tabled.{row-of}
 
 -- the lowest register that does not pass
 none-bad : (test : ℕ → ℕ → Bool) (f : ℕ) (rows : List Row) → ((g : ℕ) → g < length rows → onRegister test (rowAt rows g) ≡ true) → badRegister test f rows ≡ none

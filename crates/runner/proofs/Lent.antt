@@ -1,6 +1,6 @@
 -- What a tick writes in the lent parts, said of the whole trace. Assumes nothing.
-use mathlib.Core.Path.{_≡_, refl, sym, _∙_, ap, subst}
-use Prim.Native.Nat.{ℕ, _+_, _-_, _≤_}
+use mathlib.Core.Path.{_≡_, refl, sym, _∙_, ap}
+use Prim.Native.Nat.{ℕ, _+_, _-_}
 use native.Mathlib.Omega.{arith}
 use mathlib.Core.List.{List, [], _∷_, _++_, map, append-assoc, append-nil}
 use lib.ListN.{length, take, drop, length-append, length-drop, length-map, drop-of-length-le}
@@ -9,7 +9,7 @@ use Rattle.table.specs.Answers.{over}
 use Rattle.table.specs.Rows.{Row}
 use Rattle.runner.specs.declared.ticks.Ticked.{Ticked}
 use Rattle.runner.specs.Cells.{Cell, value}
-use Rattle.runner.specs.Runs.{Tick, Ticks, TickEnd, filled, stopped, cells}
+use Rattle.runner.specs.Runs.{Ticks, TickEnd, filled, stopped, cells}
 use Rattle.runner.specs.Answers.{markByte}
 use Rattle.runner.specs.Private.Ready.{Wrote, TickDone, TickAt}
 

@@ -1,21 +1,21 @@
 -- The words that the rows carry into tick 0. Assumes nothing.
 use mathlib.Core.Path.{_≡_, refl, sym, _∙_, ap, subst}
-use Prim.Native.Nat.{ℕ, zero, suc, _+_, _*_, _%_, _≤_, _<_}
-use native.Mathlib.Nat.{eq-or-lt-of-le, zero-mod, add-zero, zero-add}
+use Prim.Native.Nat.{ℕ, zero, suc, _+_, _*_, _≤_, _<_}
+use native.Mathlib.Nat.{eq-or-lt-of-le, zero-mod}
 use native.Mathlib.Numerals.{add-one}
 use native.Mathlib.Omega.{arith}
-use mathlib.Core.Bool.{Bool, true, false, cond}
-use mathlib.Core.Logic.{_⊎_, inl, inr, ⊎-elim}
+use mathlib.Core.Bool.{cond}
+use mathlib.Core.Logic.{⊎-elim}
 use mathlib.Core.List.{List, [], _∷_}
 use lib.ListN.{length, getD, take, replicate}
 use lib.Seq.{take-all, take-length}
 use lib.Dec.{eqb}
 use Rattle.table.specs.Rows.{Row, input, constant, combine, register, faster, slower, later, head, tail, sample, merge}
 use Rattle.table.proofs.Tables.{Fits, rowAt, Table}
-use Rattle.runner.specs.Cells.{Cell, absent, History, count, latest}
-use Rattle.runner.specs.Runs.{Ticks, history, inputs, isInput}
-use Rattle.runner.specs.Private.Carried.{Held, held, heldIn, decode, startOf, Started}
-use Rattle.runner.specs.Private.Ready.{Copies, unseen, Heads, never, Carries, AllCarry}
+use Rattle.runner.specs.Cells.{count, latest}
+use Rattle.runner.specs.Runs.{history, inputs, isInput}
+use Rattle.runner.specs.Private.Carried.{Held, held, heldIn, startOf, Started}
+use Rattle.runner.specs.Private.Ready.{unseen, never, Carries, AllCarry}
 use Rattle.runner.proofs.Tabled.{Row-at, row-of}
 use Rattle.runner.proofs.Histories.{timed-starts}
 use Rattle.runner.proofs.Flowing.{fields}

@@ -1,19 +1,18 @@
 -- A row's step from its words is its step from the ticks so far, and its words then say the same of one tick more. Assumes nothing.
 use mathlib.Core.Path.{_≡_, refl, sym, _∙_, ap, subst}
-use Prim.Native.Nat.{ℕ, zero, suc, _+_, _*_, _-_, _%_, _≤_, _<_}
+use Prim.Native.Nat.{ℕ, zero, suc, _+_, _*_, _-_, _%_, _<_}
 use native.Mathlib.Omega.{arith}
-use mathlib.Core.Bool.{Bool, true, false, cond}
-use mathlib.Core.List.{List, [], _∷_, _++_, map}
+use mathlib.Core.List.{List, _∷_}
 use lib.ListN.{length, getD, take, length-map}
 use lib.Dec.{eqb}
 use borrow.Author.Tests.{ne-eqb}
 use Rattle.table.specs.Rows.{Row, input, constant, combine, register, faster, slower, later, head, tail, sample, merge}
 use Rattle.table.proofs.Tables.{Fits}
 use Rattle.runner.specs.Cells.{Cell, absent, present, History, back, count, latest}
-use Rattle.runner.specs.Operators.{Step, is, clashes, timed, combined, registered, fasterOf, slowerOf, laterOf, tailOf, headOf, sampled, merged, valueOr}
-use Rattle.runner.specs.Runs.{Tick, Ticks, cellIn, history, inputs, word, cellOf}
-use Rattle.runner.specs.Private.Carried.{Held, cellAt, timedStep, timedNext, registerStep, fasterStep, fasterNext, slowerStep, slowerNext, laterStep, headStep, headNext, tailStep, tailNext, stepOf, nextOf}
-use Rattle.runner.specs.Private.Ready.{Due, Copies, Heads, Carries, Collected, Follows}
+use Rattle.runner.specs.Operators.{is, timed, registered, fasterOf, laterOf, headOf, valueOr}
+use Rattle.runner.specs.Runs.{Tick, Ticks, cellIn, history, inputs, cellOf}
+use Rattle.runner.specs.Private.Carried.{Held, cellAt, registerStep, fasterStep, fasterNext, laterStep, headStep, headNext, stepOf, nextOf}
+use Rattle.runner.specs.Private.Ready.{Copies, Heads, Carries, Collected, Follows}
 use Rattle.runner.proofs.Copies.{faster-steps, faster-follows}
 use Rattle.runner.proofs.Histories.{timed-steps, timed-follows, timed-keeps, slower-steps, slower-follows, tail-steps, tail-follows, head-steps, head-follows}
 

@@ -1,19 +1,18 @@
 -- What the words of a table that is not refused make. Assumes nothing.
 use mathlib.Core.Path.{_≡_, refl, sym, _∙_, ap, subst}
-use Prim.Native.Nat.{ℕ, zero, suc, _+_, _*_, _≤_, _<_}
+use Prim.Native.Nat.{ℕ, _+_, _*_, _≤_, _<_}
 use native.Mathlib.Nat.{zero-add, add-zero}
 use native.Mathlib.Omega.{arith}
 use mathlib.Core.Bool.{Bool, true, cond}
-use mathlib.Core.List.{List, [], _∷_}
-use mathlib.Core.Option.{Option, some}
-use lib.ListN.{length, getD, drop, getElem?}
+use mathlib.Core.List.{List}
+use mathlib.Core.Option.{some}
+use lib.ListN.{getD, drop, getElem?}
 use lib.Seq.{getD-drop}
 use lib.Dec.{eqb}
-use Rattle.table.specs.Answers.{good}
-use Rattle.table.specs.Rows.{Row, input, constant, combine, register, faster, slower, later, head, tail, sample, merge, onRegister, Kind, kinds, Words}
-use Rattle.table.specs.Plain.{four, tableOf}
-use Rattle.table.proofs.Tables.{Fits, Made, row-fits, rowAt, Table, table-made}
+use Rattle.table.specs.Rows.{Row, input, constant, combine, register, faster, slower, later, head, tail, sample, merge, onRegister, Kind, kinds}
+use Rattle.table.specs.Plain.{four}
 use Rattle.table.proofs.Lists.{Each, each-entry}
+use Rattle.table.proofs.Tables.{Fits, Made, row-fits, rowAt, Table, table-made}
 use Rattle.runner.specs.Cells.{History}
 use Rattle.runner.specs.Runs.{isInput}
 use Rattle.runner.specs.Private.Carried.{Held, decode}

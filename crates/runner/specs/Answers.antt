@@ -5,8 +5,7 @@ use mathlib.Core.List.{List, map}
 use lib.ListN.{length}
 use lib.Dec.{leb, eqb}
 use Rattle.table.specs.declared.Answer.{Answer}
-use Rattle.table.specs.Answers.{Result, good, refused, unless, then, number, success, refusal, leaves, tooManyTicks, wrongLog, shortTrace}
-use Rattle.table.specs.Answers.{clash}
+use Rattle.table.specs.Answers.{Result, good, refused, unless, then, number, success, refusal, leaves, tooManyTicks, wrongLog, shortTrace, clash}
 use Rattle.table.specs.Bits.{bit}
 use Rattle.table.specs.Rows.{Row}
 use Rattle.table.specs.Plain.{tableOf}

@@ -6,7 +6,7 @@ use mathlib.Core.Option.{Option, none, some}
 use lib.ListN.{length, getD}
 use lib.Dec.{eqb, leb}
 
--- a flow at a tick; its mark is the presence flag
+-- a flow at a tick
 pub data Cell : Type 0 where
   absent : Cell
   present : (value : ℕ) → Cell

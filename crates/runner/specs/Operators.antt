@@ -9,7 +9,7 @@ use Rattle.table.specs.Bits.{bit}
 use Rattle.table.specs.Rows.{Op, add, subtract, less, equal, larger}
 use Rattle.runner.specs.Cells.{Cell, absent, present, mark, History, back, count, Presence, latest, onGrid}
 
--- a cell, or a clash (the paper's word for operands that are not synchronous at this tick)
+-- a cell, or a clash (the paper's word for operands whose presences disagree)
 pub data Step : Type 0 where
   is : Cell → Step
   clashes : Step

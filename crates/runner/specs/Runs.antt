@@ -6,8 +6,7 @@ use mathlib.Core.Option.{Option, none, some}
 use lib.ListN.{length, getD, take}
 use Rattle.table.specs.Rows.{Row, input, constant, combine, register, faster, slower, later, head, tail, sample, merge, badRegister}
 use Rattle.runner.specs.Cells.{Cell, absent, present, mark, History}
-use Rattle.runner.specs.Operators.{Step, is, clashes, timed, combined, registered, fasterOf, slowerOf, laterOf, tailOf, headOf}
-use Rattle.runner.specs.Operators.{sampled, merged}
+use Rattle.runner.specs.Operators.{Step, is, clashes, timed, combined, registered, fasterOf, slowerOf, laterOf, tailOf, headOf, sampled, merged}
 
 -- one tick's cells in order of flows, and the ticks so far, the latest first
 abbrev pub Tick : Type 0

@@ -106,24 +106,29 @@ fn plan_i() {
     shown(5, &words, &log, 5, &mut marks, &mut values, 0);
 }
 
-// Head and tail, and head's two clashes: a second presence too late, and a presence at tick s.
-fn ends() {
-    let head = [0, 1, 1, 0, 11, 0, 42, 0];
+// A head at tick 0, and its two clashes: a second presence too late, and a presence at tick 0.
+fn head(words: &[u32]) {
     let log = [0, 11, 12, 13];
     let mut marks = [9u8; 8];
     let mut values = [9u32; 8];
-    shown(2, &head, &log, 4, &mut marks, &mut values, 0);
+    shown(2, words, &log, 4, &mut marks, &mut values, 0);
+}
+
+fn heads() {
+    let even = [0, 1, 1, 0, 11, 0, 42, 0];
+    head(&even);
     let late = [0, 2, 1, 0, 11, 0, 42, 0];
-    shown(2, &late, &log, 4, &mut marks, &mut values, 0);
+    head(&late);
     let early = [0, 1, 0, 0, 11, 0, 42, 0];
-    let mut marks2 = [9u8; 8];
-    let mut values2 = [9u32; 8];
-    shown(2, &early, &log, 4, &mut marks2, &mut values2, 0);
+    head(&early);
+}
+
+fn tails() {
     let tail = [0, 2, 0, 0, 12, 0, 0, 0];
-    let log2 = [10, 11, 12, 13, 14];
-    let mut marks3 = [9u8; 10];
-    let mut values3 = [9u32; 10];
-    shown(2, &tail, &log2, 5, &mut marks3, &mut values3, 0);
+    let log = [10, 11, 12, 13, 14];
+    let mut marks = [9u8; 10];
+    let mut values = [9u32; 10];
+    shown(2, &tail, &log, 5, &mut marks, &mut values, 0);
 }
 
 // Later by 0, by 2 and by 4095 ticks.
@@ -192,8 +197,8 @@ fn sums() {
     shown(7, &words, &log, 2, &mut marks, &mut values, 0);
 }
 
-// The clashes of when, of when-not, of merge and of a register, which has its tick filled.
-fn clashes() {
+// The clashes of when and of when-not, whose operands are not present together.
+fn samples() {
     let when = [0, 1, 0, 0, 0, 2, 0, 0, 13, 0, 1, 0];
     let log = [3, 1, 4, 0];
     let mut marks = [9u8; 6];
@@ -201,37 +206,61 @@ fn clashes() {
     shown(3, &when, &log, 2, &mut marks, &mut values, 0);
     let when_not = [0, 1, 0, 0, 0, 2, 0, 0, 14, 1, 0, 0];
     shown(3, &when_not, &log, 2, &mut marks, &mut values, 0);
-    let merge = [0, 1, 0, 0, 0, 1, 0, 0, 0, 1, 0, 0, 15, 0, 1, 2];
-    let log2 = [1, 5, 6];
-    shown(4, &merge, &log2, 1, &mut marks, &mut values, 0);
-    let register = [0, 2, 0, 0, 0, 1, 0, 0, 7, 7, 0, 1];
-    let mut marks2 = [9u8; 7];
-    let mut values2 = [9u32; 7];
-    shown(3, &register, &log, 2, &mut marks2, &mut values2, 0);
 }
 
-// Each refusal leaves all.
+// The clash of a merge with both operands present.
+fn merges() {
+    let merge = [0, 1, 0, 0, 0, 1, 0, 0, 0, 1, 0, 0, 15, 0, 1, 2];
+    let log = [1, 5, 6];
+    let mut marks = [9u8; 6];
+    let mut values = [9u32; 6];
+    shown(4, &merge, &log, 1, &mut marks, &mut values, 0);
+}
+
+// The clash of a register, which has its tick filled.
+fn registers() {
+    let register = [0, 2, 0, 0, 0, 1, 0, 0, 7, 7, 0, 1];
+    let log = [3, 1, 4, 0];
+    let mut marks = [9u8; 7];
+    let mut values = [9u32; 7];
+    shown(3, &register, &log, 2, &mut marks, &mut values, 0);
+}
+
+// A call over a log of two words, with room for two cells.
+fn tried(count: u32, words: &[u32], ticks: u32) {
+    let log = [1, 2];
+    let mut marks = [9u8; 2];
+    let mut values = [9u32; 2];
+    shown(count, words, &log, ticks, &mut marks, &mut values, 0);
+}
+
+// Refusals of the table, of the count of ticks and of the log leave all.
 fn refusals() {
     let words = [0, 1, 0, 0];
+    tried(0, &words, 2);
+    tried(65, &words, 2);
+    tried(2, &words, 2);
     let unknown = [16, 0, 0, 0];
+    tried(1, &unknown, 2);
     let period = [0, 0, 0, 0];
+    tried(1, &period, 2);
     let unused = [0, 1, 0, 1];
+    tried(1, &unused, 2);
     let far = [12, 64, 0, 0];
+    tried(1, &far, 2);
     let itself = [12, 0, 0, 0];
+    tried(1, &itself, 2);
+    tried(1, &words, 65536);
+    tried(1, &words, 3);
+}
+
+// A trace that is too short is refused, and a run of no ticks writes nothing.
+fn lengths() {
+    let words = [0, 1, 0, 0];
     let log = [1, 2];
     let mut marks = [9u8; 2];
     let mut values = [9u32; 2];
     let mut short = [9u32; 1];
-    shown(0, &words, &log, 2, &mut marks, &mut values, 0);
-    shown(65, &words, &log, 2, &mut marks, &mut values, 0);
-    shown(2, &words, &log, 2, &mut marks, &mut values, 0);
-    shown(1, &unknown, &log, 2, &mut marks, &mut values, 0);
-    shown(1, &period, &log, 2, &mut marks, &mut values, 0);
-    shown(1, &unused, &log, 2, &mut marks, &mut values, 0);
-    shown(1, &far, &log, 2, &mut marks, &mut values, 0);
-    shown(1, &itself, &log, 2, &mut marks, &mut values, 0);
-    shown(1, &words, &log, 65536, &mut marks, &mut values, 0);
-    shown(1, &words, &log, 3, &mut marks, &mut values, 0);
     shown(1, &words, &log, 2, &mut marks, &mut short, 0);
     shown(1, &words, &log[..0], 0, &mut marks, &mut values, 0);
 }
@@ -240,10 +269,14 @@ fn main() {
     plan_d();
     plan_k();
     plan_i();
-    ends();
+    heads();
+    tails();
     delays();
     rates();
     sums();
-    clashes();
+    samples();
+    merges();
+    registers();
     refusals();
+    lengths();
 }

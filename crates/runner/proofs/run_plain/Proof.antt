@@ -1,90 +1,67 @@
+-- `run_plain` meets its contract. Assumes nothing.
 use Rattle.runner.proofs.Called.{too-many, wrong-log, short-marks, short-values, ran}
 use Rattle.runner.proofs.Starting.{inputs-all}
 use Rattle.runner.proofs.Words.{place-small}
 use Rattle.runner.specs.Private.Ready.{rowsIn}
 use Rattle.runner.proofs.Tabled.{plain-table}
-use Rattle.table.proofs.Tables.{Table}
-use Prim.Native.Nat.{ℕ, _+_, _*_, _-_, _≤_, _<_, _^_}
-use mathlib.Core.Path.{_≡_, refl, sym, _∙_, ap, subst}
+use Prim.Native.Nat.{ℕ, _*_}
+use mathlib.Core.Path.{sym, _∙_, ap}
 use native.Mathlib.Omega.{arith}
 use borrow.Author.Needs.{needs}
 use Rattle.runner.proofs.run_plain.Statement.{statement}
 use Rattle.runner.proofs.run_plain.Tie as tie
-use Rattle.runner.proofs.run_plain.Reads as reads
-use Rattle.runner.proofs.run_plain.Lts as lts
-use Rattle.runner.proofs.refused.Reads as refused-reads
-use Rattle.runner.proofs.run_from.Reads as run-from-reads
-use Rattle.runner.proofs.state.start.Reads as start-reads
 
--- src/lib.rt:200:9
 refused-requires : tie.Need-refused-requires
 refused-requires c κs = search needs
 
--- src/lib.rt:200:9
 returns : tie.Need-returns
 returns c = rw (c .refused .ensures) (too-many (c .before .before .before .before .before .before .args .n) (c .before .before .before .before .before .before .args .words .now) (c .before .before .before .before .before .before .args .log .now) (c .before .before .before .before .before .before .args .ticks) (c .before .before .before .before .before .before .args .marks .now) (c .before .before .before .before .before .before .args .values .now) (c .before .before .before .before .before .before .pre) (c .before .if1 .taken))
 
--- src/lib.rt:203:41
 slice-aggregate-start : tie.Need-slice-aggregate-start
 slice-aggregate-start c = search needs
 
--- src/lib.rt:203:18
 start-requires : tie.Need-start-requires
 start-requires c κs = search needs
 
--- src/lib.rt:203:18
 cast-inputs : tie.Need-cast-inputs
 cast-inputs c = search needs
 
--- src/lib.rt:204:21
 mul-if2 : tie.Need-mul-if2
 mul-if2 c = omega (arith, place-small (c .before .before .before .before .before .before .before .before .args .ticks) (c .before .start .result) (omega (arith, c .before .before .before .if1 .left)) (omega (arith, c .before .start .ensures .0, inputs-all (rowsIn (c .before .before .before .before .before .before .before .before .args .n) (c .before .before .before .before .before .before .before .before .args .words .now)), (plain-table (c .before .before .before .before .before .before .before .before .args .n) (c .before .before .before .before .before .before .before .before .args .words .now) (c .before .before .before .before .before .before .before .before .pre)) .size, (plain-table (c .before .before .before .before .before .before .before .before .args .n) (c .before .before .before .before .before .before .before .before .args .words .now) (c .before .before .before .before .before .before .before .before .pre)) .few)), c .before .before .before .if1 .left)
 
--- src/lib.rt:205:9
 refused-requires-2 : tie.Need-refused-requires-2
 refused-requires-2 c κs = search needs
 
--- src/lib.rt:205:9
 returns-2 : tie.Need-returns-2
 returns-2 c = rw (c .refused2 .ensures) (wrong-log (c .before .before .before .before .before .before .before .before .before .before .args .n) (c .before .before .before .before .before .before .before .before .before .before .args .words .now) (c .before .before .before .before .before .before .before .before .before .before .args .log .now) (c .before .before .before .before .before .before .before .before .before .before .args .ticks) (c .before .before .before .before .before .before .before .before .before .before .args .marks .now) (c .before .before .before .before .before .before .before .before .before .before .args .values .now) (c .before .before .before .before .before .before .before .before .before .before .pre) (c .before .before .before .before .before .if1 .left) (λ e. c .before .if2 .taken (e ∙ ap (λ (i : ℕ). c .before .before .before .before .before .before .before .before .before .before .args .ticks * i) (sym (c .before .before .before .start .ensures .0)))))
 
--- src/lib.rt:207:17
 mul-cells : tie.Need-mul-cells
 mul-cells c = omega (arith, place-small (c .before .before .before .before .before .before .before .before .before .args .ticks) (c .before .before .before .before .before .before .before .before .before .args .n) (omega (arith, c .before .before .before .before .if1 .left)) ((plain-table (c .before .before .before .before .before .before .before .before .before .args .n) (c .before .before .before .before .before .before .before .before .before .args .words .now) (c .before .before .before .before .before .before .before .before .before .pre)) .few))
 
--- src/lib.rt:209:9
 refused-requires-3 : tie.Need-refused-requires-3
 refused-requires-3 c κs = search needs
 
--- src/lib.rt:209:9
 returns-3 : tie.Need-returns-3
 returns-3 c = rw (c .refused3 .ensures) (short-marks (c .before .before .before .before .before .before .before .before .before .before .before .args .n) (c .before .before .before .before .before .before .before .before .before .before .before .args .words .now) (c .before .before .before .before .before .before .before .before .before .before .before .args .log .now) (c .before .before .before .before .before .before .before .before .before .before .before .args .ticks) (c .before .before .before .before .before .before .before .before .before .before .before .args .marks .now) (c .before .before .before .before .before .before .before .before .before .before .before .args .values .now) (c .before .before .before .before .before .before .before .before .before .before .before .pre) (c .before .before .before .before .before .before .if1 .left) (c .before .before .if2 .left ∙ ap (λ (i : ℕ). c .before .before .before .before .before .before .before .before .before .before .before .args .ticks * i) (c .before .before .before .before .start .ensures .0)) (c .before .if3 .taken))
 
--- src/lib.rt:212:9
 refused-requires-4 : tie.Need-refused-requires-4
 refused-requires-4 c κs = search needs
 
--- src/lib.rt:212:9
 returns-4 : tie.Need-returns-4
 returns-4 c = rw (c .refused4 .ensures) (short-values (c .before .before .before .before .before .before .before .before .before .before .before .before .args .n) (c .before .before .before .before .before .before .before .before .before .before .before .before .args .words .now) (c .before .before .before .before .before .before .before .before .before .before .before .before .args .log .now) (c .before .before .before .before .before .before .before .before .before .before .before .before .args .ticks) (c .before .before .before .before .before .before .before .before .before .before .before .before .args .marks .now) (c .before .before .before .before .before .before .before .before .before .before .before .before .args .values .now) (c .before .before .before .before .before .before .before .before .before .before .before .before .pre) (c .before .before .before .before .before .before .before .if1 .left) (c .before .before .before .if2 .left ∙ ap (λ (i : ℕ). c .before .before .before .before .before .before .before .before .before .before .before .before .args .ticks * i) (c .before .before .before .before .before .start .ensures .0)) (c .before .before .if3 .left) (c .before .if4 .taken))
 
--- src/lib.rt:214:44
 slice-aggregate-run-from : tie.Need-slice-aggregate-run-from
 slice-aggregate-run-from c = search needs
 
--- src/lib.rt:214:5
 run-from-requires : tie.Need-run-from-requires
 run-from-requires c κs = (c .before .before .before .before .before .before .before .before .before .before .before .before .before .before .pre, c .before .before .before .before .if3 .left, c .before .before .before .if4 .left, omega (arith, c .before .before .before .before .before .before .before .start .kept .1 .1 .0), omega (arith, c .before .before .before .before .before .before .before .before .before .if1 .left), c .before .before .before .before .before .before .before .start .ensures .0, c .before .before .before .before .before .before .before .start .ensures .1)
 
--- src/lib.rt:188:1
 same-length : tie.Need-same-length
 same-length c = search needs
 
--- src/lib.rt:188:1
 same-length-2 : tie.Need-same-length-2
 same-length-2 c = search needs
 
--- src/lib.rt:188:1
 returns-5 : tie.Need-returns-5
 returns-5 c = ran (c .before .before .before .before .before .before .before .before .before .before .before .before .before .before .before .before .before .before .before .before .args .n) (c .before .before .before .before .before .before .before .before .before .before .before .before .before .before .before .before .before .before .before .before .args .words .now) (c .before .before .before .before .before .before .before .before .before .before .before .before .before .before .before .before .before .before .before .before .args .log .now) (c .before .before .before .before .before .before .before .before .before .before .before .before .before .before .before .before .before .before .before .before .args .ticks) (c .before .before .before .before .before .before .before .before .before .before .before .before .before .before .before .before .before .before .before .before .args .marks .now) (c .before .before .before .before .before .before .before .before .before .before .before .before .before .before .before .before .before .before .before .before .args .values .now) (c .before .before .before .before .before .before .before .before .before .before .before .before .before .before .before .before .before .before .before .before .pre) _ _ _ (c .before .before .before .before .before .before .before .before .before .before .before .before .before .before .before .if1 .left) (c .before .before .before .before .before .before .before .before .before .before .before .if2 .left ∙ ap (λ (i : ℕ). c .before .before .before .before .before .before .before .before .before .before .before .before .before .before .before .before .before .before .before .before .args .ticks * i) (c .before .before .before .before .before .before .before .before .before .before .before .before .before .start .ensures .0)) (c .before .before .before .before .before .before .before .before .before .before .if3 .left) (c .before .before .before .before .before .before .before .before .before .if4 .left) (c .before .before .before .before .before .run-from .ensures)
 

@@ -1,61 +1,45 @@
+-- `tick_at` meets its contract. Assumes nothing.
 use Rattle.runner.proofs.Lent.{lent, part-length}
 use Rattle.runner.specs.Private.Ready.{rowsIn}
 use Rattle.runner.specs.Runs.{tickOf}
-use Prim.Native.Nat.{ℕ, _+_, _*_, _-_, _≤_, _<_, _^_}
-use mathlib.Core.Path.{_≡_, refl, sym, _∙_, ap, subst}
 use native.Mathlib.Omega.{arith}
 use borrow.Author.Needs.{needs}
 use Rattle.runner.proofs.tick_at.Statement.{statement}
 use Rattle.runner.proofs.tick_at.Tie as tie
-use Rattle.runner.proofs.tick_at.Reads as reads
-use Rattle.runner.proofs.tick_at.Lts as lts
-use Rattle.runner.proofs.ticks.tick.Reads as tick-reads
 
--- src/lib.rt:44:9
 sub-tick : tie.Need-sub-tick
 sub-tick c = search needs
 
--- src/lib.rt:44:9
 part-tick-start : tie.Need-part-tick-start
 part-tick-start c = search needs
 
--- src/lib.rt:44:9
 part-tick-end : tie.Need-part-tick-end
 part-tick-end c = search needs
 
--- src/lib.rt:45:9
 mul-tick : tie.Need-mul-tick
 mul-tick c = search needs
 
--- src/lib.rt:45:9
 sub-tick-2 : tie.Need-sub-tick-2
 sub-tick-2 c = search needs
 
--- src/lib.rt:45:9
 part-tick-start-2 : tie.Need-part-tick-start-2
 part-tick-start-2 c = search needs
 
--- src/lib.rt:45:9
 part-tick-end-2 : tie.Need-part-tick-end-2
 part-tick-end-2 c = search needs
 
--- src/lib.rt:35:5
 tick-requires : tie.Need-tick-requires
 tick-requires c κs = (c .before .before .before .before .before .before .before .before .before .pre .0, omega (arith, part-length (c .before .before .before .before .before .before .before .before .before .args .first) (c .before .before .before .before .before .before .before .before .before .args .marks .now), c .before .before .before .before .before .before .before .before .before .pre .1), omega (arith, part-length (c .before .before .before .before .before .before .before .before .before .args .first) (c .before .before .before .before .before .before .before .before .before .args .values .now), c .before .before .before .before .before .before .before .before .before .pre .2), c .before .before .before .before .before .before .before .before .before .pre .3, c .before .before .before .before .before .before .before .before .before .pre .4, c .before .before .before .before .before .before .before .before .before .pre .5, c .before .before .before .before .before .before .before .before .before .pre .6)
 
--- src/lib.rt:19:1
 same-length : tie.Need-same-length
 same-length c = search needs
 
--- src/lib.rt:19:1
 same-length-2 : tie.Need-same-length-2
 same-length-2 c = search needs
 
--- src/lib.rt:19:1
 same-length-3 : tie.Need-same-length-3
 same-length-3 c = search needs
 
--- src/lib.rt:19:1
 returns : tie.Need-returns
 returns c = λ past ms vs R e w. lent _ (c .before .before .before .before .before .before .before .before .before .before .before .before .before .before .before .before .args .t) (c .before .before .before .before .before .before .before .before .before .before .before .before .before .before .before .before .args .first) past (tickOf (rowsIn (c .before .before .before .before .before .before .before .before .before .before .before .before .before .before .before .before .args .n) (c .before .before .before .before .before .before .before .before .before .before .before .before .before .before .before .before .args .words .now)) (c .before .before .before .before .before .before .before .before .before .before .before .before .before .before .before .before .args .log .now) past) ms vs (c .before .before .before .before .before .before .before .before .before .before .before .before .before .before .before .before .args .marks .now) (c .before .before .before .before .before .before .before .before .before .before .before .before .before .before .before .before .args .values .now) _ _ _ _ e w (c .before .before .before .before .before .before .tick .ensures past R)
 

@@ -1,19 +1,16 @@
+-- `turn` meets its contract. Assumes nothing.
 use Rattle.runner.specs.Private.Ready.{rowsIn}
 use Rattle.runner.proofs.Collecting.{cells-length}
 use Rattle.runner.proofs.Starting.{inputs-all}
 use Rattle.runner.proofs.Words.{place-small}
 use Rattle.runner.proofs.Tabled.{plain-table}
 use Rattle.table.proofs.Tables.{Table}
-use Prim.Native.Nat.{ℕ, _+_, _*_, _-_, _≤_, _<_, _^_}
-use mathlib.Core.Path.{_≡_, refl, sym, _∙_, ap, subst}
+use Prim.Native.Nat.{ℕ, _*_, _≤_, _^_}
+use mathlib.Core.Path.{_∙_, ap}
 use native.Mathlib.Omega.{arith}
 use borrow.Author.Needs.{needs}
 use Rattle.runner.proofs.turn.Statement.{statement}
 use Rattle.runner.proofs.turn.Tie as tie
-use Rattle.runner.proofs.turn.Reads as reads
-use Rattle.runner.proofs.turn.Lts as lts
-use Rattle.runner.proofs.state.collect.Reads as collect-reads
-use Rattle.runner.proofs.tick_at.Reads as tick-at-reads
 
 -- the place in the log is low
 small : (c : tie.Start) → c .args .t * c .args .inputs ≤ 2 ^ 30
@@ -21,35 +18,27 @@ small c =
     let T : Table (c .args .n) (c .args .words .now) (rowsIn (c .args .n) (c .args .words .now)) = plain-table (c .args .n) (c .args .words .now) (c .pre .0) in
     place-small (c .args .t) (c .args .inputs) (c .pre .6) (omega (arith, inputs-all (rowsIn (c .args .n) (c .args .words .now)), c .pre .7, T .size, T .few))
 
--- src/lib.rt:67:5
 collect-requires : tie.Need-collect-requires
 collect-requires c κs = search needs
 
--- src/lib.rt:77:17
 mul-first : tie.Need-mul-first
 mul-first c = search needs
 
--- src/lib.rt:78:14
 mul-at : tie.Need-mul-at
 mul-at c = omega (arith, small (c .before .before .before .before .before .before .before .before .before .before .before .before .before))
 
--- src/lib.rt:79:5
 tick-at-requires : tie.Need-tick-at-requires
 tick-at-requires c κs = (c .before .before .before .before .before .before .before .before .before .before .before .before .before .before .before .before .pre .0, c .before .before .before .before .before .before .before .before .before .before .before .before .before .before .before .before .pre .1, c .before .before .before .before .before .before .before .before .before .before .before .before .before .before .before .before .pre .2, omega (arith, c .before .before .before .before .before .collect .kept .1 .1 .1 .1 .1 .1 .1 .0, c .before .before .before .before .before .before .before .before .before .before .before .before .before .before .before .before .pre .3), c .before .before .before .before .before .before .before .before .before .before .before .before .before .before .before .before .pre .4, c .before .before .before .before .before .before .before .before .before .before .before .before .before .before .before .before .pre .6, omega (arith, small (c .before .before .before .before .before .before .before .before .before .before .before .before .before .before .before .before)))
 
--- src/lib.rt:50:1
 same-length : tie.Need-same-length
 same-length c = search needs
 
--- src/lib.rt:50:1
 same-length-2 : tie.Need-same-length-2
 same-length-2 c = search needs
 
--- src/lib.rt:50:1
 same-length-3 : tie.Need-same-length-3
 same-length-3 c = search needs
 
--- src/lib.rt:50:1
 returns : tie.Need-returns
 returns c = λ past ms vs z r w C. c .before .before .before .before .before .before .tick-at .ensures past ms vs (c .before .before .before .before .before .before .before .before .before .before .before .before .collect .ensures past ms vs _ z (ap (λ (i : ℕ). c .before .before .before .before .before .before .before .before .before .before .before .before .before .before .before .before .before .before .before .before .before .before .before .args .t * i) (c .before .before .before .before .before .before .before .before .before .before .before .before .before .before .before .before .before .before .before .before .before .before .before .pre .7)) r w C) (cells-length (c .before .before .before .before .before .before .before .before .before .before .before .before .before .before .before .before .before .before .before .before .before .before .before .args .n) past r ∙ ap (λ (i : ℕ). i * c .before .before .before .before .before .before .before .before .before .before .before .before .before .before .before .before .before .before .before .before .before .before .before .args .n) z) w
 

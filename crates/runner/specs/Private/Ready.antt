@@ -1,7 +1,7 @@
 -- What the carried words say of the ticks so far, and what a tick's code leaves. For the private functions alone.
 use mathlib.Core.Path.{_≡_}
 use Prim.Native.Nat.{ℕ, suc, _+_, _*_, _-_, _%_, _≤_, _<_}
-use mathlib.Core.Bool.{Bool, true, false, cond}
+use mathlib.Core.Bool.{true, false, cond}
 use mathlib.Core.Logic.{_⊎_}
 use mathlib.Core.List.{List, [], _∷_, _++_, map}
 use mathlib.Core.Option.{Option, none, some}
@@ -14,7 +14,7 @@ use Rattle.table.specs.Plain.{tableOf, rowsIn as accepted}
 use Rattle.table.proofs.Tables.{rowAt}
 use Rattle.runner.specs.declared.ticks.Ticked.{Ticked}
 use Rattle.runner.specs.declared.ticks.Ticked.the-variants as ticked
-use Rattle.runner.specs.Cells.{Cell, absent, present, value, History, back, count, Presence, latest, onGrid}
+use Rattle.runner.specs.Cells.{Cell, absent, present, value, History, back, count, latest, onGrid}
 use Rattle.runner.specs.Operators.{valueOr}
 use Rattle.runner.specs.Runs.{Tick, Ticks, history, inputs, TickEnd, filled, stopped, Ran, cells, trace}
 use Rattle.runner.specs.Answers.{markByte, ranAnswer}

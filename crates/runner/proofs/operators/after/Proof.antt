@@ -1,64 +1,49 @@
-use Rattle.runner.proofs.Words.{unchanged, first, second, all}
-use borrow.Author.Tests.{eq-eqb, ne-eqb, lt-ltb, le-ltb, le-leb, lt-leb}
+-- `after` meets its contract. Assumes nothing.
+use Rattle.runner.proofs.Words.{unchanged, first}
+use borrow.Author.Tests.{eq-eqb, ne-eqb}
 use borrow.Author.Needs.{needs}
 use Rattle.runner.proofs.operators.after.Statement.{statement}
 use Rattle.runner.proofs.operators.after.Tie as tie
-use Rattle.runner.proofs.operators.after.Reads as reads
-use Rattle.runner.proofs.operators.after.Lts as lts
 
--- src/operators.rt:230:15
 mul-due : tie.Need-mul-due
 mul-due c = search needs
 
--- src/operators.rt:230:15
 slice-read-due : tie.Need-slice-read-due
 slice-read-due c = search needs
 
--- src/operators.rt:232:25
 sub-state : tie.Need-sub-state
 sub-state c = search needs
 
--- src/operators.rt:232:20
 add-state : tie.Need-add-state
 add-state c = search needs
 
--- src/operators.rt:232:9
 mul-state : tie.Need-mul-state
 mul-state c = search needs
 
--- src/operators.rt:232:9
 slice-write-state : tie.Need-slice-write-state
 slice-write-state c = search needs
 
--- src/operators.rt:233:9
 same-length : tie.Need-same-length
 same-length c = search needs
 
--- src/operators.rt:233:9
 returns : tie.Need-returns
 returns c = first (c .before .before .pre .0) (simp (eq-eqb _ _ (c .if1 .taken))) (simp (eq-eqb _ _ (c .if1 .taken)))
 
--- src/operators.rt:236:9
 returns-2 : tie.Need-returns-2
 returns-2 c = unchanged (simp (eq-eqb _ _ (c .if2 .taken), ne-eqb _ _ (c .before .if1 .left))) (simp (eq-eqb _ _ (c .if2 .taken), ne-eqb _ _ (c .before .if1 .left)))
 
--- src/operators.rt:239:9
 mul-state-2 : tie.Need-mul-state-2
 mul-state-2 c = search needs
 
--- src/operators.rt:239:9
 slice-write-state-2 : tie.Need-slice-write-state-2
 slice-write-state-2 c = search needs
 
--- src/operators.rt:226:1
 same-length-2 : tie.Need-same-length-2
 same-length-2 c = search needs
 
--- src/operators.rt:226:1
 returns-3 : tie.Need-returns-3
 returns-3 c = first (c .before .before .before .before .pre .0) (simp (eq-eqb _ _ (c .if3 .taken), ne-eqb _ _ (c .before .if2 .left), ne-eqb _ _ (c .before .before .if1 .left))) (simp (eq-eqb _ _ (c .if3 .taken), ne-eqb _ _ (c .before .if2 .left), ne-eqb _ _ (c .before .before .if1 .left)))
 
--- src/operators.rt:226:1
 returns-4 : tie.Need-returns-4
 returns-4 c = unchanged (simp (ne-eqb _ _ (c .if3 .left), ne-eqb _ _ (c .before .if2 .left), ne-eqb _ _ (c .before .before .if1 .left))) (simp (ne-eqb _ _ (c .if3 .left), ne-eqb _ _ (c .before .if2 .left), ne-eqb _ _ (c .before .before .if1 .left)))
 

@@ -1,37 +1,29 @@
-use Rattle.runner.specs.Operators.{combined, sampled, neither, alone, merged}
+-- `alone` meets its contract. Assumes nothing.
+use Rattle.runner.specs.Operators.{alone}
 use borrow.Author.Needs.{needs}
 use Rattle.runner.proofs.operators.alone.Statement.{statement}
 use Rattle.runner.proofs.operators.alone.Tie as tie
-use Rattle.runner.proofs.operators.alone.Reads as reads
-use Rattle.runner.proofs.operators.alone.Lts as lts
 
--- src/operators.rt:327:27
 enum-told : tie.Need-enum-told
 enum-told c = search needs
 
--- src/operators.rt:328:25
 enum-known-x : tie.Need-enum-known-x
 enum-known-x c = search needs
 
--- src/operators.rt:329:31
 enum-told-2 : tie.Need-enum-told-2
 enum-told-2 c = search needs
 
--- src/operators.rt:330:35
 enum-told-3 : tie.Need-enum-told-3
 enum-told-3 c = search needs
 
--- src/operators.rt:323:1
 returns : tie.Need-returns
 unfolding alone
 returns c = simp (c .enum-told .given .1)
 
--- src/operators.rt:323:1
 returns-2 : tie.Need-returns-2
 unfolding alone
 returns-2 c = simp (c .enum-told2 .given .1, c .before .before .before .x .given .1)
 
--- src/operators.rt:323:1
 returns-3 : tie.Need-returns-3
 unfolding alone
 returns-3 c = simp (c .enum-told3 .given .1, c .before .before .before .x .given .1)

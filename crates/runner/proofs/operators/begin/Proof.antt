@@ -1,65 +1,50 @@
+-- `begin` meets its contract. Assumes nothing.
 use Rattle.runner.proofs.Words.{small, small-sum}
 use Prim.Native.Nat.{_+_}
-use lib.ListN.{length, getD, set, length-set}
-use mathlib.Core.Path.{_≡_, refl, sym, _∙_, ap}
+use lib.ListN.{set, length-set}
+use mathlib.Core.Path.{refl}
 use native.Mathlib.Omega.{arith}
-use Rattle.runner.proofs.Words.{unchanged, first, second, all}
-use borrow.Author.Tests.{eq-eqb, ne-eqb, lt-ltb, le-ltb, le-leb, lt-leb}
+use Rattle.runner.proofs.Words.{all}
 use borrow.Author.Needs.{needs}
 use Rattle.runner.proofs.operators.begin.Statement.{statement}
 use Rattle.runner.proofs.operators.begin.Tie as tie
-use Rattle.runner.proofs.operators.begin.Reads as reads
-use Rattle.runner.proofs.operators.begin.Lts as lts
 
--- src/operators.rt:133:5
 mul-state : tie.Need-mul-state
 mul-state c = search needs
 
--- src/operators.rt:133:5
 slice-write-state : tie.Need-slice-write-state
 slice-write-state c = search needs
 
--- src/operators.rt:134:20
 add-state : tie.Need-add-state
 add-state c = search needs
 
--- src/operators.rt:134:11
 add-state-2 : tie.Need-add-state-2
 add-state-2 c = search needs
 
--- src/operators.rt:134:5
 mul-state-2 : tie.Need-mul-state-2
 mul-state-2 c = search needs
 
--- src/operators.rt:134:5
 slice-write-state-2 : tie.Need-slice-write-state-2
 slice-write-state-2 c = omega (arith, length-set (c .args .state .now) (c .args .i) (c .args .v))
 
--- src/operators.rt:135:24
 mul-state-3 : tie.Need-mul-state-3
 mul-state-3 c = record { fits = small (c .args .k) (c .args .gap) (c .pre .2) (c .pre .3) }
 
--- src/operators.rt:135:20
 add-state-3 : tie.Need-add-state-3
 add-state-3 c = record { fits = small-sum (c .args .t) (c .args .k) (c .args .gap) (c .pre .1) (c .pre .2) (c .pre .3) }
 
--- src/operators.rt:135:11
 add-state-4 : tie.Need-add-state-4
 add-state-4 c = search needs
 
--- src/operators.rt:135:5
 mul-state-4 : tie.Need-mul-state-4
 mul-state-4 c = search needs
 
--- src/operators.rt:135:5
 slice-write-state-3 : tie.Need-slice-write-state-3
 slice-write-state-3 c = omega (arith, length-set (c .args .state .now) (c .args .i) (c .args .v), length-set (set (c .args .state .now) (c .args .i) (c .args .v)) (c .args .i + 1) (c .args .t + c .args .gap))
 
--- src/operators.rt:129:1
 same-length : tie.Need-same-length
 same-length c = search needs
 
--- src/operators.rt:129:1
 returns : tie.Need-returns
 returns c = all (c .pre .0) refl refl
 

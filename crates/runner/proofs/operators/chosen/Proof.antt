@@ -1,26 +1,21 @@
-use Rattle.runner.specs.Operators.{combined, sampled, neither, alone, merged}
-use borrow.Author.Tests.{eq-eqb, ne-eqb, lt-ltb, le-ltb, le-leb, lt-leb}
+-- `chosen` meets its contract. Assumes nothing.
+use Rattle.runner.specs.Operators.{sampled}
+use borrow.Author.Tests.{eq-eqb, ne-eqb}
 use Rattle.runner.proofs.operators.chosen.Statement.{statement}
 use Rattle.runner.proofs.operators.chosen.Tie as tie
-use Rattle.runner.proofs.operators.chosen.Reads as reads
-use Rattle.runner.proofs.operators.chosen.Lts as lts
 
--- src/operators.rt:304:1
 returns : tie.Need-returns
 unfolding sampled
 returns c = simp (eq-eqb _ _ (c .before .if1 .taken), c .if2 .taken)
 
--- src/operators.rt:304:1
 returns-2 : tie.Need-returns-2
 unfolding sampled
 returns-2 c = simp (eq-eqb _ _ (c .before .if1 .taken), c .if2 .left)
 
--- src/operators.rt:304:1
 returns-3 : tie.Need-returns-3
 unfolding sampled
 returns-3 c = simp (ne-eqb _ _ (c .before .if1 .left), c .if3 .taken)
 
--- src/operators.rt:304:1
 returns-4 : tie.Need-returns-4
 unfolding sampled
 returns-4 c = simp (ne-eqb _ _ (c .before .if1 .left), c .if3 .left)

@@ -1,55 +1,42 @@
-use Rattle.runner.specs.Operators.{combined, sampled, neither, alone, merged}
+-- `combined` meets its contract. Assumes nothing.
+use Rattle.runner.specs.Operators.{combined}
 use borrow.Author.Needs.{needs}
 use Rattle.runner.proofs.operators.combined.Statement.{statement}
 use Rattle.runner.proofs.operators.combined.Tie as tie
-use Rattle.runner.proofs.operators.combined.Reads as reads
-use Rattle.runner.proofs.operators.combined.Lts as lts
-use Rattle.runner.proofs.operators.apply.Reads as apply-reads
 
--- src/operators.rt:107:27
 enum-told : tie.Need-enum-told
 enum-told c = search needs
 
--- src/operators.rt:108:31
 enum-told-2 : tie.Need-enum-told-2
 enum-told-2 c = search needs
 
--- src/operators.rt:109:35
 enum-told-3 : tie.Need-enum-told-3
 enum-told-3 c = search needs
 
--- src/operators.rt:111:25
 enum-known-x : tie.Need-enum-known-x
 enum-known-x c = search needs
 
--- src/operators.rt:112:31
 enum-told-4 : tie.Need-enum-told-4
 enum-told-4 c = search needs
 
--- src/operators.rt:113:29
 enum-known-y : tie.Need-enum-known-y
 enum-known-y c = search needs
 
--- src/operators.rt:113:52
 apply-requires : tie.Need-apply-requires
 apply-requires c κs = search needs
 
--- src/operators.rt:103:1
 returns : tie.Need-returns
 unfolding combined
 returns c = simp (c .enum-told2 .given .1, c .before .before .enum-told .given .1)
 
--- src/operators.rt:103:1
 returns-2 : tie.Need-returns-2
 unfolding combined
 returns-2 c = simp (c .enum-told3 .given .1, c .before .before .enum-told .given .1)
 
--- src/operators.rt:103:1
 returns-3 : tie.Need-returns-3
 unfolding combined
 returns-3 c = simp (c .enum-told4 .given .1, c .before .before .before .x .given .1)
 
--- src/operators.rt:103:1
 returns-4 : tie.Need-returns-4
 unfolding combined
 returns-4 c = simp (c .apply .ensures, c .before .before .y .given .1, c .before .before .before .before .before .x .given .1)

@@ -1,40 +1,31 @@
-use Rattle.runner.proofs.Words.{unchanged, first, second, all}
-use borrow.Author.Tests.{eq-eqb, ne-eqb, lt-ltb, le-ltb, le-leb, lt-leb}
+-- `constant` meets its contract. Assumes nothing.
+use Rattle.runner.proofs.Words.{unchanged, first}
+use borrow.Author.Tests.{eq-eqb, ne-eqb}
 use borrow.Author.Needs.{needs}
 use Rattle.runner.proofs.operators.constant.Statement.{statement}
 use Rattle.runner.proofs.operators.constant.Tie as tie
-use Rattle.runner.proofs.operators.constant.Reads as reads
-use Rattle.runner.proofs.operators.constant.Lts as lts
 
--- src/operators.rt:94:13
 mul-if1 : tie.Need-mul-if1
 mul-if1 c = search needs
 
--- src/operators.rt:94:13
 slice-read-if1 : tie.Need-slice-read-if1
 slice-read-if1 c = search needs
 
--- src/operators.rt:95:20
 add-state : tie.Need-add-state
 add-state c = search needs
 
--- src/operators.rt:95:9
 mul-state : tie.Need-mul-state
 mul-state c = search needs
 
--- src/operators.rt:95:9
 slice-write-state : tie.Need-slice-write-state
 slice-write-state c = search needs
 
--- src/operators.rt:90:1
 same-length : tie.Need-same-length
 same-length c = search needs
 
--- src/operators.rt:90:1
 returns : tie.Need-returns
 returns c = first (c .before .before .pre .0) (simp (eq-eqb _ _ (c .if1 .taken))) (simp (eq-eqb _ _ (c .if1 .taken)))
 
--- src/operators.rt:90:1
 returns-2 : tie.Need-returns-2
 returns-2 c = unchanged (simp (ne-eqb _ _ (c .if1 .left))) (simp (ne-eqb _ _ (c .if1 .left)))
 

@@ -1,77 +1,59 @@
+-- `copied` meets its contract. Assumes nothing.
 use Prim.Native.Nat.{_+_}
-use lib.Seq.{getD-set-same, getD-set-other}
-use lib.ListN.{length, getD, set, length-set}
-use mathlib.Core.Path.{_≡_, refl, sym, _∙_, ap}
+use lib.Seq.{getD-set-other}
+use lib.ListN.{length-set}
 use native.Mathlib.Omega.{arith}
-use Rattle.runner.proofs.Words.{unchanged, first, second, all}
-use borrow.Author.Tests.{eq-eqb, ne-eqb, lt-ltb, le-ltb, le-leb, lt-leb}
+use Rattle.runner.proofs.Words.{unchanged, second}
+use borrow.Author.Tests.{eq-eqb, ne-eqb, lt-ltb, le-ltb}
 use borrow.Author.Needs.{needs}
 use Rattle.runner.proofs.operators.copied.Statement.{statement}
 use Rattle.runner.proofs.operators.copied.Tie as tie
-use Rattle.runner.proofs.operators.copied.Reads as reads
-use Rattle.runner.proofs.operators.copied.Lts as lts
 
--- src/operators.rt:144:22
 add-next : tie.Need-add-next
 add-next c = search needs
 
--- src/operators.rt:144:16
 mul-next : tie.Need-mul-next
 mul-next c = search needs
 
--- src/operators.rt:144:16
 slice-read-next : tie.Need-slice-read-next
 slice-read-next c = search needs
 
--- src/operators.rt:145:21
 add-end : tie.Need-add-end
 add-end c = search needs
 
--- src/operators.rt:145:15
 mul-end : tie.Need-mul-end
 mul-end c = search needs
 
--- src/operators.rt:145:15
 slice-read-end : tie.Need-slice-read-end
 slice-read-end c = search needs
 
--- src/operators.rt:148:28
 add-state : tie.Need-add-state
 add-state c = search needs
 
--- src/operators.rt:148:19
 add-state-2 : tie.Need-add-state-2
 add-state-2 c = search needs
 
--- src/operators.rt:148:13
 mul-state : tie.Need-mul-state
 mul-state c = search needs
 
--- src/operators.rt:148:13
 slice-write-state : tie.Need-slice-write-state
 slice-write-state c = search needs
 
--- src/operators.rt:149:30
 mul-t17 : tie.Need-mul-t17
 mul-t17 c = search needs
 
--- src/operators.rt:149:30
 slice-read-t16 : tie.Need-slice-read-t16
 slice-read-t16 c = omega (arith, length-set (c .before .before .before .before .before .args .state .now) (c .before .before .before .before .before .args .i + 1) (c .before .before .before .before .before .args .t + c .before .before .before .before .before .args .gap))
 
--- src/operators.rt:140:1
 same-length : tie.Need-same-length
 same-length c = search needs
 
--- src/operators.rt:140:1
 returns : tie.Need-returns
 returns c = λ k. second (c .before .before .before .before .before .pre .0) (simp (lt-ltb _ _ (c .before .if2 .taken), eq-eqb _ _ (c .before .before .if1 .taken), getD-set-other (c .before .before .before .before .before .args .state .now) (c .before .before .before .before .before .args .i + 1) (c .before .before .before .before .before .args .i) (c .before .before .before .before .before .args .t + c .before .before .before .before .before .args .gap) 0 (λ e. omega (arith, e)))) (simp (lt-ltb _ _ (c .before .if2 .taken), eq-eqb _ _ (c .before .before .if1 .taken)))
 
--- src/operators.rt:140:1
 returns-2 : tie.Need-returns-2
 returns-2 c = λ k. unchanged (simp (le-ltb _ _ (c .if2 .left), eq-eqb _ _ (c .before .if1 .taken))) (simp (le-ltb _ _ (c .if2 .left), eq-eqb _ _ (c .before .if1 .taken)))
 
--- src/operators.rt:140:1
 returns-3 : tie.Need-returns-3
 returns-3 c = λ k. unchanged (simp (ne-eqb _ _ (c .if1 .left))) (simp (ne-eqb _ _ (c .if1 .left)))
 

@@ -1,70 +1,52 @@
-use Rattle.runner.proofs.Words.{unchanged, first, second, all}
-use borrow.Author.Tests.{eq-eqb, ne-eqb, lt-ltb, le-ltb, le-leb, lt-leb}
+-- `faster` meets its contract. Assumes nothing.
+use Rattle.runner.proofs.Words.{unchanged}
+use borrow.Author.Tests.{eq-eqb, ne-eqb}
 use borrow.Author.Needs.{needs}
 use Rattle.runner.proofs.operators.faster.Statement.{statement}
 use Rattle.runner.proofs.operators.faster.Tie as tie
-use Rattle.runner.proofs.operators.faster.Reads as reads
-use Rattle.runner.proofs.operators.faster.Lts as lts
-use Rattle.runner.proofs.operators.begin.Reads as begin-reads
-use Rattle.runner.proofs.operators.copied.Reads as copied-reads
 
--- src/operators.rt:164:42
 enum-told : tie.Need-enum-told
 enum-told c = search needs
 
--- src/operators.rt:164:27
 copied-requires : tie.Need-copied-requires
 copied-requires c κs = search needs
 
--- src/operators.rt:165:25
 enum-known-a : tie.Need-enum-known-a
 enum-known-a c = search needs
 
--- src/operators.rt:166:29
 add-end : tie.Need-add-end
 add-end c = search needs
 
--- src/operators.rt:166:23
 mul-end : tie.Need-mul-end
 mul-end c = search needs
 
--- src/operators.rt:166:23
 slice-read-end : tie.Need-slice-read-end
 slice-read-end c = search needs
 
--- src/operators.rt:168:17
 begin-requires : tie.Need-begin-requires
 begin-requires c κs = search needs
 
--- src/operators.rt:171:21
 begin-requires-2 : tie.Need-begin-requires-2
 begin-requires-2 c κs = search needs
 
--- src/operators.rt:159:1
 same-length : tie.Need-same-length
 same-length c = search needs
 
--- src/operators.rt:159:1
 returns : tie.Need-returns
 returns c = simp (c .before .before .before .before .enum-told .given .1) (c .before .before .copied .ensures (c .before .before .before .before .before .before .before .args .k))
 
--- src/operators.rt:159:1
 same-length-2 : tie.Need-same-length-2
 same-length-2 c = search needs
 
--- src/operators.rt:159:1
 returns-2 : tie.Need-returns-2
 returns-2 c = simp (c .before .before .before .before .before .before .before .a .given .1, eq-eqb _ _ (c .before .before .before .before .if1 .taken)) (c .before .before .begin .ensures)
 
--- src/operators.rt:159:1
 same-length-3 : tie.Need-same-length-3
 same-length-3 c = search needs
 
--- src/operators.rt:159:1
 returns-3 : tie.Need-returns-3
 returns-3 c = simp (c .before .before .before .before .before .before .before .before .a .given .1, eq-eqb _ _ (c .before .before .before .before .if2 .taken), ne-eqb _ _ (c .before .before .before .before .before .if1 .left)) (c .before .before .begin2 .ensures)
 
--- src/operators.rt:159:1
 returns-4 : tie.Need-returns-4
 returns-4 c = unchanged (simp (c .before .before .before .before .a .given .1, ne-eqb _ _ (c .if2 .left), ne-eqb _ _ (c .before .if1 .left))) (simp (c .before .before .before .before .a .given .1, ne-eqb _ _ (c .if2 .left), ne-eqb _ _ (c .before .if1 .left)))
 

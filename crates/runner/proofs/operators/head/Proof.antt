@@ -1,41 +1,31 @@
-use Rattle.runner.proofs.Words.{unchanged, first, second, all}
-use borrow.Author.Tests.{eq-eqb, ne-eqb, lt-ltb, le-ltb, le-leb, lt-leb}
+-- `head` meets its contract. Assumes nothing.
+use Rattle.runner.proofs.Words.{unchanged}
+use borrow.Author.Tests.{eq-eqb, ne-eqb, le-leb, lt-leb}
 use borrow.Author.Needs.{needs}
 use Rattle.runner.proofs.operators.head.Statement.{statement}
 use Rattle.runner.proofs.operators.head.Tie as tie
-use Rattle.runner.proofs.operators.head.Reads as reads
-use Rattle.runner.proofs.operators.head.Lts as lts
-use Rattle.runner.proofs.operators.after.Reads as after-reads
 
--- src/operators.rt:253:16
 enum-told : tie.Need-enum-told
 enum-told c = search needs
 
--- src/operators.rt:259:25
 enum-known-a : tie.Need-enum-known-a
 enum-known-a c = search needs
 
--- src/operators.rt:263:17
 after-requires : tie.Need-after-requires
 after-requires c κs = search needs
 
--- src/operators.rt:247:1
 returns : tie.Need-returns
 returns c = unchanged (simp (eq-eqb _ _ (c .if1 .taken), c .before .enum-told .given .1)) (simp (c .before .enum-told .given .1))
 
--- src/operators.rt:247:1
 returns-2 : tie.Need-returns-2
 returns-2 c = unchanged (simp (ne-eqb _ _ (c .if1 .left), c .before .enum-told .given .1)) (simp (c .before .enum-told .given .1))
 
--- src/operators.rt:247:1
 returns-3 : tie.Need-returns-3
 returns-3 c = unchanged (simp (le-leb _ _ (c .if2 .taken), c .before .before .a .given .1)) (simp (le-leb _ _ (c .if2 .taken), c .before .before .a .given .1))
 
--- src/operators.rt:247:1
 same-length : tie.Need-same-length
 same-length c = search needs
 
--- src/operators.rt:247:1
 returns-4 : tie.Need-returns-4
 returns-4 c = simp (lt-leb _ _ (c .before .before .before .before .if2 .left), c .before .before .before .before .before .before .a .given .1) (c .before .before .after .ensures)
 

@@ -1,67 +1,51 @@
+-- `input` meets its contract. Assumes nothing.
 use Prim.Native.Nat.{_+_}
 use native.Mathlib.Omega.{arith}
-use Rattle.runner.proofs.Words.{unchanged, first, second, all}
-use borrow.Author.Tests.{eq-eqb, ne-eqb, lt-ltb, le-ltb, le-leb, lt-leb}
+use Rattle.runner.proofs.Words.{unchanged, first}
+use borrow.Author.Tests.{eq-eqb, ne-eqb}
 use borrow.Author.Needs.{needs}
 use Rattle.runner.proofs.operators.input.Statement.{statement}
 use Rattle.runner.proofs.operators.input.Tie as tie
-use Rattle.runner.proofs.operators.input.Reads as reads
-use Rattle.runner.proofs.operators.input.Lts as lts
-use Rattle.runner.proofs.operators.word_at.Reads as word-at-reads
 
--- src/operators.rt:80:13
 mul-if1 : tie.Need-mul-if1
 mul-if1 c = search needs
 
--- src/operators.rt:80:13
 slice-read-if1 : tie.Need-slice-read-if1
 slice-read-if1 c = search needs
 
--- src/operators.rt:81:23
 add-k : tie.Need-add-k
 add-k c = search needs
 
--- src/operators.rt:81:17
 mul-k : tie.Need-mul-k
 mul-k c = search needs
 
--- src/operators.rt:81:17
 slice-read-k : tie.Need-slice-read-k
 slice-read-k c = search needs
 
--- src/operators.rt:81:17
 cast-k : tie.Need-cast-k
 cast-k c = omega (arith, c .slice-known3 .given (c .before .before .before .before .before .args .i + 1))
 
--- src/operators.rt:82:20
 add-state : tie.Need-add-state
 add-state c = search needs
 
--- src/operators.rt:82:9
 mul-state : tie.Need-mul-state
 mul-state c = search needs
 
--- src/operators.rt:82:9
 slice-write-state : tie.Need-slice-write-state
 slice-write-state c = search needs
 
--- src/operators.rt:83:39
 add-word-at : tie.Need-add-word-at
 add-word-at c = omega (arith, c .slice-known3 .given (c .before .before .before .before .before .args .i + 1))
 
--- src/operators.rt:83:26
 word-at-requires : tie.Need-word-at-requires
 word-at-requires c κs = search needs
 
--- src/operators.rt:69:1
 same-length : tie.Need-same-length
 same-length c = search needs
 
--- src/operators.rt:69:1
 returns : tie.Need-returns
 returns c = first (c .before .before .before .before .before .before .pre .0) (simp (eq-eqb _ _ (c .before .before .if1 .taken), c .word-at .ensures)) (simp (eq-eqb _ _ (c .before .before .if1 .taken)))
 
--- src/operators.rt:69:1
 returns-2 : tie.Need-returns-2
 returns-2 c = unchanged (simp (ne-eqb _ _ (c .if1 .left))) (simp (ne-eqb _ _ (c .if1 .left)))
 

@@ -1,44 +1,33 @@
-use borrow.Author.Tests.{eq-eqb, ne-eqb, lt-ltb, le-ltb, le-leb, lt-leb}
+-- `later` meets its contract. Assumes nothing.
+use borrow.Author.Tests.{eq-eqb, ne-eqb}
 use borrow.Author.Needs.{needs}
 use Rattle.runner.proofs.operators.later.Statement.{statement}
 use Rattle.runner.proofs.operators.later.Tie as tie
-use Rattle.runner.proofs.operators.later.Reads as reads
-use Rattle.runner.proofs.operators.later.Lts as lts
-use Rattle.runner.proofs.operators.same.Reads as same-reads
 
--- src/operators.rt:216:9
 same-requires : tie.Need-same-requires
 same-requires c κs = search needs
 
--- src/operators.rt:216:9
 returns : tie.Need-returns
 returns c = simp (c .same .ensures, eq-eqb _ _ (c .before .if1 .taken))
 
--- src/operators.rt:218:8
 mul-if2 : tie.Need-mul-if2
 mul-if2 c = search needs
 
--- src/operators.rt:218:8
 shared-slice-read-if2 : tie.Need-shared-slice-read-if2
 shared-slice-read-if2 c = search needs
 
--- src/operators.rt:221:32
 add-t10 : tie.Need-add-t10
 add-t10 c = search needs
 
--- src/operators.rt:221:26
 mul-t11 : tie.Need-mul-t11
 mul-t11 c = search needs
 
--- src/operators.rt:221:26
 shared-slice-read-t13 : tie.Need-shared-slice-read-t13
 shared-slice-read-t13 c = search needs
 
--- src/operators.rt:211:1
 returns-2 : tie.Need-returns-2
 returns-2 c = simp (eq-eqb _ _ (c .if2 .taken), ne-eqb _ _ (c .before .before .if1 .left))
 
--- src/operators.rt:211:1
 returns-3 : tie.Need-returns-3
 returns-3 c = simp (ne-eqb _ _ (c .before .if2 .left), ne-eqb _ _ (c .before .before .before .if1 .left))
 

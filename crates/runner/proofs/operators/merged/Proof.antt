@@ -1,44 +1,33 @@
-use Rattle.runner.specs.Operators.{combined, sampled, neither, alone, merged}
-use borrow.Author.Tests.{eq-eqb, ne-eqb, lt-ltb, le-ltb, le-leb, lt-leb}
+-- `merged` meets its contract. Assumes nothing.
+use Rattle.runner.specs.Operators.{neither, alone, merged}
+use borrow.Author.Tests.{eq-eqb, ne-eqb}
 use borrow.Author.Needs.{needs}
 use Rattle.runner.proofs.operators.merged.Statement.{statement}
 use Rattle.runner.proofs.operators.merged.Tie as tie
-use Rattle.runner.proofs.operators.merged.Reads as reads
-use Rattle.runner.proofs.operators.merged.Lts as lts
-use Rattle.runner.proofs.operators.alone.Reads as alone-reads
-use Rattle.runner.proofs.operators.neither.Reads as neither-reads
 
--- src/operators.rt:353:27
 enum-told : tie.Need-enum-told
 enum-told c = search needs
 
--- src/operators.rt:353:27
 neither-requires : tie.Need-neither-requires
 neither-requires c κs = search needs
 
--- src/operators.rt:354:25
 enum-known-c : tie.Need-enum-known-c
 enum-known-c c = search needs
 
--- src/operators.rt:354:45
 alone-requires : tie.Need-alone-requires
 alone-requires c κs = search needs
 
--- src/operators.rt:354:66
 alone-requires-2 : tie.Need-alone-requires-2
 alone-requires-2 c κs = search needs
 
--- src/operators.rt:349:1
 returns : tie.Need-returns
 unfolding merged
 returns c = simp (c .before .enum-told .given .1) (c .neither .ensures)
 
--- src/operators.rt:349:1
 returns-2 : tie.Need-returns-2
 unfolding merged
 returns-2 c = simp (c .before .before .before .c .given .1, eq-eqb _ _ (c .before .if1 .taken)) (c .alone .ensures)
 
--- src/operators.rt:349:1
 returns-3 : tie.Need-returns-3
 unfolding merged
 returns-3 c = simp (c .before .before .before .c .given .1, ne-eqb _ _ (c .before .if1 .left)) (c .alone2 .ensures)

@@ -1,22 +1,17 @@
+-- `same` meets its contract. Assumes nothing.
 use borrow.Author.Needs.{needs}
 use Rattle.runner.proofs.operators.same.Statement.{statement}
 use Rattle.runner.proofs.operators.same.Tie as tie
-use Rattle.runner.proofs.operators.same.Reads as reads
-use Rattle.runner.proofs.operators.same.Lts as lts
 
--- src/operators.rt:205:27
 enum-told : tie.Need-enum-told
 enum-told c = search needs
 
--- src/operators.rt:206:25
 enum-known-a : tie.Need-enum-known-a
 enum-known-a c = search needs
 
--- src/operators.rt:201:1
 returns : tie.Need-returns
 returns c = simp (c .enum-told .given .1)
 
--- src/operators.rt:201:1
 returns-2 : tie.Need-returns-2
 returns-2 c = simp (c .before .a .given .1)
 

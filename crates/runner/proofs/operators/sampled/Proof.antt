@@ -1,55 +1,42 @@
-use Rattle.runner.specs.Operators.{combined, sampled, neither, alone, merged}
+-- `sampled` meets its contract. Assumes nothing.
+use Rattle.runner.specs.Operators.{sampled}
 use borrow.Author.Needs.{needs}
 use Rattle.runner.proofs.operators.sampled.Statement.{statement}
 use Rattle.runner.proofs.operators.sampled.Tie as tie
-use Rattle.runner.proofs.operators.sampled.Reads as reads
-use Rattle.runner.proofs.operators.sampled.Lts as lts
-use Rattle.runner.proofs.operators.chosen.Reads as chosen-reads
 
--- src/operators.rt:292:27
 enum-told : tie.Need-enum-told
 enum-told c = search needs
 
--- src/operators.rt:293:31
 enum-told-2 : tie.Need-enum-told-2
 enum-told-2 c = search needs
 
--- src/operators.rt:294:35
 enum-told-3 : tie.Need-enum-told-3
 enum-told-3 c = search needs
 
--- src/operators.rt:296:25
 enum-known-a : tie.Need-enum-known-a
 enum-known-a c = search needs
 
--- src/operators.rt:297:31
 enum-told-4 : tie.Need-enum-told-4
 enum-told-4 c = search needs
 
--- src/operators.rt:298:29
 enum-known-c : tie.Need-enum-known-c
 enum-known-c c = search needs
 
--- src/operators.rt:298:35
 chosen-requires : tie.Need-chosen-requires
 chosen-requires c κs = search needs
 
--- src/operators.rt:288:1
 returns : tie.Need-returns
 unfolding sampled
 returns c = simp (c .enum-told2 .given .1, c .before .before .enum-told .given .1)
 
--- src/operators.rt:288:1
 returns-2 : tie.Need-returns-2
 unfolding sampled
 returns-2 c = simp (c .enum-told3 .given .1, c .before .before .enum-told .given .1)
 
--- src/operators.rt:288:1
 returns-3 : tie.Need-returns-3
 unfolding sampled
 returns-3 c = simp (c .enum-told4 .given .1, c .before .before .before .a .given .1)
 
--- src/operators.rt:288:1
 returns-4 : tie.Need-returns-4
 returns-4 c = simp (c .before .before .c .given .1, c .before .before .before .before .before .a .given .1) (c .chosen .ensures)
 

@@ -1,68 +1,52 @@
-use Rattle.runner.proofs.Words.{unchanged, first, second, all}
-use borrow.Author.Tests.{eq-eqb, ne-eqb, lt-ltb, le-ltb, le-leb, lt-leb}
+-- `slower` meets its contract. Assumes nothing.
+use Rattle.runner.proofs.Words.{unchanged, first}
+use borrow.Author.Tests.{eq-eqb, ne-eqb}
 use borrow.Author.Needs.{needs}
 use Rattle.runner.proofs.operators.slower.Statement.{statement}
 use Rattle.runner.proofs.operators.slower.Tie as tie
-use Rattle.runner.proofs.operators.slower.Reads as reads
-use Rattle.runner.proofs.operators.slower.Lts as lts
 
--- src/operators.rt:186:27
 enum-told : tie.Need-enum-told
 enum-told c = search needs
 
--- src/operators.rt:187:25
 enum-known-a : tie.Need-enum-known-a
 enum-known-a c = search needs
 
--- src/operators.rt:188:24
 mul-left : tie.Need-mul-left
 mul-left c = search needs
 
--- src/operators.rt:188:24
 slice-read-left : tie.Need-slice-read-left
 slice-read-left c = search needs
 
--- src/operators.rt:190:28
 sub-state : tie.Need-sub-state
 sub-state c = search needs
 
--- src/operators.rt:190:17
 mul-state : tie.Need-mul-state
 mul-state c = search needs
 
--- src/operators.rt:190:17
 slice-write-state : tie.Need-slice-write-state
 slice-write-state c = search needs
 
--- src/operators.rt:193:28
 sub-state-2 : tie.Need-sub-state-2
 sub-state-2 c = search needs
 
--- src/operators.rt:193:17
 mul-state-2 : tie.Need-mul-state-2
 mul-state-2 c = search needs
 
--- src/operators.rt:193:17
 slice-write-state-2 : tie.Need-slice-write-state-2
 slice-write-state-2 c = search needs
 
--- src/operators.rt:181:1
 returns : tie.Need-returns
 returns c = unchanged (simp (c .enum-told .given .1)) (simp (c .enum-told .given .1))
 
--- src/operators.rt:181:1
 same-length : tie.Need-same-length
 same-length c = search needs
 
--- src/operators.rt:181:1
 returns-2 : tie.Need-returns-2
 returns-2 c = first (c .before .before .before .before .before .pre .0) (simp (eq-eqb _ _ (c .if1 .taken), c .before .before .before .a .given .1)) (simp (eq-eqb _ _ (c .if1 .taken), c .before .before .before .a .given .1))
 
--- src/operators.rt:181:1
 same-length-2 : tie.Need-same-length-2
 same-length-2 c = search needs
 
--- src/operators.rt:181:1
 returns-3 : tie.Need-returns-3
 returns-3 c = first (c .before .before .before .before .before .pre .0) (simp (ne-eqb _ _ (c .if1 .left), c .before .before .before .a .given .1)) (simp (ne-eqb _ _ (c .if1 .left), c .before .before .before .a .given .1))
 

@@ -1,48 +1,37 @@
-use Rattle.runner.proofs.Words.{unchanged, first, second, all}
-use borrow.Author.Tests.{eq-eqb, ne-eqb, lt-ltb, le-ltb, le-leb, lt-leb}
+-- `tail` meets its contract. Assumes nothing.
+use Rattle.runner.proofs.Words.{unchanged, first}
+use borrow.Author.Tests.{eq-eqb, ne-eqb}
 use borrow.Author.Needs.{needs}
 use Rattle.runner.proofs.operators.tail.Statement.{statement}
 use Rattle.runner.proofs.operators.tail.Tie as tie
-use Rattle.runner.proofs.operators.tail.Reads as reads
-use Rattle.runner.proofs.operators.tail.Lts as lts
 
--- src/operators.rt:275:27
 enum-told : tie.Need-enum-told
 enum-told c = search needs
 
--- src/operators.rt:276:25
 enum-known-a : tie.Need-enum-known-a
 enum-known-a c = search needs
 
--- src/operators.rt:277:16
 mul-if1 : tie.Need-mul-if1
 mul-if1 c = search needs
 
--- src/operators.rt:277:16
 slice-read-if1 : tie.Need-slice-read-if1
 slice-read-if1 c = search needs
 
--- src/operators.rt:278:17
 mul-state : tie.Need-mul-state
 mul-state c = search needs
 
--- src/operators.rt:278:17
 slice-write-state : tie.Need-slice-write-state
 slice-write-state c = search needs
 
--- src/operators.rt:270:1
 returns : tie.Need-returns
 returns c = unchanged (simp (c .enum-told .given .1)) (simp (c .enum-told .given .1))
 
--- src/operators.rt:270:1
 same-length : tie.Need-same-length
 same-length c = search needs
 
--- src/operators.rt:270:1
 returns-2 : tie.Need-returns-2
 returns-2 c = first (c .before .before .before .before .before .pre) (simp (eq-eqb _ _ (c .if1 .taken), c .before .before .before .a .given .1)) (simp (eq-eqb _ _ (c .if1 .taken), c .before .before .before .a .given .1))
 
--- src/operators.rt:270:1
 returns-3 : tie.Need-returns-3
 returns-3 c = unchanged (simp (ne-eqb _ _ (c .if1 .left), c .before .before .before .a .given .1)) (simp (ne-eqb _ _ (c .if1 .left), c .before .before .before .a .given .1))
 

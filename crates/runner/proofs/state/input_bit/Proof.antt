@@ -1,14 +1,11 @@
-use borrow.Author.Tests.{eq-eqb, ne-eqb, le-leb, lt-leb}
+-- `input_bit` meets its contract. Assumes nothing.
+use borrow.Author.Tests.{eq-eqb, ne-eqb}
 use Rattle.runner.proofs.state.input_bit.Statement.{statement}
 use Rattle.runner.proofs.state.input_bit.Tie as tie
-use Rattle.runner.proofs.state.input_bit.Reads as reads
-use Rattle.runner.proofs.state.input_bit.Lts as lts
 
--- src/state.rt:67:1
 returns : tie.Need-returns
 returns c = simp (eq-eqb _ _ (c .if1 .taken))
 
--- src/state.rt:67:1
 returns-2 : tie.Need-returns-2
 returns-2 c = simp (ne-eqb _ _ (c .if1 .left))
 

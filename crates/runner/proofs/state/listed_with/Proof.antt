@@ -1,48 +1,37 @@
-use mathlib.Core.Path.{_≡_, refl, sym, _∙_, ap, subst}
-use borrow.Author.Tests.{eq-eqb, ne-eqb, le-leb, lt-leb}
+-- `listed_with` meets its contract. Assumes nothing.
+use mathlib.Core.Path.{refl}
+use borrow.Author.Tests.{eq-eqb, ne-eqb}
 use borrow.Author.Needs.{needs}
 use Rattle.runner.proofs.state.listed_with.Statement.{statement}
 use Rattle.runner.proofs.state.listed_with.Tie as tie
-use Rattle.runner.proofs.state.listed_with.Reads as reads
-use Rattle.runner.proofs.state.listed_with.Lts as lts
 
--- src/state.rt:23:14
 mul-if1 : tie.Need-mul-if1
 mul-if1 c = search needs
 
--- src/state.rt:23:8
 mul-if1-2 : tie.Need-mul-if1-2
 mul-if1-2 c = search needs
 
--- src/state.rt:23:8
 shared-slice-read-if1 : tie.Need-shared-slice-read-if1
 shared-slice-read-if1 c = search needs
 
--- src/state.rt:24:23
 cast-list : tie.Need-cast-list
 cast-list c = search needs
 
--- src/state.rt:24:9
 mul-list : tie.Need-mul-list
 mul-list c = search needs
 
--- src/state.rt:24:9
 slice-write-list : tie.Need-slice-write-list
 slice-write-list c = search needs
 
--- src/state.rt:25:9
 add-result : tie.Need-add-result
 add-result c = search needs
 
--- src/state.rt:13:1
 same-length : tie.Need-same-length
 same-length c = search needs
 
--- src/state.rt:13:1
 returns : tie.Need-returns
 returns c = simp (eq-eqb _ _ (c .if1 .taken)) (refl, refl)
 
--- src/state.rt:13:1
 returns-2 : tie.Need-returns-2
 returns-2 c = simp (ne-eqb _ _ (c .if1 .left)) (refl, refl)
 

@@ -1,3 +1,4 @@
+-- `start` meets its contract. Assumes nothing.
 use Rattle.runner.proofs.Starting.{Starting, starts, goes-on, ends}
 use Rattle.runner.proofs.Tabled.{plain-table}
 use Rattle.runner.specs.Private.Ready.{rowsIn}
@@ -5,15 +6,11 @@ use Rattle.table.proofs.Tables.{Table}
 use lib.Dec.{eqb}
 use lib.ListN.{length, getD, length-replicate}
 use mathlib.Core.Bool.{Bool, true, false, cond}
-use Prim.Native.Nat.{ℕ, _+_, _*_, _-_, _≤_, _<_}
-use mathlib.Core.Path.{_≡_, refl, sym, _∙_, ap, subst}
+use Prim.Native.Nat.{ℕ, _+_, _*_, _-_, _≤_}
+use mathlib.Core.Path.{_≡_, sym, _∙_, ap}
 use native.Mathlib.Omega.{arith}
 use Rattle.runner.proofs.state.start.Statement.{statement}
 use Rattle.runner.proofs.state.start.Tie as tie
-use Rattle.runner.proofs.state.start.Reads as reads
-use Rattle.runner.proofs.state.start.Lts as lts
-use Rattle.runner.proofs.state.input_bit.Reads as input-bit-reads
-use Rattle.runner.proofs.state.start_row.Reads as start-row-reads
 
 abbrev Inv-loop : tie.InvT-loop
 Inv-loop n words state₀ f₀ j₀ state f j =
@@ -29,99 +26,75 @@ bit-low : (b : Bool) → cond b 1 0 ≤ 1
 bit-low true = omega arith
 bit-low false = omega arith
 
--- src/state.rt:80:5
 loop-holds : tie.Need-loop-holds Inv-loop μ-loop
 loop-holds c = let T = table-at (c .before .before) in (omega arith, T .few, T .words-size, ap length (c .before .before .pre .1) ∙ length-replicate {A = ℕ} 256 0, omega arith, starts (c .before .before .args .n) (c .before .before .args .words .now) _ T (c .before .before .args .state .now) (c .before .before .pre .1))
 
--- src/state.rt:81:26
 mul-kind : tie.Need-mul-kind Inv-loop μ-loop
 mul-kind c = omega arith
 
--- src/state.rt:81:20
 mul-kind-2 : tie.Need-mul-kind-2 Inv-loop μ-loop
 mul-kind-2 c = omega arith
 
--- src/state.rt:81:20
 shared-slice-read-kind : tie.Need-shared-slice-read-kind Inv-loop μ-loop
 shared-slice-read-kind c = omega arith
 
--- src/state.rt:84:19
 mul-start-row : tie.Need-mul-start-row Inv-loop μ-loop
 mul-start-row c = omega arith
 
--- src/state.rt:84:19
 add-start-row : tie.Need-add-start-row Inv-loop μ-loop
 add-start-row c = omega arith
 
--- src/state.rt:84:13
 mul-start-row-2 : tie.Need-mul-start-row-2 Inv-loop μ-loop
 mul-start-row-2 c = omega arith
 
--- src/state.rt:84:13
 shared-slice-read-start-row : tie.Need-shared-slice-read-start-row Inv-loop μ-loop
 shared-slice-read-start-row c = omega arith
 
--- src/state.rt:85:19
 mul-start-row-3 : tie.Need-mul-start-row-3 Inv-loop μ-loop
 mul-start-row-3 c = omega arith
 
--- src/state.rt:85:19
 add-start-row-2 : tie.Need-add-start-row-2 Inv-loop μ-loop
 add-start-row-2 c = omega arith
 
--- src/state.rt:85:13
 mul-start-row-4 : tie.Need-mul-start-row-4 Inv-loop μ-loop
 mul-start-row-4 c = omega arith
 
--- src/state.rt:85:13
 shared-slice-read-start-row-2 : tie.Need-shared-slice-read-start-row-2 Inv-loop μ-loop
 shared-slice-read-start-row-2 c = omega arith
 
--- src/state.rt:86:19
 mul-start-row-5 : tie.Need-mul-start-row-5 Inv-loop μ-loop
 mul-start-row-5 c = omega arith
 
--- src/state.rt:86:19
 add-start-row-3 : tie.Need-add-start-row-3 Inv-loop μ-loop
 add-start-row-3 c = omega arith
 
--- src/state.rt:86:13
 mul-start-row-6 : tie.Need-mul-start-row-6 Inv-loop μ-loop
 mul-start-row-6 c = omega arith
 
--- src/state.rt:86:13
 shared-slice-read-start-row-3 : tie.Need-shared-slice-read-start-row-3 Inv-loop μ-loop
 shared-slice-read-start-row-3 c = omega arith
 
--- src/state.rt:82:9
 start-row-requires : tie.Need-start-row-requires Inv-loop μ-loop
 start-row-requires c κs = (omega (arith, c .before .before .before .before .before .loop-test .taken), c .before .before .before .before .before .before .loop .inv .3)
 
--- src/state.rt:91:17
 input-bit-requires : tie.Need-input-bit-requires Inv-loop μ-loop
 input-bit-requires c κs = tt
 
--- src/state.rt:91:13
 add-j : tie.Need-add-j Inv-loop μ-loop
 add-j c = omega (arith, c .input-bit .ensures, bit-low (eqb (getD (c .before .before .before .before .before .before .before .before .before .before .before .before .before .args .words .now) (4 * c .before .before .before .before .before .before .before .before .before .before .loop .f) 0) 0), c .before .before .before .before .before .before .before .before .before .before .loop .inv .4, c .before .before .before .before .before .before .before .before .before .before .loop .inv .1, c .before .before .before .before .before .before .before .before .before .loop-test .taken)
 
--- src/state.rt:92:13
 add-f : tie.Need-add-f Inv-loop μ-loop
 add-f c = omega arith
 
--- src/state.rt:80:5
 loop-less : tie.Need-loop-less Inv-loop μ-loop
 loop-less c = omega (arith, c .before .before .before .before .before .before .before .before .before .loop-test .taken)
 
--- src/state.rt:80:5
 loop-again : tie.Need-loop-again Inv-loop μ-loop
 loop-again c = (omega (arith, c .before .before .before .before .before .before .before .before .before .loop-test .taken), c .before .before .before .before .before .before .before .before .before .before .loop .inv .1, c .before .before .before .before .before .before .before .before .before .before .loop .inv .2, omega (arith, c .before .before .before .start-row .kept .1 .1 .1 .1 .1 .1 .0, c .before .before .before .before .before .before .before .before .before .before .loop .inv .3), omega (arith, c .input-bit .ensures, bit-low (eqb (getD (c .before .before .before .before .before .before .before .before .before .before .before .before .before .args .words .now) (4 * c .before .before .before .before .before .before .before .before .before .before .loop .f) 0) 0), c .before .before .before .before .before .before .before .before .before .before .loop .inv .4), goes-on (c .before .before .before .before .before .before .before .before .before .before .before .before .before .args .n) (c .before .before .before .before .before .before .before .before .before .before .before .before .before .args .words .now) _ (table-at (c .before .before .before .before .before .before .before .before .before .before .before .before .before)) (c .before .before .before .before .before .before .before .before .before .before .loop .state) _ (c .before .before .before .before .before .before .before .before .before .before .loop .f) (c .before .before .before .before .before .before .before .before .before .before .loop .j) _ (c .before .before .before .before .before .before .before .before .before .loop-test .taken) (c .before .before .before .before .before .before .before .before .before .before .loop .inv .5) (c .before .before .before .start-row .ensures) (ap (λ (i : ℕ). c .before .before .before .before .before .before .before .before .before .before .loop .j + i) (c .input-bit .ensures)))
 
--- src/state.rt:74:1
 same-length : tie.Need-same-length Inv-loop μ-loop
 same-length c = c .before .loop .inv .3 ∙ sym (ap length (c .before .before .before .before .pre .1) ∙ length-replicate {A = ℕ} 256 0)
 
--- src/state.rt:74:1
 returns : tie.Need-returns Inv-loop μ-loop
 returns c = ends (c .before .before .before .before .args .n) (c .before .before .before .before .args .words .now) _ (table-at (c .before .before .before .before)) (c .before .loop .state) (c .before .loop .f) (c .before .loop .j) (c .loop-test .left) (c .before .loop .inv .0) (c .before .loop .inv .5)
 

@@ -1,10 +1,10 @@
 -- `flows` meets its contract. The invariant: the cells so far stand in the parts, each row below carries its words on, and what is left to do is
 -- the whole tick. Assumes nothing.
 use mathlib.Core.Path.{_≡_, refl, sym, _∙_, ap, subst}
-use Prim.Native.Nat.{ℕ, _+_, _*_, _-_, _≤_, _<_}
+use Prim.Native.Nat.{_*_, _-_, _≤_}
 use native.Mathlib.Omega.{arith}
 use borrow.Author.Needs.{needs}
-use lib.ListN.{length, getD, set, length-set}
+use lib.ListN.{length}
 use Rattle.table.proofs.Tables.{Fits, Table}
 use Rattle.runner.specs.Runs.{Ticks}
 use Rattle.runner.specs.Private.Carried.{stepIs}
@@ -13,10 +13,6 @@ use Rattle.runner.proofs.Tabled.{plain-table, row-of}
 use Rattle.runner.proofs.Flowing.{Going, starts, ends, stops, goes-on}
 use Rattle.runner.proofs.ticks.flows.Statement.{statement}
 use Rattle.runner.proofs.ticks.flows.Tie as tie
-use Rattle.runner.proofs.ticks.flows.Reads as reads
-use Rattle.runner.proofs.ticks.flows.Lts as lts
-use Rattle.runner.proofs.ticks.outcome.Reads as outcome-reads
-use Rattle.runner.proofs.ticks.put.Reads as put-reads
 
 abbrev Inv-loop : tie.InvT-loop
 Inv-loop n words log at t state₀ marks₀ values₀ f₀ state marks values f =
@@ -28,119 +24,90 @@ abbrev μ-loop : tie.MeasureT-loop
 table-at : (c : tie.Start Inv-loop μ-loop) → Table (c .args .n) (c .args .words .now) (rowsIn (c .args .n) (c .args .words .now))
 table-at c = plain-table (c .args .n) (c .args .words .now) (c .pre .0)
 
--- src/ticks.rt:108:5
 loop-holds : tie.Need-loop-holds Inv-loop μ-loop
 loop-holds c = (omega arith, table-at (c .before .before .before .before .before) .few, table-at (c .before .before .before .before .before) .words-size, c .before .before .before .before .before .pre .3, refl, refl, λ past R. starts (c .before .before .before .before .before .args .n) (c .before .before .before .before .before .args .words .now) (c .before .before .before .before .before .args .log .now) _ (table-at (c .before .before .before .before .before)) past _ _ _ _ _ R)
 
--- src/ticks.rt:110:19
 mul-outcome : tie.Need-mul-outcome Inv-loop μ-loop
 mul-outcome c = omega arith
 
--- src/ticks.rt:110:13
 mul-outcome-2 : tie.Need-mul-outcome-2 Inv-loop μ-loop
 mul-outcome-2 c = omega arith
 
--- src/ticks.rt:110:13
 shared-slice-read-outcome : tie.Need-shared-slice-read-outcome Inv-loop μ-loop
 shared-slice-read-outcome c = omega arith
 
--- src/ticks.rt:111:19
 mul-outcome-3 : tie.Need-mul-outcome-3 Inv-loop μ-loop
 mul-outcome-3 c = omega arith
 
--- src/ticks.rt:111:19
 add-outcome : tie.Need-add-outcome Inv-loop μ-loop
 add-outcome c = omega arith
 
--- src/ticks.rt:111:13
 mul-outcome-4 : tie.Need-mul-outcome-4 Inv-loop μ-loop
 mul-outcome-4 c = omega arith
 
--- src/ticks.rt:111:13
 shared-slice-read-outcome-2 : tie.Need-shared-slice-read-outcome-2 Inv-loop μ-loop
 shared-slice-read-outcome-2 c = omega arith
 
--- src/ticks.rt:112:19
 mul-outcome-5 : tie.Need-mul-outcome-5 Inv-loop μ-loop
 mul-outcome-5 c = omega arith
 
--- src/ticks.rt:112:19
 add-outcome-2 : tie.Need-add-outcome-2 Inv-loop μ-loop
 add-outcome-2 c = omega arith
 
--- src/ticks.rt:112:13
 mul-outcome-6 : tie.Need-mul-outcome-6 Inv-loop μ-loop
 mul-outcome-6 c = omega arith
 
--- src/ticks.rt:112:13
 shared-slice-read-outcome-3 : tie.Need-shared-slice-read-outcome-3 Inv-loop μ-loop
 shared-slice-read-outcome-3 c = omega arith
 
--- src/ticks.rt:113:19
 mul-outcome-7 : tie.Need-mul-outcome-7 Inv-loop μ-loop
 mul-outcome-7 c = omega arith
 
--- src/ticks.rt:113:19
 add-outcome-3 : tie.Need-add-outcome-3 Inv-loop μ-loop
 add-outcome-3 c = omega arith
 
--- src/ticks.rt:113:13
 mul-outcome-8 : tie.Need-mul-outcome-8 Inv-loop μ-loop
 mul-outcome-8 c = omega arith
 
--- src/ticks.rt:113:13
 shared-slice-read-outcome-4 : tie.Need-shared-slice-read-outcome-4 Inv-loop μ-loop
 shared-slice-read-outcome-4 c = omega arith
 
--- src/ticks.rt:109:13
 outcome-requires : tie.Need-outcome-requires Inv-loop μ-loop
 outcome-requires c κs = let r = row-of (c .before .before .before .before .before .before .before .before .before .before .before .before .before .before .args .n) (c .before .before .before .before .before .before .before .before .before .before .before .before .before .before .args .words .now) _ (table-at (c .before .before .before .before .before .before .before .before .before .before .before .before .before .before)) (c .before .before .before .before .before .before .before .before .loop .f) (c .before .before .before .before .before .before .before .loop-test .taken) in (omega (arith, c .before .before .before .before .before .before .before .before .loop .inv .1, c .before .before .before .before .before .before .before .loop-test .taken), r .known, subst (Fits 64 (c .before .before .before .before .before .before .before .before .loop .f)) (sym (r .made)) (r .fits-64), omega (arith, c .before .before .before .before .before .before .before .before .loop .inv .0, c .before .before .before .before .before .before .before .before .loop .inv .4, c .before .before .before .before .before .before .before .before .before .before .before .before .before .before .pre .1), omega (arith, c .before .before .before .before .before .before .before .before .loop .inv .0, c .before .before .before .before .before .before .before .before .loop .inv .5, c .before .before .before .before .before .before .before .before .before .before .before .before .before .before .pre .2), c .before .before .before .before .before .before .before .before .loop .inv .3, c .before .before .before .before .before .before .before .before .before .before .before .before .before .before .pre .4, c .before .before .before .before .before .before .before .before .before .before .before .before .before .before .pre .5)
 
--- src/ticks.rt:122:20
 add-next : tie.Need-add-next Inv-loop μ-loop
 add-next c = omega (arith, c .before .before .before .before .before .before .before .before .before .before .before .loop .inv .1, c .before .before .before .before .before .before .before .before .before .before .loop-test .taken)
 
--- src/ticks.rt:124:31
 enum-told : tie.Need-enum-told Inv-loop μ-loop
 enum-told c = search needs
 
--- src/ticks.rt:124:31
 same-length : tie.Need-same-length Inv-loop μ-loop
 same-length c = omega (arith, c .before .before .before .before .outcome .kept, c .before .before .before .before .before .before .before .before .before .before .before .before .before .loop .inv .3, c .before .before .before .before .before .before .before .before .before .before .before .before .before .before .before .before .before .before .before .pre .3)
 
--- src/ticks.rt:124:31
 same-length-2 : tie.Need-same-length-2 Inv-loop μ-loop
 same-length-2 c = c .before .before .before .before .before .before .before .before .before .before .before .before .before .loop .inv .4
 
--- src/ticks.rt:124:31
 same-length-3 : tie.Need-same-length-3 Inv-loop μ-loop
 same-length-3 c = c .before .before .before .before .before .before .before .before .before .before .before .before .before .loop .inv .5
 
--- src/ticks.rt:124:31
 returns : tie.Need-returns Inv-loop μ-loop
 returns c = λ past R. stops (c .before .before .before .before .before .before .before .before .before .before .before .before .before .before .before .before .before .before .before .args .n) (c .before .before .before .before .before .before .before .before .before .before .before .before .before .before .before .before .before .before .before .args .words .now) (c .before .before .before .before .before .before .before .before .before .before .before .before .before .before .before .before .before .before .before .args .log .now) _ (table-at (c .before .before .before .before .before .before .before .before .before .before .before .before .before .before .before .before .before .before .before)) past (c .before .before .before .before .before .before .before .before .before .before .before .before .before .before .before .before .before .before .before .args .t) (c .before .before .before .before .before .before .before .before .before .before .before .before .before .before .before .before .before .before .before .args .at) (c .before .before .before .before .before .before .before .before .before .before .before .before .before .before .before .before .before .before .before .args .state .now) (c .before .before .before .before .before .before .before .before .before .before .before .before .before .before .before .before .before .before .before .args .marks .now) (c .before .before .before .before .before .before .before .before .before .before .before .before .before .before .before .before .before .before .before .args .values .now) R (c .before .before .before .before .before .before .before .before .before .before .before .before .before .loop .state) (c .before .before .before .before .before .before .before .before .before .before .before .before .before .loop .marks) (c .before .before .before .before .before .before .before .before .before .before .before .before .before .loop .values) (c .before .before .before .before .before .before .before .before .before .before .before .before .before .loop .f) (c .before .before .before .before .before .before .before .before .before .before .before .before .before .loop .inv .6 past R) (c .before .before .before .before .before .before .before .before .before .before .before .before .loop-test .taken) _ _ (c .before .before .before .before .outcome .ensures) (ap stepIs (c .enum-told .given .1))
 
--- src/ticks.rt:125:36
 enum-told-2 : tie.Need-enum-told-2 Inv-loop μ-loop
 enum-told-2 c = search needs
 
--- src/ticks.rt:125:32
 put-requires : tie.Need-put-requires Inv-loop μ-loop
 put-requires c κs = (omega (arith, c .before .before .before .before .before .before .before .before .before .before .before .before .before .before .before .loop .inv .4, c .before .before .before .before .before .before .before .before .before .before .before .before .before .before .loop-test .taken, c .before .before .before .before .before .before .before .before .before .before .before .before .before .before .before .before .before .before .before .before .before .pre .1), omega (arith, c .before .before .before .before .before .before .before .before .before .before .before .before .before .before .before .loop .inv .5, c .before .before .before .before .before .before .before .before .before .before .before .before .before .before .loop-test .taken, c .before .before .before .before .before .before .before .before .before .before .before .before .before .before .before .before .before .before .before .before .before .pre .2))
 
--- src/ticks.rt:126:30
 enum-known-o : tie.Need-enum-known-o Inv-loop μ-loop
 enum-known-o c = search needs
 
--- src/ticks.rt:126:36
 put-requires-2 : tie.Need-put-requires-2 Inv-loop μ-loop
 put-requires-2 c κs = (omega (arith, c .before .before .before .before .before .before .before .before .before .before .before .before .before .before .before .before .loop .inv .4, c .before .before .before .before .before .before .before .before .before .before .before .before .before .before .before .loop-test .taken, c .before .before .before .before .before .before .before .before .before .before .before .before .before .before .before .before .before .before .before .before .before .before .pre .1), omega (arith, c .before .before .before .before .before .before .before .before .before .before .before .before .before .before .before .before .loop .inv .5, c .before .before .before .before .before .before .before .before .before .before .before .before .before .before .before .loop-test .taken, c .before .before .before .before .before .before .before .before .before .before .before .before .before .before .before .before .before .before .before .before .before .before .pre .2))
 
--- src/ticks.rt:108:5
 loop-less : tie.Need-loop-less Inv-loop μ-loop
 loop-less c = omega (arith, c .before .before .before .before .before .before .before .before .before .before .before .before .before .before .before .before .before .before .before .loop-test .taken)
 
--- src/ticks.rt:108:5
 loop-again : tie.Need-loop-again Inv-loop μ-loop
 loop-again c = (
   omega (arith, c .before .before .before .before .before .before .before .before .before .before .before .before .before .before .before .before .before .before .before .loop-test .taken),
@@ -152,11 +119,9 @@ loop-again c = (
   λ past R. goes-on (c .before .before .before .before .before .before .before .before .before .before .before .before .before .before .before .before .before .before .before .before .before .before .before .before .before .before .args .n) (c .before .before .before .before .before .before .before .before .before .before .before .before .before .before .before .before .before .before .before .before .before .before .before .before .before .before .args .words .now) (c .before .before .before .before .before .before .before .before .before .before .before .before .before .before .before .before .before .before .before .before .before .before .before .before .before .before .args .log .now) _ (table-at (c .before .before .before .before .before .before .before .before .before .before .before .before .before .before .before .before .before .before .before .before .before .before .before .before .before .before)) past (c .before .before .before .before .before .before .before .before .before .before .before .before .before .before .before .before .before .before .before .before .before .before .before .before .before .before .args .t) (c .before .before .before .before .before .before .before .before .before .before .before .before .before .before .before .before .before .before .before .before .before .before .before .before .before .before .args .at) (c .before .before .before .before .before .before .before .before .before .before .before .before .before .before .before .before .before .before .before .before .before .before .before .before .before .before .args .state .now) (c .before .before .before .before .before .before .before .before .before .before .before .before .before .before .before .before .before .before .before .before .before .before .before .before .before .before .args .marks .now) (c .before .before .before .before .before .before .before .before .before .before .before .before .before .before .before .before .before .before .before .before .before .before .before .before .before .before .args .values .now) R (c .before .before .before .before .before .before .before .before .before .before .before .before .before .before .before .before .before .before .before .before .loop .state) (c .before .before .before .before .before .before .before .before .before .before .before .before .before .before .before .before .before .before .before .before .loop .marks) (c .before .before .before .before .before .before .before .before .before .before .before .before .before .before .before .before .before .before .before .before .loop .values) (c .before .before .before .before .before .before .before .before .before .before .before .before .before .before .before .before .before .before .before .before .loop .f) (c .before .before .before .before .before .before .before .before .before .before .before .before .before .before .before .before .before .before .before .before .loop .inv .6 past R) (c .before .before .before .before .before .before .before .before .before .before .before .before .before .before .before .before .before .before .before .loop-test .taken) _ _ (c .before .before .before .before .before .before .before .before .before .before .before .outcome .ensures) _ _ _ (ap stepIs (c .before .before .before .before .before .before .before .enum-told2 .given .1)) (omega (arith, c .before .before .before .before .before .before .before .before .before .before .before .before .before .before .before .before .before .before .before .loop-test .taken, c .before .before .before .before .before .before .before .before .before .before .before .before .before .before .before .before .before .before .before .before .before .before .before .before .before .before .pre .1)) (omega (arith, c .before .before .before .before .before .before .before .before .before .before .before .before .before .before .before .before .before .before .before .loop-test .taken, c .before .before .before .before .before .before .before .before .before .before .before .before .before .before .before .before .before .before .before .before .before .before .before .before .before .before .pre .2)) (c .before .before .before .before .put .ensures .0) (c .before .before .before .before .put .ensures .1),
 )
 
--- src/ticks.rt:108:5
 loop-less-2 : tie.Need-loop-less-2 Inv-loop μ-loop
 loop-less-2 c = omega (arith, c .before .before .before .before .before .before .before .before .before .before .before .before .before .before .before .before .before .before .before .before .loop-test .taken)
 
--- src/ticks.rt:108:5
 loop-again-2 : tie.Need-loop-again-2 Inv-loop μ-loop
 loop-again-2 c = (
   omega (arith, c .before .before .before .before .before .before .before .before .before .before .before .before .before .before .before .before .before .before .before .before .loop-test .taken),
@@ -168,19 +133,15 @@ loop-again-2 c = (
   λ past R. goes-on (c .before .before .before .before .before .before .before .before .before .before .before .before .before .before .before .before .before .before .before .before .before .before .before .before .before .before .before .args .n) (c .before .before .before .before .before .before .before .before .before .before .before .before .before .before .before .before .before .before .before .before .before .before .before .before .before .before .before .args .words .now) (c .before .before .before .before .before .before .before .before .before .before .before .before .before .before .before .before .before .before .before .before .before .before .before .before .before .before .before .args .log .now) _ (table-at (c .before .before .before .before .before .before .before .before .before .before .before .before .before .before .before .before .before .before .before .before .before .before .before .before .before .before .before)) past (c .before .before .before .before .before .before .before .before .before .before .before .before .before .before .before .before .before .before .before .before .before .before .before .before .before .before .before .args .t) (c .before .before .before .before .before .before .before .before .before .before .before .before .before .before .before .before .before .before .before .before .before .before .before .before .before .before .before .args .at) (c .before .before .before .before .before .before .before .before .before .before .before .before .before .before .before .before .before .before .before .before .before .before .before .before .before .before .before .args .state .now) (c .before .before .before .before .before .before .before .before .before .before .before .before .before .before .before .before .before .before .before .before .before .before .before .before .before .before .before .args .marks .now) (c .before .before .before .before .before .before .before .before .before .before .before .before .before .before .before .before .before .before .before .before .before .before .before .before .before .before .before .args .values .now) R (c .before .before .before .before .before .before .before .before .before .before .before .before .before .before .before .before .before .before .before .before .before .loop .state) (c .before .before .before .before .before .before .before .before .before .before .before .before .before .before .before .before .before .before .before .before .before .loop .marks) (c .before .before .before .before .before .before .before .before .before .before .before .before .before .before .before .before .before .before .before .before .before .loop .values) (c .before .before .before .before .before .before .before .before .before .before .before .before .before .before .before .before .before .before .before .before .before .loop .f) (c .before .before .before .before .before .before .before .before .before .before .before .before .before .before .before .before .before .before .before .before .before .loop .inv .6 past R) (c .before .before .before .before .before .before .before .before .before .before .before .before .before .before .before .before .before .before .before .before .loop-test .taken) _ _ (c .before .before .before .before .before .before .before .before .before .before .before .before .outcome .ensures) _ _ _ (ap stepIs (c .before .before .before .before .before .before .before .before .o .given .1)) (omega (arith, c .before .before .before .before .before .before .before .before .before .before .before .before .before .before .before .before .before .before .before .before .loop-test .taken, c .before .before .before .before .before .before .before .before .before .before .before .before .before .before .before .before .before .before .before .before .before .before .before .before .before .before .before .pre .1)) (omega (arith, c .before .before .before .before .before .before .before .before .before .before .before .before .before .before .before .before .before .before .before .before .loop-test .taken, c .before .before .before .before .before .before .before .before .before .before .before .before .before .before .before .before .before .before .before .before .before .before .before .before .before .before .before .pre .2)) (c .before .before .before .before .put2 .ensures .0) (c .before .before .before .before .put2 .ensures .1),
 )
 
--- src/ticks.rt:94:1
 same-length-4 : tie.Need-same-length-4 Inv-loop μ-loop
 same-length-4 c = c .before .loop .inv .3 ∙ sym (c .before .before .before .before .before .before .before .pre .3)
 
--- src/ticks.rt:94:1
 same-length-5 : tie.Need-same-length-5 Inv-loop μ-loop
 same-length-5 c = c .before .loop .inv .4
 
--- src/ticks.rt:94:1
 same-length-6 : tie.Need-same-length-6 Inv-loop μ-loop
 same-length-6 c = c .before .loop .inv .5
 
--- src/ticks.rt:94:1
 returns-2 : tie.Need-returns-2 Inv-loop μ-loop
 returns-2 c = λ past R. ends (c .before .before .before .before .before .before .before .args .n) (c .before .before .before .before .before .before .before .args .words .now) (c .before .before .before .before .before .before .before .args .log .now) _ (table-at (c .before .before .before .before .before .before .before)) past (c .before .before .before .before .before .before .before .args .t) (c .before .before .before .before .before .before .before .args .at) (c .before .before .before .before .before .before .before .args .state .now) (c .before .before .before .before .before .before .before .args .marks .now) (c .before .before .before .before .before .before .before .args .values .now) R (c .before .loop .state) (c .before .loop .marks) (c .before .loop .values) (c .before .loop .f) (c .before .loop .inv .6 past R) (c .loop-test .left) (c .before .loop .inv .0)
 

@@ -1,19 +1,16 @@
 -- `latch` meets its contract. The invariant: each register so far met its source and has its value. Assumes nothing.
-use mathlib.Core.Path.{_≡_, refl, sym, _∙_, ap, subst}
+use mathlib.Core.Path.{_≡_, sym, _∙_, ap}
 use Prim.Native.Nat.{ℕ, _+_, _*_, _-_, _≤_, _<_}
 use native.Mathlib.Omega.{arith}
 use mathlib.Core.List.{List}
 use lib.ListN.{length, getD, set, length-set}
 use Rattle.table.proofs.Tables.{Table}
 use Rattle.runner.specs.Runs.{Tick, Ticks}
-use Rattle.runner.specs.Private.Ready.{rowsIn, Wrote, AllFollow, Listed}
+use Rattle.runner.specs.Private.Ready.{rowsIn, Wrote, AllFollow}
 use Rattle.runner.proofs.Tabled.{plain-table}
 use Rattle.runner.proofs.Latching.{Latching, starts, ends, stops, goes-on, operands-low}
 use Rattle.runner.proofs.ticks.latch.Statement.{statement}
 use Rattle.runner.proofs.ticks.latch.Tie as tie
-use Rattle.runner.proofs.ticks.latch.Reads as reads
-use Rattle.runner.proofs.ticks.latch.Lts as lts
-use Rattle.runner.proofs.ticks.latched.Reads as latched-reads
 
 abbrev Inv-loop : tie.InvT-loop
 Inv-loop registers count n words state₀ marks values j₀ state j =
@@ -33,135 +30,102 @@ low c =
     let o = operands-low (s .args .n) (s .args .count) (s .args .words .now) (s .args .registers .now) _ T (s .pre .4) (c .before .loop .j) (c .loop-test .taken) in
     (s .pre .4 .within (c .before .loop .j) (c .loop-test .taken), T .few, T .words-size, o .0, o .1, s .pre .4 .room)
 
--- src/ticks.rt:158:5
 loop-holds : tie.Need-loop-holds Inv-loop μ-loop
 loop-holds c = (omega arith, c .before .before .before .before .before .pre .3, λ past cells ms vs t z w F. starts (c .before .before .before .before .before .args .n) (c .before .before .before .before .before .args .count) (c .before .before .before .before .before .args .words .now) (c .before .before .before .before .before .args .registers .now) _ (table-at (c .before .before .before .before .before)) (c .before .before .before .before .before .pre .4) past cells ms vs _ _ _ t z w F)
 
--- src/ticks.rt:159:17
 mul-f : tie.Need-mul-f Inv-loop μ-loop
 mul-f c = omega (arith, low (c), c .loop-test .taken, c .before .loop .inv .1, c .before .before .before .before .before .before .before .pre .1, c .before .before .before .before .before .before .before .pre .2)
 
--- src/ticks.rt:159:17
 shared-slice-read-f : tie.Need-shared-slice-read-f Inv-loop μ-loop
 shared-slice-read-f c = omega (arith, low (c .before), c .before .loop-test .taken, c .before .before .loop .inv .1, c .before .before .before .before .before .before .before .before .pre .1, c .before .before .before .before .before .before .before .before .pre .2)
 
--- src/ticks.rt:159:17
 cast-f : tie.Need-cast-f Inv-loop μ-loop
 cast-f c = omega (arith, low (c .before), c .before .loop-test .taken, c .before .before .loop .inv .1, c .before .before .before .before .before .before .before .before .pre .1, c .before .before .before .before .before .before .before .before .pre .2)
 
--- src/ticks.rt:160:23
 mul-b : tie.Need-mul-b Inv-loop μ-loop
 mul-b c = omega (arith, low (c .before), c .before .loop-test .taken, c .before .before .loop .inv .1, c .before .before .before .before .before .before .before .before .pre .1, c .before .before .before .before .before .before .before .before .pre .2)
 
--- src/ticks.rt:160:23
 add-b : tie.Need-add-b Inv-loop μ-loop
 add-b c = omega (arith, low (c .before), c .before .loop-test .taken, c .before .before .loop .inv .1, c .before .before .before .before .before .before .before .before .pre .1, c .before .before .before .before .before .before .before .before .pre .2)
 
--- src/ticks.rt:160:17
 mul-b-2 : tie.Need-mul-b-2 Inv-loop μ-loop
 mul-b-2 c = omega (arith, low (c .before), c .before .loop-test .taken, c .before .before .loop .inv .1, c .before .before .before .before .before .before .before .before .pre .1, c .before .before .before .before .before .before .before .before .pre .2)
 
--- src/ticks.rt:160:17
 shared-slice-read-b : tie.Need-shared-slice-read-b Inv-loop μ-loop
 shared-slice-read-b c = omega (arith, low (c .before .before), c .before .before .loop-test .taken, c .before .before .before .loop .inv .1, c .before .before .before .before .before .before .before .before .before .pre .1, c .before .before .before .before .before .before .before .before .before .pre .2)
 
--- src/ticks.rt:160:17
 cast-b : tie.Need-cast-b Inv-loop μ-loop
 cast-b c = omega (arith, low (c .before .before), c .before .before .loop-test .taken, c .before .before .before .loop .inv .1, c .before .before .before .before .before .before .before .before .before .pre .1, c .before .before .before .before .before .before .before .before .before .pre .2)
 
--- src/ticks.rt:161:23
 mul-a : tie.Need-mul-a Inv-loop μ-loop
 mul-a c = omega (arith, low (c .before .before), c .before .before .loop-test .taken, c .before .before .before .loop .inv .1, c .before .before .before .before .before .before .before .before .before .pre .1, c .before .before .before .before .before .before .before .before .before .pre .2)
 
--- src/ticks.rt:161:23
 add-a : tie.Need-add-a Inv-loop μ-loop
 add-a c = omega (arith, low (c .before .before), c .before .before .loop-test .taken, c .before .before .before .loop .inv .1, c .before .before .before .before .before .before .before .before .before .pre .1, c .before .before .before .before .before .before .before .before .before .pre .2)
 
--- src/ticks.rt:161:17
 mul-a-2 : tie.Need-mul-a-2 Inv-loop μ-loop
 mul-a-2 c = omega (arith, low (c .before .before), c .before .before .loop-test .taken, c .before .before .before .loop .inv .1, c .before .before .before .before .before .before .before .before .before .pre .1, c .before .before .before .before .before .before .before .before .before .pre .2)
 
--- src/ticks.rt:161:17
 shared-slice-read-a : tie.Need-shared-slice-read-a Inv-loop μ-loop
 shared-slice-read-a c = omega (arith, low (c .before .before .before), c .before .before .before .loop-test .taken, c .before .before .before .before .loop .inv .1, c .before .before .before .before .before .before .before .before .before .before .pre .1, c .before .before .before .before .before .before .before .before .before .before .pre .2)
 
--- src/ticks.rt:161:17
 cast-a : tie.Need-cast-a Inv-loop μ-loop
 cast-a c = omega (arith, low (c .before .before .before), c .before .before .before .loop-test .taken, c .before .before .before .before .loop .inv .1, c .before .before .before .before .before .before .before .before .before .before .pre .1, c .before .before .before .before .before .before .before .before .before .before .pre .2)
 
--- src/ticks.rt:162:12
 shared-slice-read-if1 : tie.Need-shared-slice-read-if1 Inv-loop μ-loop
 shared-slice-read-if1 c = omega (arith, low (c .before .before .before .before), c .before .before .before .before .loop-test .taken, c .before .before .before .before .before .loop .inv .1, c .before .before .before .before .before .before .before .before .before .before .before .pre .1, c .before .before .before .before .before .before .before .before .before .before .before .pre .2)
 
--- src/ticks.rt:162:24
 shared-slice-read-if1-2 : tie.Need-shared-slice-read-if1-2 Inv-loop μ-loop
 shared-slice-read-if1-2 c = omega (arith, low (c .before .before .before .before .before), c .before .before .before .before .before .loop-test .taken, c .before .before .before .before .before .before .loop .inv .1, c .before .before .before .before .before .before .before .before .before .before .before .before .pre .1, c .before .before .before .before .before .before .before .before .before .before .before .before .pre .2)
 
--- src/ticks.rt:163:13
 same-length : tie.Need-same-length Inv-loop μ-loop
 same-length c = c .before .before .before .before .before .before .before .loop .inv .1 ∙ sym (c .before .before .before .before .before .before .before .before .before .before .before .before .before .pre .3)
 
--- src/ticks.rt:163:13
 returns : tie.Need-returns Inv-loop μ-loop
 returns c = λ past cells ms vs t z w F. stops (c .before .before .before .before .before .before .before .before .before .before .before .before .before .args .n) (c .before .before .before .before .before .before .before .before .before .before .before .before .before .args .count) (c .before .before .before .before .before .before .before .before .before .before .before .before .before .args .words .now) (c .before .before .before .before .before .before .before .before .before .before .before .before .before .args .registers .now) _ (table-at (c .before .before .before .before .before .before .before .before .before .before .before .before .before)) (c .before .before .before .before .before .before .before .before .before .before .before .before .before .pre .4) past cells ms vs (c .before .before .before .before .before .before .before .before .before .before .before .before .before .args .marks .now) (c .before .before .before .before .before .before .before .before .before .before .before .before .before .args .values .now) (c .before .before .before .before .before .before .before .before .before .before .before .before .before .args .state .now) t z w F (c .before .before .before .before .before .before .before .loop .state) (c .before .before .before .before .before .before .before .loop .j) (c .before .before .before .before .before .before .before .loop .inv .2 past cells ms vs t z w F) (c .before .before .before .before .before .before .loop-test .taken) (c .if1 .taken)
 
--- src/ticks.rt:165:38
 mul-latched : tie.Need-mul-latched Inv-loop μ-loop
 mul-latched c = omega (arith, low (c .before .before .before .before .before .before), c .before .before .before .before .before .before .loop-test .taken, c .before .before .before .before .before .before .before .loop .inv .1, c .before .before .before .before .before .before .before .before .before .before .before .before .before .pre .1, c .before .before .before .before .before .before .before .before .before .before .before .before .before .pre .2)
 
--- src/ticks.rt:165:32
 mul-latched-2 : tie.Need-mul-latched-2 Inv-loop μ-loop
 mul-latched-2 c = omega (arith, low (c .before .before .before .before .before .before), c .before .before .before .before .before .before .loop-test .taken, c .before .before .before .before .before .before .before .loop .inv .1, c .before .before .before .before .before .before .before .before .before .before .before .before .before .pre .1, c .before .before .before .before .before .before .before .before .before .before .before .before .before .pre .2)
 
--- src/ticks.rt:165:32
 slice-read-latched : tie.Need-slice-read-latched Inv-loop μ-loop
 slice-read-latched c = omega (arith, low (c .before .before .before .before .before .before .before), c .before .before .before .before .before .before .before .loop-test .taken, c .before .before .before .before .before .before .before .before .loop .inv .1, c .before .before .before .before .before .before .before .before .before .before .before .before .before .before .pre .1, c .before .before .before .before .before .before .before .before .before .before .before .before .before .before .pre .2)
 
--- src/ticks.rt:165:46
 shared-slice-read-latched : tie.Need-shared-slice-read-latched Inv-loop μ-loop
 shared-slice-read-latched c = omega (arith, low (c .before .before .before .before .before .before .before .before), c .before .before .before .before .before .before .before .before .loop-test .taken, c .before .before .before .before .before .before .before .before .before .loop .inv .1, c .before .before .before .before .before .before .before .before .before .before .before .before .before .before .before .pre .1, c .before .before .before .before .before .before .before .before .before .before .before .before .before .before .before .pre .2)
 
--- src/ticks.rt:165:56
 mul-latched-3 : tie.Need-mul-latched-3 Inv-loop μ-loop
 mul-latched-3 c = omega (arith, low (c .before .before .before .before .before .before .before .before), c .before .before .before .before .before .before .before .before .loop-test .taken, c .before .before .before .before .before .before .before .before .before .loop .inv .1, c .before .before .before .before .before .before .before .before .before .before .before .before .before .before .before .pre .1, c .before .before .before .before .before .before .before .before .before .before .before .before .before .before .before .pre .2)
 
--- src/ticks.rt:165:56
 shared-slice-read-latched-2 : tie.Need-shared-slice-read-latched-2 Inv-loop μ-loop
 shared-slice-read-latched-2 c = omega (arith, low (c .before .before .before .before .before .before .before .before .before), c .before .before .before .before .before .before .before .before .before .loop-test .taken, c .before .before .before .before .before .before .before .before .before .before .loop .inv .1, c .before .before .before .before .before .before .before .before .before .before .before .before .before .before .before .before .pre .1, c .before .before .before .before .before .before .before .before .before .before .before .before .before .before .before .before .pre .2)
 
--- src/ticks.rt:165:24
 latched-requires : tie.Need-latched-requires Inv-loop μ-loop
 latched-requires c κs = tt
 
--- src/ticks.rt:165:15
 mul-state : tie.Need-mul-state Inv-loop μ-loop
 mul-state c = omega (arith, low (c .before .before .before .before .before .before .before .before .before .before), c .before .before .before .before .before .before .before .before .before .before .loop-test .taken, c .before .before .before .before .before .before .before .before .before .before .before .loop .inv .1, c .before .before .before .before .before .before .before .before .before .before .before .before .before .before .before .before .before .pre .1, c .before .before .before .before .before .before .before .before .before .before .before .before .before .before .before .before .before .pre .2)
 
--- src/ticks.rt:165:9
 mul-state-2 : tie.Need-mul-state-2 Inv-loop μ-loop
 mul-state-2 c = omega (arith, low (c .before .before .before .before .before .before .before .before .before .before), c .before .before .before .before .before .before .before .before .before .before .loop-test .taken, c .before .before .before .before .before .before .before .before .before .before .before .loop .inv .1, c .before .before .before .before .before .before .before .before .before .before .before .before .before .before .before .before .before .pre .1, c .before .before .before .before .before .before .before .before .before .before .before .before .before .before .before .before .before .pre .2)
 
--- src/ticks.rt:165:9
 slice-write-state : tie.Need-slice-write-state Inv-loop μ-loop
 slice-write-state c = omega (arith, low (c .before .before .before .before .before .before .before .before .before .before), c .before .before .before .before .before .before .before .before .before .before .loop-test .taken, c .before .before .before .before .before .before .before .before .before .before .before .loop .inv .1, c .before .before .before .before .before .before .before .before .before .before .before .before .before .before .before .before .before .pre .1, c .before .before .before .before .before .before .before .before .before .before .before .before .before .before .before .before .before .pre .2)
 
--- src/ticks.rt:166:13
 add-j : tie.Need-add-j Inv-loop μ-loop
 add-j c = omega (arith, low (c .before .before .before .before .before .before .before .before .before .before), c .before .before .before .before .before .before .before .before .before .before .loop-test .taken, c .before .before .before .before .before .before .before .before .before .before .before .loop .inv .1, c .before .before .before .before .before .before .before .before .before .before .before .before .before .before .before .before .before .pre .1, c .before .before .before .before .before .before .before .before .before .before .before .before .before .before .before .before .before .pre .2)
 
--- src/ticks.rt:158:5
 loop-less : tie.Need-loop-less Inv-loop μ-loop
 loop-less c = omega (arith, low (c .before .before .before .before .before .before .before .before .before .before), c .before .before .before .before .before .before .before .before .before .before .loop-test .taken, c .before .before .before .before .before .before .before .before .before .before .before .loop .inv .1, c .before .before .before .before .before .before .before .before .before .before .before .before .before .before .before .before .before .pre .1, c .before .before .before .before .before .before .before .before .before .before .before .before .before .before .before .before .before .pre .2)
 
--- src/ticks.rt:158:5
 loop-again : tie.Need-loop-again Inv-loop μ-loop
 loop-again c = (omega (arith, c .before .before .before .before .before .before .before .before .before .before .loop-test .taken), length-set (c .before .before .before .before .before .before .before .before .before .before .before .loop .state) _ _ ∙ c .before .before .before .before .before .before .before .before .before .before .before .loop .inv .1, λ past cells ms vs t z w F. goes-on (c .before .before .before .before .before .before .before .before .before .before .before .before .before .before .before .before .before .args .n) (c .before .before .before .before .before .before .before .before .before .before .before .before .before .before .before .before .before .args .count) (c .before .before .before .before .before .before .before .before .before .before .before .before .before .before .before .before .before .args .words .now) (c .before .before .before .before .before .before .before .before .before .before .before .before .before .before .before .before .before .args .registers .now) _ (table-at (c .before .before .before .before .before .before .before .before .before .before .before .before .before .before .before .before .before)) (c .before .before .before .before .before .before .before .before .before .before .before .before .before .before .before .before .before .pre .4) past cells ms vs (c .before .before .before .before .before .before .before .before .before .before .before .before .before .before .before .before .before .args .marks .now) (c .before .before .before .before .before .before .before .before .before .before .before .before .before .before .before .before .before .args .values .now) (c .before .before .before .before .before .before .before .before .before .before .before .before .before .before .before .before .before .args .state .now) t z w F (c .before .before .before .before .before .before .before .before .before .before .before .loop .state) (c .before .before .before .before .before .before .before .before .before .before .before .loop .j) (c .before .before .before .before .before .before .before .before .before .before .before .loop .inv .2 past cells ms vs t z w F) (c .before .before .before .before .before .before .before .before .before .before .loop-test .taken) _ (c .before .before .before .before .before .before .before .before .before .before .before .loop .inv .1) (c .before .before .before .before .if1 .left) (ap (set (c .before .before .before .before .before .before .before .before .before .before .before .loop .state) (4 * getD (c .before .before .before .before .before .before .before .before .before .before .before .before .before .before .before .before .before .args .registers .now) (c .before .before .before .before .before .before .before .before .before .before .before .loop .j) 0)) (c .latched .ensures)))
 
--- src/ticks.rt:145:1
 same-length-2 : tie.Need-same-length-2 Inv-loop μ-loop
 same-length-2 c = c .before .loop .inv .1 ∙ sym (c .before .before .before .before .before .before .before .pre .3)
 
--- src/ticks.rt:145:1
 returns-2 : tie.Need-returns-2 Inv-loop μ-loop
 returns-2 c = λ past cells ms vs t z w F. ends (c .before .before .before .before .before .before .before .args .n) (c .before .before .before .before .before .before .before .args .count) (c .before .before .before .before .before .before .before .args .words .now) (c .before .before .before .before .before .before .before .args .registers .now) _ (table-at (c .before .before .before .before .before .before .before)) (c .before .before .before .before .before .before .before .pre .4) past cells ms vs (c .before .before .before .before .before .before .before .args .marks .now) (c .before .before .before .before .before .before .before .args .values .now) (c .before .before .before .before .before .before .before .args .state .now) t z w F (c .before .loop .state) (c .before .loop .j) (c .before .loop .inv .2 past cells ms vs t z w F) (c .loop-test .left) (c .before .loop .inv .0)
 

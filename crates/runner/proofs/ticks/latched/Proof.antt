@@ -1,14 +1,11 @@
+-- `latched` meets its contract. Assumes nothing.
 use borrow.Author.Tests.{eq-eqb, ne-eqb}
 use Rattle.runner.proofs.ticks.latched.Statement.{statement}
 use Rattle.runner.proofs.ticks.latched.Tie as tie
-use Rattle.runner.proofs.ticks.latched.Reads as reads
-use Rattle.runner.proofs.ticks.latched.Lts as lts
 
--- src/ticks.rt:137:1
 returns : tie.Need-returns
 returns c = simp (eq-eqb _ _ (c .if1 .taken))
 
--- src/ticks.rt:137:1
 returns-2 : tie.Need-returns-2
 returns-2 c = simp (ne-eqb _ _ (c .if1 .left))
 

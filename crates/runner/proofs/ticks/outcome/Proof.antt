@@ -1,28 +1,14 @@
+-- `outcome` meets its contract. Assumes nothing.
 use Prim.Native.Nat.{ℕ, _<_}
 use Rattle.table.proofs.Tables.{Fits}
-use Rattle.runner.specs.Private.Carried.{decode, stepOf, nextOf, cellsIn}
+use Rattle.runner.specs.Private.Carried.{decode, stepOf, nextOf}
 use Rattle.runner.proofs.Decoded.{combines, above-eleven, no-other}
 use Rattle.runner.proofs.Words.{unchanged}
-use mathlib.Core.Path.{_≡_, refl, sym, _∙_, ap, subst}
+use mathlib.Core.Path.{_≡_, refl, sym, subst}
 use native.Mathlib.Omega.{arith}
-use borrow.Author.Tests.{eq-eqb, ne-eqb, lt-ltb, le-ltb, le-leb, lt-leb}
 use borrow.Author.Needs.{needs}
 use Rattle.runner.proofs.ticks.outcome.Statement.{statement}
 use Rattle.runner.proofs.ticks.outcome.Tie as tie
-use Rattle.runner.proofs.ticks.outcome.Reads as reads
-use Rattle.runner.proofs.ticks.outcome.Lts as lts
-use Rattle.runner.proofs.operators.combined.Reads as combined-reads
-use Rattle.runner.proofs.operators.constant.Reads as constant-reads
-use Rattle.runner.proofs.operators.faster.Reads as faster-reads
-use Rattle.runner.proofs.operators.head.Reads as head-reads
-use Rattle.runner.proofs.operators.input.Reads as input-reads
-use Rattle.runner.proofs.operators.later.Reads as later-reads
-use Rattle.runner.proofs.operators.merged.Reads as merged-reads
-use Rattle.runner.proofs.operators.registered.Reads as registered-reads
-use Rattle.runner.proofs.operators.sampled.Reads as sampled-reads
-use Rattle.runner.proofs.operators.slower.Reads as slower-reads
-use Rattle.runner.proofs.operators.tail.Reads as tail-reads
-use Rattle.runner.proofs.ticks.signal_at.Reads as signal-at-reads
 
 -- the fields of a kind that is told
 fields : (n : ℕ) (c : tie.Start) → c .args .kind ≡ n → Fits 64 (c .args .f) (decode n (c .args .p) (c .args .q) (c .args .r))
@@ -31,232 +17,182 @@ fields n c e = subst (λ (j : ℕ). Fits 64 (c .args .f) (decode j (c .args .p) 
 pair : (c : tie.Start) → (c .args .kind ≡ 0 → ⊥) → (c .args .kind ≡ 1 → ⊥) → c .args .kind < 7 → (c .args .p < c .args .f) × (c .args .q < c .args .f)
 pair c a b l = subst (Fits 64 (c .args .f)) (combines (c .args .kind) (c .args .p) (c .args .q) (c .args .r) a b l) (c .pre .2)
 
--- src/ticks.rt:47:13
 mul-i : tie.Need-mul-i
 mul-i c = search needs
 
--- src/ticks.rt:49:14
 input-requires : tie.Need-input-requires
 unfolding decode
 input-requires c κs = let h = fields 0 (c .before .before .before .before .before .before) (c .before .match .keys1) in (omega arith, c .before .before .before .before .before .before .pre .6, omega arith, c .before .before .before .before .before .before .pre .7)
 
--- src/ticks.rt:50:14
 constant-requires : tie.Need-constant-requires
 unfolding decode
 constant-requires c κs = let h = fields 1 (c .before .before .before .before .before .before) (c .before .match .keys2) in (omega arith, c .before .before .before .before .before .before .pre .6, omega arith)
 
--- src/ticks.rt:56:36
 signal-at-requires : tie.Need-signal-at-requires
 unfolding decode
 signal-at-requires c κs = let h = fields 7 (c .before .before .before .before .before) (c .match .keys3) in (h .0, c .before .before .before .before .before .pre .3, c .before .before .before .before .before .pre .4)
 
--- src/ticks.rt:56:68
 mul-registered : tie.Need-mul-registered
 mul-registered c = search needs
 
--- src/ticks.rt:56:68
 slice-read-registered : tie.Need-slice-read-registered
 slice-read-registered c = search needs
 
--- src/ticks.rt:56:14
 registered-requires : tie.Need-registered-requires
 registered-requires c κs = search needs
 
--- src/ticks.rt:57:35
 signal-at-requires-2 : tie.Need-signal-at-requires-2
 unfolding decode
 signal-at-requires-2 c κs = let h = fields 8 (c .before .before .before .before .before) (c .match .keys4) in (h .0, c .before .before .before .before .before .pre .3, c .before .before .before .before .before .pre .4)
 
--- src/ticks.rt:57:14
 faster-requires : tie.Need-faster-requires
 unfolding decode
 faster-requires c κs = let h = fields 8 (c .before .before .before .before .before .before .before) (c .before .before .match .keys4) in (omega arith, c .before .before .before .before .before .before .before .pre .6, omega arith, omega arith)
 
--- src/ticks.rt:58:32
 signal-at-requires-3 : tie.Need-signal-at-requires-3
 unfolding decode
 signal-at-requires-3 c κs = let h = fields 9 (c .before .before .before .before .before) (c .match .keys5) in (h .0, c .before .before .before .before .before .pre .3, c .before .before .before .before .before .pre .4)
 
--- src/ticks.rt:58:14
 slower-requires : tie.Need-slower-requires
 unfolding decode
 slower-requires c κs = let h = fields 9 (c .before .before .before .before .before .before .before) (c .before .before .match .keys5) in (omega arith, omega arith)
 
--- src/ticks.rt:59:35
 signal-at-requires-4 : tie.Need-signal-at-requires-4
 unfolding decode
 signal-at-requires-4 c κs = let h = fields 10 (c .before .before .before .before .before) (c .match .keys6) in (h .0, c .before .before .before .before .before .pre .3, c .before .before .before .before .before .pre .4)
 
--- src/ticks.rt:59:15
 later-requires : tie.Need-later-requires
 later-requires c κs = search needs
 
--- src/ticks.rt:60:34
 signal-at-requires-5 : tie.Need-signal-at-requires-5
 unfolding decode
 signal-at-requires-5 c κs = let h = fields 11 (c .before .before .before .before .before) (c .match .keys7) in (h .0, c .before .before .before .before .before .pre .3, c .before .before .before .before .before .pre .4)
 
--- src/ticks.rt:60:15
 head-requires : tie.Need-head-requires
 head-requires c κs = search needs
 
--- src/ticks.rt:61:31
 signal-at-requires-6 : tie.Need-signal-at-requires-6
 unfolding decode
 signal-at-requires-6 c κs = let h = fields 12 (c .before .before .before .before .before) (c .match .keys8) in (h .0, c .before .before .before .before .before .pre .3, c .before .before .before .before .before .pre .4)
 
--- src/ticks.rt:61:15
 tail-requires : tie.Need-tail-requires
 tail-requires c κs = search needs
 
--- src/ticks.rt:64:13
 signal-at-requires-7 : tie.Need-signal-at-requires-7
 unfolding decode
 signal-at-requires-7 c κs = let h = fields 13 (c .before .before .before .before .before) (c .match .keys9) in (h .0, c .before .before .before .before .before .pre .3, c .before .before .before .before .before .pre .4)
 
--- src/ticks.rt:65:13
 signal-at-requires-8 : tie.Need-signal-at-requires-8
 unfolding decode
 signal-at-requires-8 c κs = let h = fields 13 (c .before .before .before .before .before .before) (c .before .match .keys9) in (h .1, c .before .before .before .before .before .before .pre .3, c .before .before .before .before .before .before .pre .4)
 
--- src/ticks.rt:62:15
 sampled-requires : tie.Need-sampled-requires
 sampled-requires c κs = search needs
 
--- src/ticks.rt:69:13
 signal-at-requires-9 : tie.Need-signal-at-requires-9
 unfolding decode
 signal-at-requires-9 c κs = let h = fields 14 (c .before .before .before .before .before) (c .match .keys10) in (h .0, c .before .before .before .before .before .pre .3, c .before .before .before .before .before .pre .4)
 
--- src/ticks.rt:70:13
 signal-at-requires-10 : tie.Need-signal-at-requires-10
 unfolding decode
 signal-at-requires-10 c κs = let h = fields 14 (c .before .before .before .before .before .before) (c .before .match .keys10) in (h .1, c .before .before .before .before .before .before .pre .3, c .before .before .before .before .before .before .pre .4)
 
--- src/ticks.rt:67:15
 sampled-requires-2 : tie.Need-sampled-requires-2
 sampled-requires-2 c κs = search needs
 
--- src/ticks.rt:73:13
 signal-at-requires-11 : tie.Need-signal-at-requires-11
 unfolding decode
 signal-at-requires-11 c κs = let h = fields 15 (c .before .before .before .before .before) (c .match .keys11) in (h .0, c .before .before .before .before .before .pre .3, c .before .before .before .before .before .pre .4)
 
--- src/ticks.rt:74:13
 signal-at-requires-12 : tie.Need-signal-at-requires-12
 unfolding decode
 signal-at-requires-12 c κs = let h = fields 15 (c .before .before .before .before .before .before) (c .before .match .keys11) in (h .1, c .before .before .before .before .before .before .pre .3, c .before .before .before .before .before .before .pre .4)
 
--- src/ticks.rt:75:13
 signal-at-requires-13 : tie.Need-signal-at-requires-13
 unfolding decode
 signal-at-requires-13 c κs = let h = fields 15 (c .before .before .before .before .before .before .before) (c .before .before .match .keys11) in (h .2, c .before .before .before .before .before .before .before .pre .3, c .before .before .before .before .before .before .before .pre .4)
 
--- src/ticks.rt:72:15
 merged-requires : tie.Need-merged-requires
 merged-requires c κs = search needs
 
--- src/ticks.rt:53:13
 signal-at-requires-14 : tie.Need-signal-at-requires-14
 signal-at-requires-14 c κs = let h = pair (c .before .before .before .before .before .before) (c .before .match .rest .0 .0 .0 .0 .0 .0 .0 .0 .0 .0 .1) (c .before .match .rest .0 .0 .0 .0 .0 .0 .0 .0 .0 .1) (c .if1 .taken) in (h .0, c .before .before .before .before .before .before .pre .3, c .before .before .before .before .before .before .pre .4)
 
--- src/ticks.rt:54:13
 signal-at-requires-15 : tie.Need-signal-at-requires-15
 signal-at-requires-15 c κs = let h = pair (c .before .before .before .before .before .before .before) (c .before .before .match .rest .0 .0 .0 .0 .0 .0 .0 .0 .0 .0 .1) (c .before .before .match .rest .0 .0 .0 .0 .0 .0 .0 .0 .0 .1) (c .before .if1 .taken) in (h .1, c .before .before .before .before .before .before .before .pre .3, c .before .before .before .before .before .before .before .pre .4)
 
--- src/ticks.rt:51:18
 combined-requires : tie.Need-combined-requires
 combined-requires c κs = search needs
 
--- src/ticks.rt:31:1
 same-length : tie.Need-same-length
 same-length c = search needs
 
--- src/ticks.rt:31:1
 returns : tie.Need-returns
 unfolding decode stepOf nextOf
 returns c = simp (c .before .before .before .before .match .keys1) (c .before .before .input .ensures)
 
--- src/ticks.rt:31:1
 same-length-2 : tie.Need-same-length-2
 same-length-2 c = search needs
 
--- src/ticks.rt:31:1
 returns-2 : tie.Need-returns-2
 unfolding decode stepOf nextOf
 returns-2 c = simp (c .before .before .before .before .match .keys2) (c .before .before .constant .ensures)
 
--- src/ticks.rt:31:1
 returns-3 : tie.Need-returns-3
 unfolding decode stepOf nextOf
 returns-3 c = unchanged (simp (c .before .before .before .match .keys3, sym (c .before .before .signal-at .ensures)) (c .registered .ensures _ refl)) (simp (c .before .before .before .match .keys3))
 
--- src/ticks.rt:31:1
 same-length-3 : tie.Need-same-length-3
 same-length-3 c = search needs
 
--- src/ticks.rt:31:1
 returns-4 : tie.Need-returns-4
 unfolding decode stepOf nextOf
 returns-4 c = simp (c .before .before .before .before .before .match .keys4, sym (c .before .before .before .before .signal-at2 .ensures)) (c .before .before .faster .ensures)
 
--- src/ticks.rt:31:1
 same-length-4 : tie.Need-same-length-4
 same-length-4 c = search needs
 
--- src/ticks.rt:31:1
 returns-5 : tie.Need-returns-5
 unfolding decode stepOf nextOf
 returns-5 c = simp (c .before .before .before .before .before .match .keys5, sym (c .before .before .before .before .signal-at3 .ensures)) (c .before .before .slower .ensures)
 
--- src/ticks.rt:31:1
 same-length-5 : tie.Need-same-length-5
 same-length-5 c = search needs
 
--- src/ticks.rt:31:1
 returns-6 : tie.Need-returns-6
 unfolding decode stepOf nextOf
 returns-6 c = unchanged (simp (c .before .before .before .match .keys6, sym (c .before .before .signal-at4 .ensures)) (c .later .ensures)) (simp (c .before .before .before .match .keys6))
 
--- src/ticks.rt:31:1
 same-length-6 : tie.Need-same-length-6
 same-length-6 c = search needs
 
--- src/ticks.rt:31:1
 returns-7 : tie.Need-returns-7
 unfolding decode stepOf nextOf
 returns-7 c = simp (c .before .before .before .before .before .match .keys7, sym (c .before .before .before .before .signal-at5 .ensures)) (c .before .before .head .ensures)
 
--- src/ticks.rt:31:1
 same-length-7 : tie.Need-same-length-7
 same-length-7 c = search needs
 
--- src/ticks.rt:31:1
 returns-8 : tie.Need-returns-8
 unfolding decode stepOf nextOf
 returns-8 c = simp (c .before .before .before .before .before .match .keys8, sym (c .before .before .before .before .signal-at6 .ensures)) (c .before .before .tail .ensures)
 
--- src/ticks.rt:31:1
 returns-9 : tie.Need-returns-9
 unfolding decode stepOf nextOf
 returns-9 c = unchanged (simp (c .before .before .before .match .keys9, sym (c .before .before .signal-at7 .ensures), sym (c .before .signal-at8 .ensures)) (c .sampled .ensures)) (simp (c .before .before .before .match .keys9))
 
--- src/ticks.rt:31:1
 returns-10 : tie.Need-returns-10
 unfolding decode stepOf nextOf
 returns-10 c = unchanged (simp (c .before .before .before .match .keys10, sym (c .before .before .signal-at9 .ensures), sym (c .before .signal-at10 .ensures)) (c .sampled2 .ensures)) (simp (c .before .before .before .match .keys10))
 
--- src/ticks.rt:31:1
 returns-11 : tie.Need-returns-11
 unfolding decode stepOf nextOf
 returns-11 c = unchanged (simp (c .before .before .before .before .match .keys11, sym (c .before .before .before .signal-at11 .ensures), sym (c .before .before .signal-at12 .ensures), sym (c .before .signal-at13 .ensures)) (c .merged .ensures)) (simp (c .before .before .before .before .match .keys11))
 
--- src/ticks.rt:31:1
 returns-12 : tie.Need-returns-12
 unfolding stepOf nextOf
 returns-12 c = rw (combines (c .before .before .before .before .before .before .before .before .before .args .kind) (c .before .before .before .before .before .before .before .before .before .args .p) (c .before .before .before .before .before .before .before .before .before .args .q) (c .before .before .before .before .before .before .before .before .before .args .r) (c .before .before .before .before .match .rest .0 .0 .0 .0 .0 .0 .0 .0 .0 .0 .1) (c .before .before .before .before .match .rest .0 .0 .0 .0 .0 .0 .0 .0 .0 .1) (c .before .before .before .if1 .taken)) (unchanged (simp (sym (c .before .before .signal-at14 .ensures), sym (c .before .signal-at15 .ensures)) (c .combined .ensures)) refl)
 
--- src/ticks.rt:31:1
 returns-13 : tie.Need-returns-13
 returns-13 c = absurd (no-other (c .before .before .before .before .before .before .args .kind) (c .before .before .before .before .before .before .pre .1) (above-eleven (c .before .before .before .before .before .before .args .kind) (c .if1 .left) (c .before .match .rest .0 .0 .0 .0 .0 .0 .0 .0 .1) (c .before .match .rest .0 .0 .0 .0 .0 .0 .0 .1) (c .before .match .rest .0 .0 .0 .0 .0 .0 .1) (c .before .match .rest .0 .0 .0 .0 .0 .1) (c .before .match .rest .0 .0 .0 .0 .1)) (c .before .match .rest .0 .0 .0 .1) (c .before .match .rest .0 .0 .1) (c .before .match .rest .0 .1) (c .before .match .rest .1))
 

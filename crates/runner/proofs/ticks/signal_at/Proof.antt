@@ -1,27 +1,21 @@
-use borrow.Author.Tests.{eq-eqb, ne-eqb, lt-ltb, le-ltb, le-leb, lt-leb}
+-- `signal_at` meets its contract. Assumes nothing.
+use borrow.Author.Tests.{eq-eqb, ne-eqb, lt-ltb}
 use borrow.Author.Needs.{needs}
 use Rattle.runner.proofs.ticks.signal_at.Statement.{statement}
 use Rattle.runner.proofs.ticks.signal_at.Tie as tie
-use Rattle.runner.proofs.ticks.signal_at.Reads as reads
-use Rattle.runner.proofs.ticks.signal_at.Lts as lts
 
--- src/ticks.rt:23:8
 shared-slice-read-if1 : tie.Need-shared-slice-read-if1
 shared-slice-read-if1 c = search needs
 
--- src/ticks.rt:26:25
 mul-t10 : tie.Need-mul-t10
 mul-t10 c = search needs
 
--- src/ticks.rt:26:25
 shared-slice-read-t12 : tie.Need-shared-slice-read-t12
 shared-slice-read-t12 c = search needs
 
--- src/ticks.rt:18:1
 returns : tie.Need-returns
 returns c = simp (eq-eqb _ _ (c .if1 .taken), lt-ltb _ _ (c .before .before .pre .0))
 
--- src/ticks.rt:18:1
 returns-2 : tie.Need-returns-2
 returns-2 c = simp (ne-eqb _ _ (c .before .if1 .left), lt-ltb _ _ (c .before .before .before .pre .0))
 

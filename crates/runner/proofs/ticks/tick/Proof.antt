@@ -1,4 +1,4 @@
-use Rattle.table.proofs.Tables.{Table}
+-- `tick` meets its contract. Assumes nothing.
 use Rattle.runner.proofs.Ticking.{stops, latches}
 use Rattle.runner.proofs.Tabled.{plain-table}
 use Rattle.runner.specs.Private.Ready.{rowsIn}
@@ -7,57 +7,41 @@ use mathlib.Core.List.{[]}
 use borrow.Author.Needs.{needs}
 use Rattle.runner.proofs.ticks.tick.Statement.{statement}
 use Rattle.runner.proofs.ticks.tick.Tie as tie
-use Rattle.runner.proofs.ticks.tick.Reads as reads
-use Rattle.runner.proofs.ticks.tick.Lts as lts
-use Rattle.runner.proofs.ticks.flows.Reads as flows-reads
-use Rattle.runner.proofs.ticks.latch.Reads as latch-reads
 
--- src/ticks.rt:187:11
 flows-requires : tie.Need-flows-requires
 flows-requires c κs = search needs
 
--- src/ticks.rt:188:25
 enum-known-f : tie.Need-enum-known-f
 enum-known-f c = search needs
 
--- src/ticks.rt:189:59
 enum-told : tie.Need-enum-told
 enum-told c = search needs
 
--- src/ticks.rt:189:25
 latch-requires : tie.Need-latch-requires
 latch-requires c κs = search needs
 
--- src/ticks.rt:172:1
 same-length : tie.Need-same-length
 same-length c = search needs
 
--- src/ticks.rt:172:1
 same-length-2 : tie.Need-same-length-2
 same-length-2 c = search needs
 
--- src/ticks.rt:172:1
 same-length-3 : tie.Need-same-length-3
 same-length-3 c = search needs
 
--- src/ticks.rt:172:1
 returns : tie.Need-returns
 unfolding tickOf
 returns c = λ past R. stops (rowsIn (c .before .before .before .before .before .before .before .before .before .before .before .before .before .before .before .before .before .before .before .args .n) (c .before .before .before .before .before .before .before .before .before .before .before .before .before .before .before .before .before .before .before .args .words .now)) (c .before .before .before .before .before .before .before .before .before .before .before .before .before .before .before .before .before .before .before .args .t) past (c .before .before .before .before .before .before .before .before .before .before .before .before .before .before .before .before .before .before .before .args .marks .now) (c .before .before .before .before .before .before .before .before .before .before .before .before .before .before .before .before .before .before .before .args .values .now) _ _ _ (c .before .before .before .before .before .before .before .before .before .before .before .before .before .before .before .before .before .before .before .args .state .now) (flowsFrom (rowsIn (c .before .before .before .before .before .before .before .before .before .before .before .before .before .before .before .before .before .before .before .args .n) (c .before .before .before .before .before .before .before .before .before .before .before .before .before .before .before .before .before .before .before .args .words .now)) (c .before .before .before .before .before .before .before .before .before .before .before .before .before .before .before .before .before .before .before .args .log .now) past [] (rowsIn (c .before .before .before .before .before .before .before .before .before .before .before .before .before .before .before .before .before .before .before .args .n) (c .before .before .before .before .before .before .before .before .before .before .before .before .before .before .before .before .before .before .before .args .words .now))) _ _ (c .before .before .before .before .before .before .before .before .before .flows .ensures past R) (c .before .f .given .1)
 
--- src/ticks.rt:172:1
 same-length-4 : tie.Need-same-length-4
 same-length-4 c = search needs
 
--- src/ticks.rt:172:1
 same-length-5 : tie.Need-same-length-5
 same-length-5 c = search needs
 
--- src/ticks.rt:172:1
 same-length-6 : tie.Need-same-length-6
 same-length-6 c = search needs
 
--- src/ticks.rt:172:1
 returns-2 : tie.Need-returns-2
 unfolding tickOf
 returns-2 c = λ past R. latches (rowsIn (c .before .before .before .before .before .before .before .before .before .before .before .before .before .before .before .before .before .before .before .before .before .before .before .before .args .n) (c .before .before .before .before .before .before .before .before .before .before .before .before .before .before .before .before .before .before .before .before .before .before .before .before .args .words .now)) (c .before .before .before .before .before .before .before .before .before .before .before .before .before .before .before .before .before .before .before .before .before .before .before .before .args .t) past (c .before .before .before .before .before .before .before .before .before .before .before .before .before .before .before .before .before .before .before .before .before .before .before .before .args .marks .now) (c .before .before .before .before .before .before .before .before .before .before .before .before .before .before .before .before .before .before .before .before .before .before .before .before .args .values .now) _ _ _ _ (c .before .before .before .before .before .before .before .before .before .before .before .before .before .before .before .before .before .before .before .before .before .before .before .before .args .n) (plain-table (c .before .before .before .before .before .before .before .before .before .before .before .before .before .before .before .before .before .before .before .before .before .before .before .before .args .n) (c .before .before .before .before .before .before .before .before .before .before .before .before .before .before .before .before .before .before .before .before .before .before .before .before .args .words .now) (c .before .before .before .before .before .before .before .before .before .before .before .before .before .before .before .before .before .before .before .before .before .before .before .before .pre .0) .size) (flowsFrom (rowsIn (c .before .before .before .before .before .before .before .before .before .before .before .before .before .before .before .before .before .before .before .before .before .before .before .before .args .n) (c .before .before .before .before .before .before .before .before .before .before .before .before .before .before .before .before .before .before .before .before .before .before .before .before .args .words .now)) (c .before .before .before .before .before .before .before .before .before .before .before .before .before .before .before .before .before .before .before .before .before .before .before .before .args .log .now) past [] (rowsIn (c .before .before .before .before .before .before .before .before .before .before .before .before .before .before .before .before .before .before .before .before .before .before .before .before .args .n) (c .before .before .before .before .before .before .before .before .before .before .before .before .before .before .before .before .before .before .before .before .before .before .before .before .args .words .now))) _ _ (c .before .before .before .before .before .before .before .before .before .before .before .before .before .before .flows .ensures past R) (c .before .before .before .before .before .before .enum-told .given .1) (λ cells ms vs z w F. c .before .before .latch .ensures past cells ms vs (c .before .before .before .before .before .before .before .before .before .before .before .before .before .before .before .before .before .before .before .before .before .before .before .before .args .t) z w F)
