@@ -20,9 +20,6 @@ fn list(packed: &[u8]) {
     let Listed::Bytes(size) = listed else {
         return;
     };
-    if lister::LONGEST < size {
-        return;
-    }
     let is_written = io::write_all(STDOUT_FILENO, &text[..size]);
     if !is_written {
         os::fail(b"standard output");
