@@ -4,14 +4,13 @@ use Prim.Native.Nat.{ℕ, _<_, _≤_}
 use native.Mathlib.Omega.{arith}
 use mathlib.Core.Bool.{Bool, true, false, cond}
 use lib.Dec.{eqb, ltb}
-use borrow.Author.Tests.{ne-eqb, lt-ltb}
+use borrow.Author.Tests.{ne-eqb}
 use Rattle.table.specs.Rows.{combine, faster, slower, later, head, tail, sample, merge}
 use Rattle.runner.specs.Private.Carried.{Held, opOf, decode, startOf}
 
--- kinds 2 to 6
-pub combines : (k p q r : ℕ) → (k ≡ 0 → ⊥) → (k ≡ 1 → ⊥) → k < 7 → decode k p q r ≡ combine (opOf k) p q
-unfolding decode
-combines k p q r a b l = simp (ne-eqb k 0 a, ne-eqb k 1 b, lt-ltb k 7 l)
+-- six alone is left of kinds 2 to 6
+pub six : (k : ℕ) → k < 7 → (k ≡ 0 → ⊥) → (k ≡ 1 → ⊥) → (k ≡ 2 → ⊥) → (k ≡ 3 → ⊥) → (k ≡ 4 → ⊥) → (k ≡ 5 → ⊥) → k ≡ 6
+six k l a b c d e f = omega arith
 
 -- no other kind is below 16
 pub above-eleven : (k : ℕ) → 7 ≤ k → (k ≡ 7 → ⊥) → (k ≡ 8 → ⊥) → (k ≡ 9 → ⊥) → (k ≡ 10 → ⊥) → (k ≡ 11 → ⊥) → 12 ≤ k

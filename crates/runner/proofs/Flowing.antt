@@ -12,11 +12,11 @@ use Rattle.table.specs.Rows.{Row, tail}
 use Rattle.table.proofs.Tables.{rowAt, Table}
 use Rattle.runner.specs.declared.operators.Outcome.{Outcome}
 use Rattle.runner.specs.declared.ticks.Ticked.the-variants as ticked
-use Rattle.runner.specs.Cells.{Cell, absent, value}
+use Rattle.runner.specs.Cells.{Cell, absent, present, value}
 use Rattle.runner.specs.Operators.{Step, is, clashes}
 use Rattle.runner.specs.Runs.{Tick, Ticks, cellIn, history, inputs, cellOf, TickEnd, filled, stopped, onStep, flowsFrom}
 use Rattle.runner.specs.Answers.{markByte}
-use Rattle.runner.specs.Private.Carried.{stepIs, Held, heldIn, cellsIn, decode, stepOf, nextOf, Did}
+use Rattle.runner.specs.Private.Carried.{outcomeOf, Held, heldIn, cellsIn, decode, stepOf, nextOf, Did}
 use Rattle.runner.specs.Private.Ready.{Carries, Collected, Follows, AllCarry, AllFollow, Ready, Wrote, FlowsEnd}
 use Rattle.runner.proofs.Cells.{wrote-more, here-is}
 use Rattle.runner.proofs.Tabled.{Row-at, row-of}
@@ -25,6 +25,20 @@ use Rattle.runner.proofs.Steps.{row-steps, row-follows, follows-on}
 -- the words of a row in their place
 abbrev pub fields : List ℕ → ℕ → Row
 fields words f = decode (getD words (4 * f) 0) (getD words (4 * f + 1) 0) (getD words (4 * f + 2) 0) (getD words (4 * f + 3) 0)
+
+-- what an outcome tells of the step
+clash-told : (x : Step) → outcomeOf x .mark ≡ 2 → x ≡ clashes
+clash-told (is absent) e = absurd (omega (arith, e))
+clash-told (is (present v)) e = absurd (omega (arith, e))
+clash-told clashes e = refl
+
+record Told (x : Step) : Type 0 where
+  pub cell : Cell
+  pub told : x ≡ is cell
+
+cell-told : (x : Step) → (outcomeOf x .mark ≡ 2 → ⊥) → Told x
+cell-told (is c) u = record { cell = c; told = refl }
+cell-told clashes u = absurd (u refl)
 
 -- the words of other rows stay
 pub held-before : (step : Step) (next : Held) (f g : ℕ) (s s′ : List ℕ) (r : Outcome) → Did step next (4 * f) s s′ r → g < f → heldIn s′ (4 * g) ≡ heldIn s (4 * g)
@@ -93,9 +107,9 @@ module _ (n : ℕ) (words log : List ℕ) (rows : List Row) (T : Table n words r
 
       module _ (s′ : List ℕ) (r : Outcome)
           (D : Did (stepOf (fields words f) t log at (cellsIn ms vs f) (heldIn s (4 * f))) (nextOf (fields words f) t (cellsIn ms vs f) (heldIn s (4 * f))) (4 * f) s s′ r) where
-        pub stops : stepIs r ≡ clashes → FlowsEnd rows t past (flowsFrom rows log past [] rows) ms₀ vs₀ ms vs s′ (ticked.Stopped f)
+        pub stops : r .mark ≡ 2 → FlowsEnd rows t past (flowsFrom rows log past [] rows) ms₀ vs₀ ms vs s′ (ticked.Stopped f)
         stops e =
-            let c : cellOf rows log past (G .now) (rowAt rows f) ≡ clashes = sym step-is ∙ sym near ∙ sym (D .answer) ∙ e in
+            let c : cellOf rows log past (G .now) (rowAt rows f) ≡ clashes = sym step-is ∙ sym near ∙ clash-told _ (ap (λ (o : Outcome). o .mark) (sym (D .answer)) ∙ e) in
             let q : flowsFrom rows log past [] rows ≡ stopped (length (G .now)) (G .now) =
             unroll ∙ ap (λ (x : Step). onStep x (G .now) (λ c. flowsFrom rows log past (G .now ++ (c ∷ [])) (drop (suc f) rows))) c in
             subst (λ (x : TickEnd). FlowsEnd rows t past x ms₀ vs₀ ms vs s′ (ticked.Stopped f)) (sym q)
@@ -105,10 +119,11 @@ module _ (n : ℕ) (words log : List ℕ) (rows : List Row) (T : Table n words r
         grows : (c : Cell) (g a : ℕ) → g ≤ f → a < g → cellIn (G .now) a ≡ cellIn (G .now ++ (c ∷ [])) a
         grows c g a l k = sym (List·getD-append (G .now) (c ∷ []) absent a (omega (arith, G .size)))
 
-        pub goes-on : (c : Cell) (ms′ vs′ : List ℕ) → stepIs r ≡ is c → f < length ms₀ → f < length vs₀ → ms′ ≡ set ms f (markByte c) → vs′ ≡ set vs f (value c)
+        -- the cell that a step came to stands in the parts
+        grown : (c : Cell) (ms′ vs′ : List ℕ) → stepOf (fields words f) t log at (cellsIn ms vs f) (heldIn s (4 * f)) ≡ is c → f < length ms₀ → f < length vs₀ → ms′ ≡ set ms f (markByte c) → vs′ ≡ set vs f (value c)
             → Going rows log past t s₀ ms₀ vs₀ s′ ms′ vs′ (f + 1)
-        goes-on c ms′ vs′ e lm lv em ev =
-            let o : stepOf (rowAt rows f) (length past) log at (cellIn (G .now)) (heldIn s (4 * f)) ≡ is c = sym near ∙ sym (D .answer) ∙ e in
+        grown c ms′ vs′ e lm lv em ev =
+            let o : stepOf (rowAt rows f) (length past) log at (cellIn (G .now)) (heldIn s (4 * f)) ≡ is c = sym near ∙ e in
             record {
               now = G .now ++ (c ∷ []);
               size = simp length-append (omega (arith, G .size));
@@ -125,10 +140,17 @@ module _ (n : ℕ) (words log : List ℕ) (rows : List Row) (T : Table n words r
                 follows-on n g t rows past (G .now) (G .now ++ (c ∷ [])) (heldIn s′ (4 * g)) (rowAt rows g) (row-of n words rows T g (omega arith) .fits) (λ a k. grows c g a (omega arith) k)
                 (subst (λ (w : Held). Follows rows g (rowAt rows g) t (G .now) past w) (sym (held-before _ _ f g s s′ r D l)) (G .followed g l))
 
-            same : (c : Cell) → stepIs r ≡ is c → {g : ℕ} → g ≡ f → Follows rows g (rowAt rows g) t (G .now ++ (c ∷ [])) past (heldIn s′ (4 * g))
+            same : (c : Cell) → stepOf (fields words f) t log at (cellsIn ms vs f) (heldIn s (4 * f)) ≡ is c → {g : ℕ} → g ≡ f → Follows rows g (rowAt rows g) t (G .now ++ (c ∷ [])) past (heldIn s′ (4 * g))
             same c e q =
                 subst (λ (i : ℕ). Follows rows i (rowAt rows i) t (G .now ++ (c ∷ [])) past (heldIn s′ (4 * i))) (sym q)
                 (follows-on n f t rows past (G .now) (G .now ++ (c ∷ [])) (heldIn s′ (4 * f)) (rowAt rows f) (row .fits) (λ a k. grows c f a (omega arith) k)
                 (subst (λ (w : Held). Follows rows f (rowAt rows f) t (G .now) past w) (sym (D .carried ∙ next-near))
                 (subst (λ (i : ℕ). Follows rows f (rowAt rows f) i (G .now) past (nextOf (rowAt rows f) (length past) (cellIn (G .now)) (heldIn s (4 * f)))) (R .ticks)
-                (row-follows n f rows log past (G .now) (heldIn s (4 * f)) at (rowAt rows f) c (row .fits) carried (sym near ∙ sym (D .answer) ∙ e)))))
+                (row-follows n f rows log past (G .now) (heldIn s (4 * f)) at (rowAt rows f) c (row .fits) carried (sym near ∙ e)))))
+
+        pub goes-on : (ms′ vs′ : List ℕ) → (r .mark ≡ 2 → ⊥) → f < length ms₀ → f < length vs₀ → ms′ ≡ set ms f (r .mark) → vs′ ≡ set vs f (r .value)
+            → Going rows log past t s₀ ms₀ vs₀ s′ ms′ vs′ (f + 1)
+        goes-on ms′ vs′ u lm lv em ev =
+            let k = cell-told _ (λ e. u (ap (λ (o : Outcome). o .mark) (D .answer) ∙ e)) in
+            let a : r ≡ outcomeOf (is (k .cell)) = D .answer ∙ ap outcomeOf (k .told) in
+            grown (k .cell) ms′ vs′ (k .told) lm lv (em ∙ ap (λ (o : Outcome). set ms f (o .mark)) a) (ev ∙ ap (λ (o : Outcome). set vs f (o .value)) a)

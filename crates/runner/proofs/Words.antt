@@ -8,15 +8,15 @@ use lib.ListN.{length, getD, set, length-set}
 use lib.Seq.{getD-set-same, getD-set-other}
 use Rattle.runner.specs.declared.operators.Outcome.{Outcome}
 use Rattle.runner.specs.Operators.{Step}
-use Rattle.runner.specs.Private.Carried.{stepIs, Held, held, heldIn, Did}
+use Rattle.runner.specs.Private.Carried.{outcomeOf, Held, held, heldIn, Did}
 
 module _ {step : Step} {next : Held} {i : ℕ} {s : List ℕ} {r : Outcome} where
   -- nothing is stored
-  pub unchanged : stepIs r ≡ step → heldIn s i ≡ next → Did step next i s s r
+  pub unchanged : r ≡ outcomeOf step → heldIn s i ≡ next → Did step next i s s r
   unchanged a h = record { answer = a; carried = h; before = λ j l. refl; after = λ j l. refl }
 
   -- the first word is stored
-  pub first : {v : ℕ} → i + 4 ≤ length s → stepIs r ≡ step → held v (getD s (i + 1) 0) (getD s (i + 2) 0) ≡ next → Did step next i s (set s i v) r
+  pub first : {v : ℕ} → i + 4 ≤ length s → r ≡ outcomeOf step → held v (getD s (i + 1) 0) (getD s (i + 2) 0) ≡ next → Did step next i s (set s i v) r
   first {v} l a h =
       record {
         answer = a;
@@ -26,7 +26,7 @@ module _ {step : Step} {next : Held} {i : ℕ} {s : List ℕ} {r : Outcome} wher
       }
 
   -- the second word is stored
-  pub second : {v : ℕ} → i + 4 ≤ length s → stepIs r ≡ step → held (getD s i 0) v (getD s (i + 2) 0) ≡ next → Did step next i s (set s (i + 1) v) r
+  pub second : {v : ℕ} → i + 4 ≤ length s → r ≡ outcomeOf step → held (getD s i 0) v (getD s (i + 2) 0) ≡ next → Did step next i s (set s (i + 1) v) r
   second {v} l a h =
       record {
         answer = a;
@@ -36,7 +36,7 @@ module _ {step : Step} {next : Held} {i : ℕ} {s : List ℕ} {r : Outcome} wher
       }
 
   -- all three are stored
-  pub all : {u v w : ℕ} → i + 4 ≤ length s → stepIs r ≡ step → held u v w ≡ next → Did step next i s (set (set (set s i u) (i + 1) v) (i + 2) w) r
+  pub all : {u v w : ℕ} → i + 4 ≤ length s → r ≡ outcomeOf step → held u v w ≡ next → Did step next i s (set (set (set s i u) (i + 1) v) (i + 2) w) r
   all {u} {v} {w} l a h =
       record {
         answer = a;

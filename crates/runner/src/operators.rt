@@ -7,22 +7,24 @@ ghost use lib.ListN.{length, getD};
 ghost use Rattle.table.specs.Bits.{bit};
 ghost use Rattle.table.specs.Rows.{larger};
 ghost use Rattle.runner.specs.Operators.{below, apply, combined, sampled, neither, alone, merged};
-ghost use Rattle.runner.specs.Private.Carried.{cellIs, stepIs, Held, heldIn, opOf, Did, timedStep, timedNext, registerStep, fasterStep, fasterNext, begun, slowerStep, slowerNext, laterStep, afterStep, afterNext, headStep, headNext, tailStep, tailNext};
+ghost use Rattle.runner.specs.Private.Carried.{cellIs, outcomeOf, Held, heldIn, opOf, Did, timedStep, timedNext, registerStep, fasterStep, fasterNext, begun, slowerStep, slowerNext, laterStep, afterStep, afterNext, headStep, headNext, tailStep, tailNext};
 ghost use Rattle.runner.specs.Operators.{is};
 ghost use Rattle.runner.specs.Cells.{absent, present};
 
-// A flow at a tick.
-pub enum Signal {
-    Absent,
-    Present(u32),
+// A flow's cell at a tick: absent where the mark is 0, else present with the value.
+pub struct Signal {
+    pub mark: u8,
+    pub value: u32,
 }
 
-// What a row comes to at a tick: a signal, or a clash.
-pub enum Outcome {
-    Absent,
-    Present(u32),
-    Clash,
+// What a row comes to at a tick: the mark and the value of its cell, or the mark of a clash.
+pub struct Outcome {
+    pub mark: u8,
+    pub value: u32,
 }
+
+// No cell has this mark.
+pub(crate) const CLASH: u8 = 2;
 
 // The order of less and larger.
 fn below(x: u32, y: u32) -> bool
@@ -80,9 +82,12 @@ pub(crate) fn input(
     if t == state[i] {
         let k = state[i + 1] as usize;
         state[i] = t + period;
-        Outcome::Present(word_at(log, at + k))
+        Outcome {
+            mark: 1,
+            value: word_at(log, at + k),
+        }
     } else {
-        Outcome::Absent
+        Outcome { mark: 0, value: 0 }
     }
 }
 
@@ -93,35 +98,54 @@ pub(crate) fn constant(t: u32, value: u32, period: u32, state: &mut [u32], i: us
 {
     if t == state[i] {
         state[i] = t + period;
-        Outcome::Present(value)
+        Outcome {
+            mark: 1,
+            value: value,
+        }
     } else {
-        Outcome::Absent
+        Outcome { mark: 0, value: 0 }
     }
 }
 
 // Kinds 2 to 6: present when both operands are.
 pub(crate) fn combined(kind: u32, x: Signal, y: Signal) -> Outcome
-    ensures { λ r. ⌜ stepIs r ≡ combined (opOf kind) (cellIs x) (cellIs y) ⌝ }
+    ensures { λ r. ⌜ r ≡ outcomeOf (combined (opOf kind) (cellIs x) (cellIs y)) ⌝ }
 {
-    match x {
-        Signal::Absent => match y {
-            Signal::Absent => Outcome::Absent,
-            Signal::Present(_) => Outcome::Clash,
-        },
-        Signal::Present(a) => match y {
-            Signal::Absent => Outcome::Clash,
-            Signal::Present(b) => Outcome::Present(apply(kind, a, b)),
-        },
+    if x.mark == 0 {
+        if y.mark == 0 {
+            Outcome { mark: 0, value: 0 }
+        } else {
+            Outcome {
+                mark: CLASH,
+                value: 0,
+            }
+        }
+    } else {
+        if y.mark == 0 {
+            Outcome {
+                mark: CLASH,
+                value: 0,
+            }
+        } else {
+            Outcome {
+                mark: 1,
+                value: apply(kind, x.value, y.value),
+            }
+        }
     }
 }
 
 // Register: carries the value of its source's latest presence, at first the initial value.
 pub(crate) fn registered(beat: Signal, held: u32) -> Outcome
-    ensures { λ r. ⌜ ((h : Held) → h .x ≡ held → stepIs r ≡ registerStep (cellIs beat) h) ⌝ }
+    ensures { λ r. ⌜ ((h : Held) → h .x ≡ held → r ≡ outcomeOf (registerStep (cellIs beat) h)) ⌝ }
 {
-    match beat {
-        Signal::Absent => Outcome::Absent,
-        Signal::Present(_) => Outcome::Present(held),
+    if beat.mark == 0 {
+        Outcome { mark: 0, value: 0 }
+    } else {
+        Outcome {
+            mark: 1,
+            value: held,
+        }
     }
 }
 
@@ -133,7 +157,7 @@ fn begin(t: u32, v: u32, k: u32, gap: u32, state: &mut [u32], i: usize) -> Outco
     state[i] = v;
     state[i + 1] = t + gap;
     state[i + 2] = t + k * gap;
-    Outcome::Present(v)
+    Outcome { mark: 1, value: v }
 }
 
 // The copy of a faster row's latest presence, at its tick.
@@ -146,12 +170,15 @@ fn copied(t: u32, gap: u32, state: &mut [u32], i: usize) -> Outcome
     if t == next {
         if next < end {
             state[i + 1] = t + gap;
-            Outcome::Present(state[i])
+            Outcome {
+                mark: 1,
+                value: state[i],
+            }
         } else {
-            Outcome::Absent
+            Outcome { mark: 0, value: 0 }
         }
     } else {
-        Outcome::Absent
+        Outcome { mark: 0, value: 0 }
     }
 }
 
@@ -160,17 +187,19 @@ pub(crate) fn faster(t: u32, a: Signal, k: u32, gap: u32, state: &mut [u32], i: 
     requires { ⌜ (i + 4 ≤ length (now state)) × (t < 2 ^ 24) × (k < 2 ^ 6) × (gap < 2 ^ 12) ⌝ }
     ensures { λ r. ⌜ Did (fasterStep t (cellIs a) (heldIn (now (state .entry)) i)) (fasterNext t (cellIs a) k gap (heldIn (now (state .entry)) i)) i (now (state .entry)) (now (state .exit)) r ⌝ }
 {
-    match a {
-        Signal::Absent => copied(t, gap, state, i),
-        Signal::Present(v) => {
-            let end = state[i + 2];
-            if end == 0 {
-                begin(t, v, k, gap, state, i)
+    if a.mark == 0 {
+        copied(t, gap, state, i)
+    } else {
+        let end = state[i + 2];
+        if end == 0 {
+            begin(t, a.value, k, gap, state, i)
+        } else {
+            if t == end {
+                begin(t, a.value, k, gap, state, i)
             } else {
-                if t == end {
-                    begin(t, v, k, gap, state, i)
-                } else {
-                    Outcome::Clash
+                Outcome {
+                    mark: CLASH,
+                    value: 0,
                 }
             }
         }
@@ -182,43 +211,51 @@ pub(crate) fn slower(a: Signal, k: u32, state: &mut [u32], i: usize) -> Outcome
     requires { ⌜ (i + 4 ≤ length (now state)) × (1 ≤ k) ⌝ }
     ensures { λ r. ⌜ Did (slowerStep (cellIs a) (heldIn (now (state .entry)) i)) (slowerNext (cellIs a) k (heldIn (now (state .entry)) i)) i (now (state .entry)) (now (state .exit)) r ⌝ }
 {
-    match a {
-        Signal::Absent => Outcome::Absent,
-        Signal::Present(v) => {
-            let left = state[i];
-            if left == 0 {
-                state[i] = k - 1;
-                Outcome::Present(v)
-            } else {
-                state[i] = left - 1;
-                Outcome::Absent
-            }
+    if a.mark == 0 {
+        return Outcome { mark: 0, value: 0 };
+    }
+    let left = state[i];
+    if left == 0 {
+        state[i] = k - 1;
+        Outcome {
+            mark: 1,
+            value: a.value,
         }
+    } else {
+        state[i] = left - 1;
+        Outcome { mark: 0, value: 0 }
     }
 }
 
 // A signal as it is.
 fn same(a: Signal) -> Outcome
-    ensures { λ r. ⌜ stepIs r ≡ is (cellIs a) ⌝ }
+    ensures { λ r. ⌜ r ≡ outcomeOf (is (cellIs a)) ⌝ }
 {
-    match a {
-        Signal::Absent => Outcome::Absent,
-        Signal::Present(v) => Outcome::Present(v),
+    if a.mark == 0 {
+        Outcome { mark: 0, value: 0 }
+    } else {
+        Outcome {
+            mark: 1,
+            value: a.value,
+        }
     }
 }
 
 // Later: the operand itself where d is 0, else what was collected.
 pub(crate) fn later(d: u32, a: Signal, state: &[u32], i: usize) -> Outcome
     requires { ⌜ i + 4 ≤ length (now state) ⌝ }
-    ensures { λ r. ⌜ stepIs r ≡ laterStep (cellIs a) d (heldIn (now (state .entry)) i) ⌝ }
+    ensures { λ r. ⌜ r ≡ outcomeOf (laterStep (cellIs a) d (heldIn (now (state .entry)) i)) ⌝ }
 {
     if d == 0 {
         return same(a);
     }
     if state[i] == 0 {
-        Outcome::Absent
+        Outcome { mark: 0, value: 0 }
     } else {
-        Outcome::Present(state[i + 1])
+        Outcome {
+            mark: 1,
+            value: state[i + 1],
+        }
     }
 }
 
@@ -230,16 +267,19 @@ fn after(t: u32, x: u32, s: u32, state: &mut [u32], i: usize) -> Outcome
     let due = state[i];
     if due == 0 {
         state[i] = t + (t - s);
-        return Outcome::Present(x);
+        return Outcome { mark: 1, value: x };
     }
     if due == 1 {
-        return Outcome::Present(x);
+        return Outcome { mark: 1, value: x };
     }
     if t == due {
         state[i] = 1;
-        Outcome::Present(x)
+        Outcome { mark: 1, value: x }
     } else {
-        Outcome::Clash
+        Outcome {
+            mark: CLASH,
+            value: 0,
+        }
     }
 }
 
@@ -248,20 +288,20 @@ pub(crate) fn head(t: u32, a: Signal, v: u32, s: u32, state: &mut [u32], i: usiz
     requires { ⌜ (i + 4 ≤ length (now state)) × (t < 2 ^ 24) ⌝ }
     ensures { λ r. ⌜ Did (headStep t (cellIs a) v s (heldIn (now (state .entry)) i)) (headNext t (cellIs a) s (heldIn (now (state .entry)) i)) i (now (state .entry)) (now (state .exit)) r ⌝ }
 {
-    match a {
-        Signal::Absent => {
-            if t == s {
-                Outcome::Present(v)
-            } else {
-                Outcome::Absent
-            }
+    if a.mark == 0 {
+        if t == s {
+            Outcome { mark: 1, value: v }
+        } else {
+            Outcome { mark: 0, value: 0 }
         }
-        Signal::Present(x) => {
-            if t <= s {
-                Outcome::Clash
-            } else {
-                after(t, x, s, state, i)
+    } else {
+        if t <= s {
+            Outcome {
+                mark: CLASH,
+                value: 0,
             }
+        } else {
+            after(t, a.value, s, state, i)
         }
     }
 }
@@ -271,86 +311,120 @@ pub(crate) fn tail(a: Signal, state: &mut [u32], i: usize) -> Outcome
     requires { ⌜ i + 4 ≤ length (now state) ⌝ }
     ensures { λ r. ⌜ Did (tailStep (cellIs a) (heldIn (now (state .entry)) i)) (tailNext (cellIs a) (heldIn (now (state .entry)) i)) i (now (state .entry)) (now (state .exit)) r ⌝ }
 {
-    match a {
-        Signal::Absent => Outcome::Absent,
-        Signal::Present(v) => {
-            if state[i] == 0 {
-                state[i] = 1;
-                Outcome::Absent
-            } else {
-                Outcome::Present(v)
-            }
+    if a.mark == 0 {
+        return Outcome { mark: 0, value: 0 };
+    }
+    if state[i] == 0 {
+        state[i] = 1;
+        Outcome { mark: 0, value: 0 }
+    } else {
+        Outcome {
+            mark: 1,
+            value: a.value,
         }
     }
 }
 
 // When, when-not: present where both are and c has the truth wanted.
 pub(crate) fn sampled(wanted: bool, a: Signal, c: Signal) -> Outcome
-    ensures { λ r. ⌜ stepIs r ≡ sampled wanted (cellIs a) (cellIs c) ⌝ }
+    ensures { λ r. ⌜ r ≡ outcomeOf (sampled wanted (cellIs a) (cellIs c)) ⌝ }
 {
-    match a {
-        Signal::Absent => match c {
-            Signal::Absent => Outcome::Absent,
-            Signal::Present(_) => Outcome::Clash,
-        },
-        Signal::Present(x) => match c {
-            Signal::Absent => Outcome::Clash,
-            Signal::Present(y) => chosen(wanted, x, y),
-        },
+    if a.mark == 0 {
+        if c.mark == 0 {
+            Outcome { mark: 0, value: 0 }
+        } else {
+            Outcome {
+                mark: CLASH,
+                value: 0,
+            }
+        }
+    } else {
+        if c.mark == 0 {
+            Outcome {
+                mark: CLASH,
+                value: 0,
+            }
+        } else {
+            chosen(wanted, a.value, c.value)
+        }
     }
 }
 
 // A value, where the truth of y is the one wanted.
 fn chosen(wanted: bool, x: u32, y: u32) -> Outcome
-    ensures { λ r. ⌜ stepIs r ≡ sampled wanted (present x) (present y) ⌝ }
+    ensures { λ r. ⌜ r ≡ outcomeOf (sampled wanted (present x) (present y)) ⌝ }
 {
     if y == 0 {
         if wanted {
-            Outcome::Absent
+            Outcome { mark: 0, value: 0 }
         } else {
-            Outcome::Present(x)
+            Outcome { mark: 1, value: x }
         }
     } else {
         if wanted {
-            Outcome::Present(x)
+            Outcome { mark: 1, value: x }
         } else {
-            Outcome::Absent
+            Outcome { mark: 0, value: 0 }
         }
     }
 }
 
 // The one of two that is to be present alone.
 fn alone(x: Signal, y: Signal) -> Outcome
-    ensures { λ r. ⌜ stepIs r ≡ alone (cellIs x) (cellIs y) ⌝ }
+    ensures { λ r. ⌜ r ≡ outcomeOf (alone (cellIs x) (cellIs y)) ⌝ }
 {
-    match x {
-        Signal::Absent => Outcome::Clash,
-        Signal::Present(v) => match y {
-            Signal::Absent => Outcome::Present(v),
-            Signal::Present(_) => Outcome::Clash,
-        },
+    if x.mark == 0 {
+        Outcome {
+            mark: CLASH,
+            value: 0,
+        }
+    } else {
+        if y.mark == 0 {
+            Outcome {
+                mark: 1,
+                value: x.value,
+            }
+        } else {
+            Outcome {
+                mark: CLASH,
+                value: 0,
+            }
+        }
     }
 }
 
 // Neither of two.
 fn neither(x: Signal, y: Signal) -> Outcome
-    ensures { λ r. ⌜ stepIs r ≡ neither (cellIs x) (cellIs y) ⌝ }
+    ensures { λ r. ⌜ r ≡ outcomeOf (neither (cellIs x) (cellIs y)) ⌝ }
 {
-    match x {
-        Signal::Absent => match y {
-            Signal::Absent => Outcome::Absent,
-            Signal::Present(_) => Outcome::Clash,
-        },
-        Signal::Present(_) => Outcome::Clash,
+    if x.mark == 0 {
+        if y.mark == 0 {
+            Outcome { mark: 0, value: 0 }
+        } else {
+            Outcome {
+                mark: CLASH,
+                value: 0,
+            }
+        }
+    } else {
+        Outcome {
+            mark: CLASH,
+            value: 0,
+        }
     }
 }
 
 // Merge: the one that the truth of c names, alone.
 pub(crate) fn merged(c: Signal, a: Signal, b: Signal) -> Outcome
-    ensures { λ r. ⌜ stepIs r ≡ merged (cellIs c) (cellIs a) (cellIs b) ⌝ }
+    ensures { λ r. ⌜ r ≡ outcomeOf (merged (cellIs c) (cellIs a) (cellIs b)) ⌝ }
 {
-    match c {
-        Signal::Absent => neither(a, b),
-        Signal::Present(y) => { if y == 0 { alone(b, a) } else { alone(a, b) } }
+    if c.mark == 0 {
+        neither(a, b)
+    } else {
+        if c.value == 0 {
+            alone(b, a)
+        } else {
+            alone(a, b)
+        }
     }
 }

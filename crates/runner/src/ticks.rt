@@ -6,13 +6,17 @@ ghost use lib.Dec.{eqb};
 ghost use Prim.Native.Nat.{ℕ, _+_, _*_, _≤_, _<_, _^_};
 ghost use lib.ListN.{length, getD, set};
 ghost use Rattle.table.proofs.Tables.{Fits};
-ghost use Rattle.runner.specs.Private.Carried.{cellIs, cellsIn, heldIn, decode, stepOf, nextOf, Did};
+ghost use Rattle.runner.specs.Private.Carried.{cellIs, outcomeOf, cellsIn, heldIn, opOf, decode, stepOf, nextOf, Did};
 ghost use Rattle.table.specs.Rows.{badRegister};
+ghost use Rattle.runner.specs.Operators.{combined};
 ghost use Rattle.runner.specs.Runs.{Tick, Ticks, flowsFrom, sourceMeets, tickOf};
 ghost use Rattle.runner.specs.Private.Ready.{rowsIn, Plain, Ready, AllFollow, Wrote, FlowsEnd, LatchEnd, TickDone, Listed};
 use crate::operators;
+use crate::operators::CLASH;
 use crate::operators::Outcome;
 use crate::operators::Signal;
+
+const KINDS: u32 = 16;
 
 // What a tick comes to: all of it, or a clash that names a flow.
 pub enum Ticked {
@@ -26,14 +30,26 @@ fn signal_at(marks: &[u8], values: &[u32], f: usize, a: u32) -> Signal
     ensures { λ r. ⌜ cellIs r ≡ cellsIn (now (marks .entry)) (now (values .entry)) f a ⌝ }
 {
     let i = a as usize;
-    if marks[i] == 0 {
-        Signal::Absent
-    } else {
-        Signal::Present(values[i])
+    Signal {
+        mark: marks[i],
+        value: values[i],
     }
 }
 
-// What row f comes to at tick t: one decision over the kind.
+// Kinds 2 to 6, over the signals of flows a and b.
+fn combined_at(kind: u32, marks: &[u8], values: &[u32], f: usize, a: u32, b: u32) -> Outcome
+    requires { ⌜ (a < f) × (b < f) × (f ≤ length (now marks)) × (f ≤ length (now values)) ⌝ }
+    ensures { λ o. ⌜ o ≡ outcomeOf (combined (opOf kind) (cellsIn (now (marks .entry)) (now (values .entry)) f a) (cellsIn (now (marks .entry)) (now (values .entry)) f b)) ⌝ }
+{
+    operators::combined(
+        kind,
+        signal_at(marks, values, f, a),
+        signal_at(marks, values, f, b),
+    )
+}
+
+// What row f comes to at tick t: one decision over the kind. A known kind is its own remainder; that lets the compiler make one jump of the
+// decision and of the one over kinds 2 to 6 in it.
 fn outcome(
     kind: u32,
     p: u32,
@@ -51,36 +67,42 @@ fn outcome(
     ensures { λ o. ⌜ Did (stepOf (decode kind p q r) t (now (log .entry)) at (cellsIn (now (marks .entry)) (now (values .entry)) f) (heldIn (now (state .entry)) (4 * f))) (nextOf (decode kind p q r) t (cellsIn (now (marks .entry)) (now (values .entry)) f) (heldIn (now (state .entry)) (4 * f))) (4 * f) (now (state .entry)) (now (state .exit)) o ⌝ }
 {
     let i = 4 * f;
-    match kind {
-        0 => operators::input(t, p, log, at, state, i),
-        1 => operators::constant(t, p, q, state, i),
-        2..=6 => operators::combined(
-            kind,
+    let code = kind % KINDS;
+    match code {
+        15 => operators::merged(
             signal_at(marks, values, f, p),
             signal_at(marks, values, f, q),
-        ),
-        7 => operators::registered(signal_at(marks, values, f, q), state[i]),
-        8 => operators::faster(t, signal_at(marks, values, f, p), q, r, state, i),
-        9 => operators::slower(signal_at(marks, values, f, p), q, state, i),
-        10 => operators::later(q, signal_at(marks, values, f, p), state, i),
-        11 => operators::head(t, signal_at(marks, values, f, p), q, r, state, i),
-        12 => operators::tail(signal_at(marks, values, f, p), state, i),
-        13 => operators::sampled(
-            true,
-            signal_at(marks, values, f, p),
-            signal_at(marks, values, f, q),
+            signal_at(marks, values, f, r),
         ),
         14 => operators::sampled(
             false,
             signal_at(marks, values, f, p),
             signal_at(marks, values, f, q),
         ),
-        15 => operators::merged(
+        13 => operators::sampled(
+            true,
             signal_at(marks, values, f, p),
             signal_at(marks, values, f, q),
-            signal_at(marks, values, f, r),
         ),
-        _ => Outcome::Clash,
+        12 => operators::tail(signal_at(marks, values, f, p), state, i),
+        11 => operators::head(t, signal_at(marks, values, f, p), q, r, state, i),
+        10 => operators::later(q, signal_at(marks, values, f, p), state, i),
+        9 => operators::slower(signal_at(marks, values, f, p), q, state, i),
+        8 => operators::faster(t, signal_at(marks, values, f, p), q, r, state, i),
+        7 => operators::registered(signal_at(marks, values, f, q), state[i]),
+        1 => operators::constant(t, p, q, state, i),
+        0 => operators::input(t, p, log, at, state, i),
+        2..=6 => match code {
+            2 => combined_at(2, marks, values, f, p, q),
+            3 => combined_at(3, marks, values, f, p, q),
+            4 => combined_at(4, marks, values, f, p, q),
+            5 => combined_at(5, marks, values, f, p, q),
+            _ => combined_at(6, marks, values, f, p, q),
+        },
+        16..=4294967295 => Outcome {
+            mark: CLASH,
+            value: 0,
+        },
     }
 }
 
@@ -122,13 +144,11 @@ fn flows(
             marks,
             values,
         );
-        let next = f + 1;
-        match o {
-            Outcome::Clash => return Ticked::Stopped(f),
-            Outcome::Absent => put(marks, values, f, 0, 0),
-            Outcome::Present(v) => put(marks, values, f, 1, v),
+        if o.mark == CLASH {
+            return Ticked::Stopped(f);
         }
-        f = next;
+        put(marks, values, f, o.mark, o.value);
+        f = f + 1;
     }
     Ticked::Full
 }

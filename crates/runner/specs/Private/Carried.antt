@@ -9,24 +9,21 @@ use lib.Dec.{eqb, ltb, leb}
 use Rattle.table.specs.Rows.{Row, Op, add, subtract, less, equal, larger, input, constant, combine, register, faster, slower, later, head, tail, sample, merge}
 use Rattle.runner.specs.declared.operators.Signal.{Signal}
 use Rattle.runner.specs.declared.operators.Outcome.{Outcome}
-use Rattle.runner.specs.declared.operators.Signal.the-variants as signal
-use Rattle.runner.specs.declared.operators.Outcome.the-variants as outcome
-use Rattle.runner.specs.Cells.{Cell, absent, present}
+use Rattle.runner.specs.Cells.{Cell, absent, present, value}
+use Rattle.runner.specs.Answers.{markByte}
 use Rattle.runner.specs.Operators.{Step, is, clashes, combined, sampled, merged}
-
--- the cell that a signal is, and the step that an outcome is
-abbrev pub cellIs : Signal → Cell
-cellIs signal.Absent = absent
-cellIs (signal.Present v) = present v
-
-abbrev pub stepIs : Outcome → Step
-stepIs outcome.Absent = is absent
-stepIs (outcome.Present v) = is (present v)
-stepIs outcome.Clash = clashes
 
 -- a cell from its mark and its value
 abbrev pub cellAt : ℕ → ℕ → Cell
 cellAt m v = cond (eqb m 0) absent (present v)
+
+-- the cell that a signal is, and a step as an outcome
+abbrev pub cellIs : Signal → Cell
+cellIs s = cellAt (s .mark) (s .value)
+
+abbrev pub outcomeOf : Step → Outcome
+outcomeOf (is c) = record { mark = markByte c; value = value c }
+outcomeOf clashes = record { mark = 2; value = 0 }
 
 -- the cells of a tick's flows below f
 abbrev pub cellsIn : List ℕ → List ℕ → ℕ → ℕ → Cell
@@ -160,7 +157,7 @@ nextOf (merge c a b) t here h = h
 
 -- A row's step: its outcome, the words that it carries from place i on, and no other word changed.
 pub record Did (step : Step) (next : Held) (i : ℕ) (s s′ : List ℕ) (r : Outcome) : Type 0 where
-  pub answer : stepIs r ≡ step
+  pub answer : r ≡ outcomeOf step
   pub carried : heldIn s′ i ≡ next
   pub before : (j : ℕ) → j < i → getD s′ j 0 ≡ getD s j 0
   pub after : (j : ℕ) → i + 3 ≤ j → getD s′ j 0 ≡ getD s j 0

@@ -5,14 +5,8 @@ use borrow.Author.Needs.{needs}
 use Rattle.runner.proofs.operators.faster.Statement.{statement}
 use Rattle.runner.proofs.operators.faster.Tie as tie
 
-enum-told : tie.Need-enum-told
-enum-told c = search needs
-
 copied-requires : tie.Need-copied-requires
 copied-requires c κs = search needs
-
-enum-known-a : tie.Need-enum-known-a
-enum-known-a c = search needs
 
 add-end : tie.Need-add-end
 add-end c = search needs
@@ -33,30 +27,28 @@ same-length : tie.Need-same-length
 same-length c = search needs
 
 returns : tie.Need-returns
-returns c = simp (c .before .before .before .before .enum-told .given .1) (c .before .before .copied .ensures (c .before .before .before .before .before .before .before .args .k))
+returns c = simp (eq-eqb _ _ (c .before .before .before .before .if1 .taken)) (c .before .before .copied .ensures (c .before .before .before .before .before .before .before .args .k))
 
 same-length-2 : tie.Need-same-length-2
 same-length-2 c = search needs
 
 returns-2 : tie.Need-returns-2
-returns-2 c = simp (c .before .before .before .before .before .before .before .a .given .1, eq-eqb _ _ (c .before .before .before .before .if1 .taken)) (c .before .before .begin .ensures)
+returns-2 c = simp (ne-eqb _ _ (c .before .before .before .before .before .before .if1 .left), eq-eqb _ _ (c .before .before .before .before .if2 .taken)) (c .before .before .begin .ensures)
 
 same-length-3 : tie.Need-same-length-3
 same-length-3 c = search needs
 
 returns-3 : tie.Need-returns-3
-returns-3 c = simp (c .before .before .before .before .before .before .before .before .a .given .1, eq-eqb _ _ (c .before .before .before .before .if2 .taken), ne-eqb _ _ (c .before .before .before .before .before .if1 .left)) (c .before .before .begin2 .ensures)
+returns-3 c = simp (ne-eqb _ _ (c .before .before .before .before .before .before .before .if1 .left), ne-eqb _ _ (c .before .before .before .before .before .if2 .left), eq-eqb _ _ (c .before .before .before .before .if3 .taken)) (c .before .before .begin2 .ensures)
 
 returns-4 : tie.Need-returns-4
-returns-4 c = unchanged (simp (c .before .before .before .before .a .given .1, ne-eqb _ _ (c .if2 .left), ne-eqb _ _ (c .before .if1 .left))) (simp (c .before .before .before .before .a .given .1, ne-eqb _ _ (c .if2 .left), ne-eqb _ _ (c .before .if1 .left)))
+returns-4 c = unchanged (simp (ne-eqb _ _ (c .before .before .before .if1 .left), ne-eqb _ _ (c .before .if2 .left), ne-eqb _ _ (c .if3 .left))) (simp (ne-eqb _ _ (c .before .before .before .if1 .left), ne-eqb _ _ (c .before .if2 .left), ne-eqb _ _ (c .if3 .left)))
 
 pub faster-spec : {M : Type 1} → statement M
 faster-spec =
     tie.close
     (tie.spec
-    enum-told
     copied-requires
-    enum-known-a
     add-end
     mul-end
     slice-read-end

@@ -5,11 +5,8 @@ use borrow.Author.Needs.{needs}
 use Rattle.runner.proofs.operators.slower.Statement.{statement}
 use Rattle.runner.proofs.operators.slower.Tie as tie
 
-enum-told : tie.Need-enum-told
-enum-told c = search needs
-
-enum-known-a : tie.Need-enum-known-a
-enum-known-a c = search needs
+returns : tie.Need-returns
+returns c = unchanged (simp (eq-eqb _ _ (c .if1 .taken))) (simp (eq-eqb _ _ (c .if1 .taken)))
 
 mul-left : tie.Need-mul-left
 mul-left c = search needs
@@ -35,27 +32,23 @@ mul-state-2 c = search needs
 slice-write-state-2 : tie.Need-slice-write-state-2
 slice-write-state-2 c = search needs
 
-returns : tie.Need-returns
-returns c = unchanged (simp (c .enum-told .given .1)) (simp (c .enum-told .given .1))
-
 same-length : tie.Need-same-length
 same-length c = search needs
 
 returns-2 : tie.Need-returns-2
-returns-2 c = first (c .before .before .before .before .before .pre .0) (simp (eq-eqb _ _ (c .if1 .taken), c .before .before .before .a .given .1)) (simp (eq-eqb _ _ (c .if1 .taken), c .before .before .before .a .given .1))
+returns-2 c = first (c .before .before .before .before .pre .0) (simp (eq-eqb _ _ (c .if2 .taken), ne-eqb _ _ (c .before .before .if1 .left))) (simp (eq-eqb _ _ (c .if2 .taken), ne-eqb _ _ (c .before .before .if1 .left)))
 
 same-length-2 : tie.Need-same-length-2
 same-length-2 c = search needs
 
 returns-3 : tie.Need-returns-3
-returns-3 c = first (c .before .before .before .before .before .pre .0) (simp (ne-eqb _ _ (c .if1 .left), c .before .before .before .a .given .1)) (simp (ne-eqb _ _ (c .if1 .left), c .before .before .before .a .given .1))
+returns-3 c = first (c .before .before .before .before .pre .0) (simp (ne-eqb _ _ (c .if2 .left), ne-eqb _ _ (c .before .before .if1 .left))) (simp (ne-eqb _ _ (c .if2 .left), ne-eqb _ _ (c .before .before .if1 .left)))
 
 pub slower-spec : {M : Type 1} → statement M
 slower-spec =
     tie.close
     (tie.spec
-    enum-told
-    enum-known-a
+    returns
     mul-left
     slice-read-left
     sub-state
@@ -64,7 +57,6 @@ slower-spec =
     sub-state-2
     mul-state-2
     slice-write-state-2
-    returns
     same-length
     returns-2
     same-length-2
