@@ -23,8 +23,15 @@ pub struct Outcome {
     pub value: u32,
 }
 
-// No cell has this mark.
-pub(crate) const CLASH: u8 = 2;
+pub(crate) const ABSENT: Outcome = Outcome { mark: 0, value: 0 };
+
+// The mark of a clash. No cell has it.
+pub(crate) const CLASHED: u8 = 2;
+
+pub(crate) const CLASH: Outcome = Outcome {
+    mark: CLASHED,
+    value: 0,
+};
 
 // The order of less and larger.
 fn below(x: u32, y: u32) -> bool
@@ -87,7 +94,7 @@ pub(crate) fn input(
             value: word_at(log, at + k),
         }
     } else {
-        Outcome { mark: 0, value: 0 }
+        ABSENT
     }
 }
 
@@ -98,12 +105,9 @@ pub(crate) fn constant(t: u32, value: u32, period: u32, state: &mut [u32], i: us
 {
     if t == state[i] {
         state[i] = t + period;
-        Outcome {
-            mark: 1,
-            value: value,
-        }
+        Outcome { mark: 1, value }
     } else {
-        Outcome { mark: 0, value: 0 }
+        ABSENT
     }
 }
 
@@ -112,20 +116,10 @@ pub(crate) fn combined(kind: u32, x: Signal, y: Signal) -> Outcome
     ensures { λ r. ⌜ r ≡ outcomeOf (combined (opOf kind) (cellIs x) (cellIs y)) ⌝ }
 {
     if x.mark == 0 {
-        if y.mark == 0 {
-            Outcome { mark: 0, value: 0 }
-        } else {
-            Outcome {
-                mark: CLASH,
-                value: 0,
-            }
-        }
+        if y.mark == 0 { ABSENT } else { CLASH }
     } else {
         if y.mark == 0 {
-            Outcome {
-                mark: CLASH,
-                value: 0,
-            }
+            CLASH
         } else {
             Outcome {
                 mark: 1,
@@ -140,7 +134,7 @@ pub(crate) fn registered(beat: Signal, held: u32) -> Outcome
     ensures { λ r. ⌜ ((h : Held) → h .x ≡ held → r ≡ outcomeOf (registerStep (cellIs beat) h)) ⌝ }
 {
     if beat.mark == 0 {
-        Outcome { mark: 0, value: 0 }
+        ABSENT
     } else {
         Outcome {
             mark: 1,
@@ -175,10 +169,10 @@ fn copied(t: u32, gap: u32, state: &mut [u32], i: usize) -> Outcome
                 value: state[i],
             }
         } else {
-            Outcome { mark: 0, value: 0 }
+            ABSENT
         }
     } else {
-        Outcome { mark: 0, value: 0 }
+        ABSENT
     }
 }
 
@@ -197,10 +191,7 @@ pub(crate) fn faster(t: u32, a: Signal, k: u32, gap: u32, state: &mut [u32], i: 
             if t == end {
                 begin(t, a.value, k, gap, state, i)
             } else {
-                Outcome {
-                    mark: CLASH,
-                    value: 0,
-                }
+                CLASH
             }
         }
     }
@@ -212,7 +203,7 @@ pub(crate) fn slower(a: Signal, k: u32, state: &mut [u32], i: usize) -> Outcome
     ensures { λ r. ⌜ Did (slowerStep (cellIs a) (heldIn (now (state .entry)) i)) (slowerNext (cellIs a) k (heldIn (now (state .entry)) i)) i (now (state .entry)) (now (state .exit)) r ⌝ }
 {
     if a.mark == 0 {
-        return Outcome { mark: 0, value: 0 };
+        return ABSENT;
     }
     let left = state[i];
     if left == 0 {
@@ -223,7 +214,7 @@ pub(crate) fn slower(a: Signal, k: u32, state: &mut [u32], i: usize) -> Outcome
         }
     } else {
         state[i] = left - 1;
-        Outcome { mark: 0, value: 0 }
+        ABSENT
     }
 }
 
@@ -232,7 +223,7 @@ fn same(a: Signal) -> Outcome
     ensures { λ r. ⌜ r ≡ outcomeOf (is (cellIs a)) ⌝ }
 {
     if a.mark == 0 {
-        Outcome { mark: 0, value: 0 }
+        ABSENT
     } else {
         Outcome {
             mark: 1,
@@ -250,7 +241,7 @@ pub(crate) fn later(d: u32, a: Signal, state: &[u32], i: usize) -> Outcome
         return same(a);
     }
     if state[i] == 0 {
-        Outcome { mark: 0, value: 0 }
+        ABSENT
     } else {
         Outcome {
             mark: 1,
@@ -276,10 +267,7 @@ fn after(t: u32, x: u32, s: u32, state: &mut [u32], i: usize) -> Outcome
         state[i] = 1;
         Outcome { mark: 1, value: x }
     } else {
-        Outcome {
-            mark: CLASH,
-            value: 0,
-        }
+        CLASH
     }
 }
 
@@ -292,14 +280,11 @@ pub(crate) fn head(t: u32, a: Signal, v: u32, s: u32, state: &mut [u32], i: usiz
         if t == s {
             Outcome { mark: 1, value: v }
         } else {
-            Outcome { mark: 0, value: 0 }
+            ABSENT
         }
     } else {
         if t <= s {
-            Outcome {
-                mark: CLASH,
-                value: 0,
-            }
+            CLASH
         } else {
             after(t, a.value, s, state, i)
         }
@@ -312,11 +297,11 @@ pub(crate) fn tail(a: Signal, state: &mut [u32], i: usize) -> Outcome
     ensures { λ r. ⌜ Did (tailStep (cellIs a) (heldIn (now (state .entry)) i)) (tailNext (cellIs a) (heldIn (now (state .entry)) i)) i (now (state .entry)) (now (state .exit)) r ⌝ }
 {
     if a.mark == 0 {
-        return Outcome { mark: 0, value: 0 };
+        return ABSENT;
     }
     if state[i] == 0 {
         state[i] = 1;
-        Outcome { mark: 0, value: 0 }
+        ABSENT
     } else {
         Outcome {
             mark: 1,
@@ -330,20 +315,10 @@ pub(crate) fn sampled(wanted: bool, a: Signal, c: Signal) -> Outcome
     ensures { λ r. ⌜ r ≡ outcomeOf (sampled wanted (cellIs a) (cellIs c)) ⌝ }
 {
     if a.mark == 0 {
-        if c.mark == 0 {
-            Outcome { mark: 0, value: 0 }
-        } else {
-            Outcome {
-                mark: CLASH,
-                value: 0,
-            }
-        }
+        if c.mark == 0 { ABSENT } else { CLASH }
     } else {
         if c.mark == 0 {
-            Outcome {
-                mark: CLASH,
-                value: 0,
-            }
+            CLASH
         } else {
             chosen(wanted, a.value, c.value)
         }
@@ -356,7 +331,7 @@ fn chosen(wanted: bool, x: u32, y: u32) -> Outcome
 {
     if y == 0 {
         if wanted {
-            Outcome { mark: 0, value: 0 }
+            ABSENT
         } else {
             Outcome { mark: 1, value: x }
         }
@@ -364,7 +339,7 @@ fn chosen(wanted: bool, x: u32, y: u32) -> Outcome
         if wanted {
             Outcome { mark: 1, value: x }
         } else {
-            Outcome { mark: 0, value: 0 }
+            ABSENT
         }
     }
 }
@@ -374,10 +349,7 @@ fn alone(x: Signal, y: Signal) -> Outcome
     ensures { λ r. ⌜ r ≡ outcomeOf (alone (cellIs x) (cellIs y)) ⌝ }
 {
     if x.mark == 0 {
-        Outcome {
-            mark: CLASH,
-            value: 0,
-        }
+        CLASH
     } else {
         if y.mark == 0 {
             Outcome {
@@ -385,10 +357,7 @@ fn alone(x: Signal, y: Signal) -> Outcome
                 value: x.value,
             }
         } else {
-            Outcome {
-                mark: CLASH,
-                value: 0,
-            }
+            CLASH
         }
     }
 }
@@ -398,19 +367,9 @@ fn neither(x: Signal, y: Signal) -> Outcome
     ensures { λ r. ⌜ r ≡ outcomeOf (neither (cellIs x) (cellIs y)) ⌝ }
 {
     if x.mark == 0 {
-        if y.mark == 0 {
-            Outcome { mark: 0, value: 0 }
-        } else {
-            Outcome {
-                mark: CLASH,
-                value: 0,
-            }
-        }
+        if y.mark == 0 { ABSENT } else { CLASH }
     } else {
-        Outcome {
-            mark: CLASH,
-            value: 0,
-        }
+        CLASH
     }
 }
 

@@ -13,6 +13,7 @@ ghost use Rattle.runner.specs.Runs.{Tick, Ticks, flowsFrom, sourceMeets,
 ghost use Rattle.runner.specs.Private.Ready.{rowsIn, Plain, Ready, AllFollow, Wrote, FlowsEnd, LatchEnd, TickDone, Listed};
 use crate::operators;
 use crate::operators::CLASH;
+use crate::operators::CLASHED;
 use crate::operators::Outcome;
 use crate::operators::Signal;
 
@@ -99,10 +100,7 @@ fn outcome(
             5 => combined_at(5, marks, values, f, p, q),
             _ => combined_at(6, marks, values, f, p, q),
         },
-        16..=4294967295 => Outcome {
-            mark: CLASH,
-            value: 0,
-        },
+        16..=4294967295 => CLASH,
     }
 }
 
@@ -144,7 +142,7 @@ fn flows(
             marks,
             values,
         );
-        if o.mark == CLASH {
+        if o.mark == CLASHED {
             return Ticked::Stopped(f);
         }
         put(marks, values, f, o.mark, o.value);
