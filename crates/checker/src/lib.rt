@@ -13,10 +13,11 @@ use rules::sampled;
 use rules::slower;
 use rules::tail;
 use table::Answer;
+use table::word_at;
 ghost use mathlib.Core.Path.{_≡_};
 ghost use mathlib.Core.List.{[], _++_};
 ghost use Prim.Native.Nat.{ℕ, _+_, _*_, _≤_};
-ghost use lib.ListN.{length, take, drop, getD};
+ghost use lib.ListN.{length, take, drop};
 ghost use Rattle.table.specs.Answers.{good, answer};
 ghost use Rattle.table.specs.Rows.{badRegister};
 ghost use Rattle.table.specs.Plain.{four, tableOf, rowsIn};
@@ -49,19 +50,16 @@ struct Row {
     three: u32,
 }
 
-// The numbers of refusals: too little room, a kind that no table has, clocks differ.
+// The numbers of refusals: too little room, a kind that no table has, clocks differ, beyond the limits, a clock that is not plain.
 const NO_ROOM: u32 = 10;
 
 const UNKNOWN: u32 = 13;
 
-const DIFFER: u32 = 21;
+pub(crate) const DIFFER: u32 = 21;
 
-// The word at i, 0 past the end.
-fn word_at(s: &[u32], i: usize) -> u32
-    ensures { λ r. ⌜ r ≡ getD (now (s .entry)) i 0 ⌝ }
-{
-    if i < s.len() { s[i] } else { 0 }
-}
+pub(crate) const BEYOND: u32 = 22;
+
+pub(crate) const NOT_PLAIN: u32 = 23;
 
 // The clock of flow f among those kept.
 fn clock_at(kept: &[u32], f: u32) -> Clock
@@ -140,35 +138,11 @@ fn assign(n: u32, words: &[u32], kept: &mut [u32]) -> Answer
         let verdict = rule(row.kind, row.one, row.two, row.three, kept);
         match verdict {
             Verdict::Is(k) => store(kept, f, k),
-            Verdict::Refused(number) => return refusal(number, f),
+            Verdict::Refused(number) => return Answer::refusal(number, f),
         }
         f += 1;
     }
-    success(n)
-}
-
-// A refusal that names a flow.
-fn refusal(number: u32, flow: u32) -> Answer
-    ensures { λ r. ⌜ r ≡ record { number = number; flow = flow; tick = 0; count = 0 } ⌝ }
-{
-    Answer {
-        number,
-        flow,
-        tick: 0,
-        count: 0,
-    }
-}
-
-// Success, with a count of flows.
-fn success(count: u32) -> Answer
-    ensures { λ r. ⌜ r ≡ record { number = 0; flow = 0; tick = 0; count = count } ⌝ }
-{
-    Answer {
-        number: 0,
-        flow: 0,
-        tick: 0,
-        count,
-    }
+    Answer::success(n)
 }
 
 // Where a search ended: at a flow, or nowhere.
@@ -215,7 +189,7 @@ fn judge(n: u32, words: &[u32], kept: &mut [u32]) -> Answer
     }
     let found = bad_register(n, words, kept);
     match found {
-        Found::At(f) => refusal(DIFFER, f),
+        Found::At(f) => Answer::refusal(DIFFER, f),
         Found::Nothing => answer,
     }
 }
@@ -243,7 +217,7 @@ pub fn check(count: u32, words: &[u32], clocks: &mut [u32]) -> Answer
     }
     let size = 7 * (count as usize);
     if clocks.len() < size {
-        return refusal(NO_ROOM, 0);
+        return Answer::refusal(NO_ROOM, 0);
     }
     let mut kept = [0u32; 448];
     let answer = judge(count, words, &mut kept);

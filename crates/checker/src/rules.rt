@@ -1,17 +1,13 @@
 // The rules of the kinds, over clocks by value.
+use super::BEYOND;
 use super::Clock;
+use super::DIFFER;
+use super::NOT_PLAIN;
 use super::Verdict;
 ghost use mathlib.Core.Path.{_≡_};
 ghost use Prim.Native.Nat.{_+_, _*_, _%_};
 ghost use Rattle.table.specs.Bits.{bit};
 ghost use Rattle.checker.specs.Private.Kept.{every, sameShape, same, limited, put, under, combined, faster, slower, later, head, tail, sampled, extends, merged};
-
-// The numbers of the check's refusals: clocks differ, beyond the limits, a clock that is not plain.
-const DIFFER: u32 = 21;
-
-const BEYOND: u32 = 22;
-
-const NOT_PLAIN: u32 = 23;
 
 // The most that a derived period or phase may be.
 const MOST: u64 = 4095;

@@ -2,7 +2,7 @@
 ghost use mathlib.Core.Path.{_≡_};
 ghost use mathlib.Core.List.{[], _∷_};
 ghost use Prim.Native.Nat.{_+_, _*_, _%_, _≤_};
-ghost use lib.ListN.{length, getD, drop};
+ghost use lib.ListN.{length, drop};
 ghost use lib.Dec.{eqb};
 ghost use Rattle.lister.specs.Listing.{decimal, field, space, sign, refusalText, checked, listed, textAfter, Short};
 ghost use Rattle.table.specs.Answers.{answer, leaves};
@@ -10,6 +10,7 @@ ghost use Rattle.checker.specs.Answers.{clocksWords};
 ghost use Rattle.lister.specs.Private.Words.{Wrote, wordText, wordsText, countedText, sevenText, sevensText, tableText};
 use table::Answer;
 use table::Reading;
+use table::word_at;
 
 // Room for every listing: six bytes, and 64 lines of at most 30.
 pub const LONGEST: usize = 1926;
@@ -75,13 +76,6 @@ fn put_condition(text: &mut [u8], at: usize, word: u32) -> usize
     let next = put(text, at, b'c');
     let last = put_decimal(text, next, word / 2);
     put(text, last, sign(word))
-}
-
-// The word at i, 0 past the end.
-fn word_at(s: &[u32], i: usize) -> u32
-    ensures { λ r. ⌜ r ≡ getD (now (s .entry)) i 0 ⌝ }
-{
-    if i < s.len() { s[i] } else { 0 }
 }
 
 // Writes n conditions, of which the words stand from a place on.

@@ -49,13 +49,16 @@ module _ {A : Type 0} where
 abbrev pub success : ℕ → Answer
 success n = record { number = 0; flow = 0; tick = 0; count = n }
 
+abbrev pub numbered : ℕ → ℕ → Answer
+numbered n f = record { number = n; flow = f; tick = 0; count = 0 }
+
 abbrev pub refusal : Refusal → ℕ → Answer
-refusal why f = record { number = number why; flow = f; tick = 0; count = 0 }
+refusal why f = numbered (number why) f
 
 -- the four parts of each case of a reading
 abbrev pub parts : Reading → Answer
 parts (Table n) = success n
-parts (Refused k row) = record { number = k; flow = row; tick = 0; count = 0 }
+parts (Refused n row) = numbered n row
 
 -- xs from the first cell on, and the rest as it was
 abbrev pub over : List ℕ → List ℕ → List ℕ

@@ -1,7 +1,7 @@
 // A plan's table, in plain form and in packed form.
 ghost use mathlib.Core.Path.{_≡_};
-ghost use lib.ListN.{length};
-ghost use Rattle.table.specs.Answers.{parts};
+ghost use lib.ListN.{getD, length};
+ghost use Rattle.table.specs.Answers.{numbered, parts, success};
 ghost use Rattle.table.specs.Plain.{plainAnswer};
 ghost use Rattle.table.specs.Packed.{readAnswer, wordsAfter, writeAnswer, bytesAfter};
 
@@ -18,6 +18,32 @@ pub struct Answer {
     pub flow: u32,
     pub tick: u32,
     pub count: u32,
+}
+
+impl Answer {
+    // Success, with a count.
+    pub fn success(count: u32) -> Answer
+        ensures { λ r. ⌜ r ≡ success count ⌝ }
+    {
+        Answer {
+            number: 0,
+            flow: 0,
+            tick: 0,
+            count,
+        }
+    }
+
+    // A refusal by its number, with the row or flow that it names.
+    pub fn refusal(number: u32, flow: u32) -> Answer
+        ensures { λ r. ⌜ r ≡ numbered number flow ⌝ }
+    {
+        Answer {
+            number,
+            flow,
+            tick: 0,
+            count: 0,
+        }
+    }
 }
 
 // What reading answers: a table of so many flows, or a refusal and the row that it names.
@@ -72,19 +98,21 @@ pub enum Scan {
 // The bytes of the longest packed table.
 pub const LONGEST_TABLE: usize = (Cursor::LAST + 7) / 8;
 
+// The word at i, 0 past the end.
+pub fn word_at(words: &[u32], i: usize) -> u32
+    ensures { λ r. ⌜ r ≡ getD (now (words .entry)) i 0 ⌝ }
+{
+    if i < words.len() { words[i] } else { 0 }
+}
+
 // The test of a table in plain form: the count of flows, or the first refusal.
 pub fn examine(count: u32, words: &[u32]) -> Answer
     ensures { λ r. ⌜ r ≡ plainAnswer count (now (words .entry)) ⌝ }
 {
     let found = plain::survey(count, words);
     match found {
-        Survey::Fits(_) => Answer {
-            number: 0,
-            flow: 0,
-            tick: 0,
-            count,
-        },
-        Survey::Refused(number, flow) => refused(number, flow),
+        Survey::Fits(_) => Answer::success(count),
+        Survey::Refused(number, flow) => Answer::refusal(number, flow),
     }
 }
 
@@ -109,25 +137,8 @@ pub fn parts(reading: Reading) -> Answer
     ensures { λ r. ⌜ r ≡ parts reading ⌝ }
 {
     match reading {
-        Reading::Table { count } => Answer {
-            number: 0,
-            flow: 0,
-            tick: 0,
-            count,
-        },
-        Reading::Refused { number, row } => refused(number, row),
-    }
-}
-
-// An answer that names a refusal and a row.
-fn refused(number: u32, flow: u32) -> Answer
-    ensures { λ r. ⌜ r ≡ record { number = number; flow = flow; tick = 0; count = 0 } ⌝ }
-{
-    Answer {
-        number,
-        flow,
-        tick: 0,
-        count: 0,
+        Reading::Table { count } => Answer::success(count),
+        Reading::Refused { number, row } => Answer::refusal(number, row),
     }
 }
 
@@ -139,20 +150,15 @@ pub fn write(count: u32, words: &[u32], packed: &mut [u8]) -> Answer
     let found = plain::survey(count, words);
     match found {
         Survey::Refused(number, flow) => {
-            return refused(number, flow);
+            return Answer::refusal(number, flow);
         }
         Survey::Fits(bits) => {
             let bytes = (bits + 7) / 8;
             if packed.len() < bytes {
-                return refused(10, 0);
+                return Answer::refusal(10, 0);
             }
             pack::put_table(count, words, packed);
-            return Answer {
-                number: 0,
-                flow: 0,
-                tick: 0,
-                count: bytes as u32,
-            };
+            return Answer::success(bytes as u32);
         }
     }
 }

@@ -16,15 +16,15 @@ survey-requires c κs = search needs
 enum-known-found : tie.Need-enum-known-found
 enum-known-found c = search needs
 
-refused-requires : tie.Need-refused-requires
-refused-requires c κs = search needs
+refusal-requires : tie.Need-refusal-requires
+refusal-requires c κs = search needs
 
 returns : tie.Need-returns
 returns c =
     let a = c .before .before .before .before .before .before .before .args in
     let g = c .before .before .found .given in
     let d = write-refused (a .count) (g .0 .0) (g .0 .1 .0) (now (a .words)) (now (a .packed)) (c .before .before .before .before .survey .ensures .0 ∙ ap (told (a .count)) (g .1)) in
-    (c .refused .ensures ∙ d .0, d .1)
+    (c .refusal .ensures ∙ d .0, d .1)
 
 enum-known-found-2 : tie.Need-enum-known-found-2
 enum-known-found-2 c = search needs
@@ -36,8 +36,8 @@ add-bytes c =
     let z = subst (Sized (split (a .count) (now (a .words)))) (g .1) (c .before .before .before .survey .ensures .1) in
     omega (arith, z .1)
 
-refused-requires-2 : tie.Need-refused-requires-2
-refused-requires-2 c κs = search needs
+refusal-requires-2 : tie.Need-refusal-requires-2
+refusal-requires-2 c κs = search needs
 
 returns-2 : tie.Need-returns-2
 returns-2 c =
@@ -45,7 +45,7 @@ returns-2 c =
     let g = c .before .before .before .found2 .given in
     let z = subst (Sized (split (a .count) (now (a .words)))) (g .1) (c .before .before .before .before .before .survey .ensures .1) in
     let d = write-full (a .count) (g .0 .0) (now (a .words)) (now (a .packed)) (c .before .before .before .before .before .survey .ensures .0 ∙ ap (told (a .count)) (g .1)) (z .0) (c .before .if1 .taken) in
-    (c .refused2 .ensures ∙ d .0, d .1)
+    (c .refusal2 .ensures ∙ d .0, d .1)
 
 put-table-requires : tie.Need-put-table-requires
 put-table-requires c κs =
@@ -55,25 +55,28 @@ put-table-requires c κs =
     let d = ready (a .count) (now (a .words)) (c .before .before .before .before .before .survey .ensures .0 ∙ ap (told (a .count)) (g .1)) in
     (d .few, d .words-size, d .accepted, omega (arith, z .0, c .before .if1 .left))
 
-cast-t14 : tie.Need-cast-t14
-cast-t14 c =
+cast-success : tie.Need-cast-success
+cast-success c =
     let a = c .before .before .before .before .before .before .before .before .before .before .before .args in
     let g = c .before .before .before .before .before .before .found2 .given in
     let z = subst (Sized (split (a .count) (now (a .words)))) (g .1) (c .before .before .before .before .before .before .before .before .survey .ensures .1) in
     omega (arith, z .1)
+
+success-requires : tie.Need-success-requires
+success-requires c κs = search needs
 
 same-length : tie.Need-same-length
 same-length c = search needs
 
 returns-3 : tie.Need-returns-3
 returns-3 c =
-    let a = c .before .before .before .before .before .before .before .before .before .before .before .args in
-    let g = c .before .before .before .before .before .before .found2 .given in
-    let z = subst (Sized (split (a .count) (now (a .words)))) (g .1) (c .before .before .before .before .before .before .before .before .survey .ensures .1) in
-    let p = c .before .before .put-table in
-    let d = write-done (a .count) (g .0 .0) (now (a .words)) (now (a .packed)) (c .before .before .before .before .before .before .before .before .survey .ensures .0 ∙ ap (told (a .count)) (g .1)) (z .0)
-    (p .last .1 .1 .0) (c .before .before .before .before .if1 .left) (λ k. omega (arith, c .slice-known2 .given k)) (λ k. omega (arith, c .before .before .before .before .before .before .before .before .before .slice-known .given k)) (p .kept .1 .1 .0) (p .ensures) in
-    (d .0, d .1)
+    let a = c .before .before .before .before .before .before .before .before .before .before .before .before .args in
+    let g = c .before .before .before .before .before .before .before .found2 .given in
+    let z = subst (Sized (split (a .count) (now (a .words)))) (g .1) (c .before .before .before .before .before .before .before .before .before .survey .ensures .1) in
+    let p = c .before .before .before .put-table in
+    let d = write-done (a .count) (g .0 .0) (now (a .words)) (now (a .packed)) (c .before .before .before .before .before .before .before .before .before .survey .ensures .0 ∙ ap (told (a .count)) (g .1)) (z .0)
+    (p .last .1 .1 .0) (c .before .before .before .before .before .if1 .left) (λ k. omega (arith, c .before .slice-known2 .given k)) (λ k. omega (arith, c .before .before .before .before .before .before .before .before .before .before .slice-known .given k)) (p .kept .1 .1 .0) (p .ensures) in
+    (c .success .ensures ∙ d .0, d .1)
 
 pub write-spec : {M : Type 1} → statement M
 write-spec =
@@ -81,13 +84,14 @@ write-spec =
     (tie.spec
     survey-requires
     enum-known-found
-    refused-requires
+    refusal-requires
     returns
     enum-known-found-2
     add-bytes
-    refused-requires-2
+    refusal-requires-2
     returns-2
     put-table-requires
-    cast-t14
+    cast-success
+    success-requires
     same-length
     returns-3)

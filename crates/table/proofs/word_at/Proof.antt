@@ -1,10 +1,10 @@
--- `checker::word_at` meets its contract. Assumes nothing.
+-- `table::word_at` meets its contract. Assumes nothing.
 use mathlib.Core.Path.{sym}
 use lib.ListN.{List·getD-eq-default}
 use denote.Ref.{now}
 use borrow.Author.Needs.{needs}
-use Rattle.checker.proofs.word_at.Statement.{statement}
-use Rattle.checker.proofs.word_at.Tie as tie
+use Rattle.table.proofs.word_at.Statement.{statement}
+use Rattle.table.proofs.word_at.Tie as tie
 
 mul-result : tie.Need-mul-result
 mul-result c = search needs
@@ -16,7 +16,7 @@ returns : tie.Need-returns
 returns c = search needs
 
 returns-2 : tie.Need-returns-2
-returns-2 c = sym (List·getD-eq-default (now (c .before .args .s)) 0 (c .if1 .left))
+returns-2 c = sym (List·getD-eq-default (now (c .before .args .words)) 0 (c .if1 .left))
 
 pub word-at-spec : {M : Type 1} → statement M
 word-at-spec = tie.close (tie.spec mul-result shared-slice-read-result returns returns-2)
