@@ -130,24 +130,7 @@ fn run_ticks(
         }
         t = next;
     }
-    Answer {
-        number: 0,
-        flow: 0,
-        tick: 0,
-        count: ticks,
-    }
-}
-
-// A refusal that names no flow.
-fn refused(number: u32) -> Answer
-    ensures { λ r. ⌜ r ≡ record { number = number; flow = 0; tick = 0; count = 0 } ⌝ }
-{
-    Answer {
-        number,
-        flow: 0,
-        tick: 0,
-        count: 0,
-    }
+    Answer::success(ticks)
 }
 
 // The run of a table that is not refused, from its start on.
@@ -197,19 +180,19 @@ fn run_plain(
     ensures { λ r. ⌜ Called n (now (words .entry)) (now (log .entry)) ticks (now (marks .entry)) (now (values .entry)) (now (marks .exit)) (now (values .exit)) r ⌝ }
 {
     if 65535 < ticks {
-        return refused(31);
+        return Answer::refusal(31, 0);
     }
     let mut state = [0u32; 256];
     let inputs = state::start(n, words, &mut state) as usize;
     if log.len() != (ticks as usize) * inputs {
-        return refused(32);
+        return Answer::refusal(32, 0);
     }
     let cells = (ticks as usize) * n;
     if marks.len() < cells {
-        return refused(33);
+        return Answer::refusal(33, 0);
     }
     if values.len() < cells {
-        return refused(33);
+        return Answer::refusal(33, 0);
     }
     run_from(n, words, log, inputs, ticks, &mut state, marks, values)
 }

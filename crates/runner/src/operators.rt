@@ -67,13 +67,6 @@ fn apply(kind: u32, x: u32, y: u32) -> u32
     }
 }
 
-// The log's word at a place, 0 past the end.
-fn word_at(log: &[u32], i: usize) -> u32
-    ensures { λ r. ⌜ r ≡ getD (now (log .entry)) i 0 ⌝ }
-{
-    if i < log.len() { log[i] } else { 0 }
-}
-
 // Input: carries the next tick at which it is present, and its number among the inputs.
 pub(crate) fn input(
     t: u32,
@@ -91,7 +84,7 @@ pub(crate) fn input(
         state[i] = t + period;
         Outcome {
             mark: 1,
-            value: word_at(log, at + k),
+            value: table::word_at(log, at + k),
         }
     } else {
         ABSENT

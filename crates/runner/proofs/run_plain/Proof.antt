@@ -11,11 +11,11 @@ use borrow.Author.Needs.{needs}
 use Rattle.runner.proofs.run_plain.Statement.{statement}
 use Rattle.runner.proofs.run_plain.Tie as tie
 
-refused-requires : tie.Need-refused-requires
-refused-requires c κs = search needs
+refusal-requires : tie.Need-refusal-requires
+refusal-requires c κs = search needs
 
 returns : tie.Need-returns
-returns c = rw (c .refused .ensures) (too-many (c .before .before .before .before .before .before .args .n) (c .before .before .before .before .before .before .args .words .now) (c .before .before .before .before .before .before .args .log .now) (c .before .before .before .before .before .before .args .ticks) (c .before .before .before .before .before .before .args .marks .now) (c .before .before .before .before .before .before .args .values .now) (c .before .before .before .before .before .before .pre) (c .before .if1 .taken))
+returns c = rw (c .refusal .ensures) (too-many (c .before .before .before .before .before .before .args .n) (c .before .before .before .before .before .before .args .words .now) (c .before .before .before .before .before .before .args .log .now) (c .before .before .before .before .before .before .args .ticks) (c .before .before .before .before .before .before .args .marks .now) (c .before .before .before .before .before .before .args .values .now) (c .before .before .before .before .before .before .pre) (c .before .if1 .taken))
 
 slice-aggregate-start : tie.Need-slice-aggregate-start
 slice-aggregate-start c = search needs
@@ -29,26 +29,26 @@ cast-inputs c = search needs
 mul-if2 : tie.Need-mul-if2
 mul-if2 c = omega (arith, place-small (c .before .before .before .before .before .before .before .before .args .ticks) (c .before .start .result) (omega (arith, c .before .before .before .if1 .left)) (omega (arith, c .before .start .ensures .0, inputs-all (rowsIn (c .before .before .before .before .before .before .before .before .args .n) (c .before .before .before .before .before .before .before .before .args .words .now)), (plain-table (c .before .before .before .before .before .before .before .before .args .n) (c .before .before .before .before .before .before .before .before .args .words .now) (c .before .before .before .before .before .before .before .before .pre)) .size, (plain-table (c .before .before .before .before .before .before .before .before .args .n) (c .before .before .before .before .before .before .before .before .args .words .now) (c .before .before .before .before .before .before .before .before .pre)) .few)), c .before .before .before .if1 .left)
 
-refused-requires-2 : tie.Need-refused-requires-2
-refused-requires-2 c κs = search needs
+refusal-requires-2 : tie.Need-refusal-requires-2
+refusal-requires-2 c κs = search needs
 
 returns-2 : tie.Need-returns-2
-returns-2 c = rw (c .refused2 .ensures) (wrong-log (c .before .before .before .before .before .before .before .before .before .before .args .n) (c .before .before .before .before .before .before .before .before .before .before .args .words .now) (c .before .before .before .before .before .before .before .before .before .before .args .log .now) (c .before .before .before .before .before .before .before .before .before .before .args .ticks) (c .before .before .before .before .before .before .before .before .before .before .args .marks .now) (c .before .before .before .before .before .before .before .before .before .before .args .values .now) (c .before .before .before .before .before .before .before .before .before .before .pre) (c .before .before .before .before .before .if1 .left) (λ e. c .before .if2 .taken (e ∙ ap (λ (i : ℕ). c .before .before .before .before .before .before .before .before .before .before .args .ticks * i) (sym (c .before .before .before .start .ensures .0)))))
+returns-2 c = rw (c .refusal2 .ensures) (wrong-log (c .before .before .before .before .before .before .before .before .before .before .args .n) (c .before .before .before .before .before .before .before .before .before .before .args .words .now) (c .before .before .before .before .before .before .before .before .before .before .args .log .now) (c .before .before .before .before .before .before .before .before .before .before .args .ticks) (c .before .before .before .before .before .before .before .before .before .before .args .marks .now) (c .before .before .before .before .before .before .before .before .before .before .args .values .now) (c .before .before .before .before .before .before .before .before .before .before .pre) (c .before .before .before .before .before .if1 .left) (λ e. c .before .if2 .taken (e ∙ ap (λ (i : ℕ). c .before .before .before .before .before .before .before .before .before .before .args .ticks * i) (sym (c .before .before .before .start .ensures .0)))))
 
 mul-cells : tie.Need-mul-cells
 mul-cells c = omega (arith, place-small (c .before .before .before .before .before .before .before .before .before .args .ticks) (c .before .before .before .before .before .before .before .before .before .args .n) (omega (arith, c .before .before .before .before .if1 .left)) ((plain-table (c .before .before .before .before .before .before .before .before .before .args .n) (c .before .before .before .before .before .before .before .before .before .args .words .now) (c .before .before .before .before .before .before .before .before .before .pre)) .few))
 
-refused-requires-3 : tie.Need-refused-requires-3
-refused-requires-3 c κs = search needs
+refusal-requires-3 : tie.Need-refusal-requires-3
+refusal-requires-3 c κs = search needs
 
 returns-3 : tie.Need-returns-3
-returns-3 c = rw (c .refused3 .ensures) (short-marks (c .before .before .before .before .before .before .before .before .before .before .before .args .n) (c .before .before .before .before .before .before .before .before .before .before .before .args .words .now) (c .before .before .before .before .before .before .before .before .before .before .before .args .log .now) (c .before .before .before .before .before .before .before .before .before .before .before .args .ticks) (c .before .before .before .before .before .before .before .before .before .before .before .args .marks .now) (c .before .before .before .before .before .before .before .before .before .before .before .args .values .now) (c .before .before .before .before .before .before .before .before .before .before .before .pre) (c .before .before .before .before .before .before .if1 .left) (c .before .before .if2 .left ∙ ap (λ (i : ℕ). c .before .before .before .before .before .before .before .before .before .before .before .args .ticks * i) (c .before .before .before .before .start .ensures .0)) (c .before .if3 .taken))
+returns-3 c = rw (c .refusal3 .ensures) (short-marks (c .before .before .before .before .before .before .before .before .before .before .before .args .n) (c .before .before .before .before .before .before .before .before .before .before .before .args .words .now) (c .before .before .before .before .before .before .before .before .before .before .before .args .log .now) (c .before .before .before .before .before .before .before .before .before .before .before .args .ticks) (c .before .before .before .before .before .before .before .before .before .before .before .args .marks .now) (c .before .before .before .before .before .before .before .before .before .before .before .args .values .now) (c .before .before .before .before .before .before .before .before .before .before .before .pre) (c .before .before .before .before .before .before .if1 .left) (c .before .before .if2 .left ∙ ap (λ (i : ℕ). c .before .before .before .before .before .before .before .before .before .before .before .args .ticks * i) (c .before .before .before .before .start .ensures .0)) (c .before .if3 .taken))
 
-refused-requires-4 : tie.Need-refused-requires-4
-refused-requires-4 c κs = search needs
+refusal-requires-4 : tie.Need-refusal-requires-4
+refusal-requires-4 c κs = search needs
 
 returns-4 : tie.Need-returns-4
-returns-4 c = rw (c .refused4 .ensures) (short-values (c .before .before .before .before .before .before .before .before .before .before .before .before .args .n) (c .before .before .before .before .before .before .before .before .before .before .before .before .args .words .now) (c .before .before .before .before .before .before .before .before .before .before .before .before .args .log .now) (c .before .before .before .before .before .before .before .before .before .before .before .before .args .ticks) (c .before .before .before .before .before .before .before .before .before .before .before .before .args .marks .now) (c .before .before .before .before .before .before .before .before .before .before .before .before .args .values .now) (c .before .before .before .before .before .before .before .before .before .before .before .before .pre) (c .before .before .before .before .before .before .before .if1 .left) (c .before .before .before .if2 .left ∙ ap (λ (i : ℕ). c .before .before .before .before .before .before .before .before .before .before .before .before .args .ticks * i) (c .before .before .before .before .before .start .ensures .0)) (c .before .before .if3 .left) (c .before .if4 .taken))
+returns-4 c = rw (c .refusal4 .ensures) (short-values (c .before .before .before .before .before .before .before .before .before .before .before .before .args .n) (c .before .before .before .before .before .before .before .before .before .before .before .before .args .words .now) (c .before .before .before .before .before .before .before .before .before .before .before .before .args .log .now) (c .before .before .before .before .before .before .before .before .before .before .before .before .args .ticks) (c .before .before .before .before .before .before .before .before .before .before .before .before .args .marks .now) (c .before .before .before .before .before .before .before .before .before .before .before .before .args .values .now) (c .before .before .before .before .before .before .before .before .before .before .before .before .pre) (c .before .before .before .before .before .before .before .if1 .left) (c .before .before .before .if2 .left ∙ ap (λ (i : ℕ). c .before .before .before .before .before .before .before .before .before .before .before .before .args .ticks * i) (c .before .before .before .before .before .start .ensures .0)) (c .before .before .if3 .left) (c .before .if4 .taken))
 
 slice-aggregate-run-from : tie.Need-slice-aggregate-run-from
 slice-aggregate-run-from c = search needs
@@ -69,18 +69,18 @@ pub run-plain-spec : {M : Type 1} → statement M
 run-plain-spec =
     tie.close
     (tie.spec
-    refused-requires
+    refusal-requires
     returns
     slice-aggregate-start
     start-requires
     cast-inputs
     mul-if2
-    refused-requires-2
+    refusal-requires-2
     returns-2
     mul-cells
-    refused-requires-3
+    refusal-requires-3
     returns-3
-    refused-requires-4
+    refusal-requires-4
     returns-4
     slice-aggregate-run-from
     run-from-requires
