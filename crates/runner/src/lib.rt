@@ -15,6 +15,8 @@ mod ticks;
 use crate::ticks::Ticked;
 use table::Answer;
 
+const MOST_TICKS: u32 = 65535;
+
 // The parts of the trace that start at the tick's own first cell are lent to the tick.
 fn tick_at(
     first: usize,
@@ -29,8 +31,19 @@ fn tick_at(
     marks: &mut [u8],
     values: &mut [u32],
 ) -> Ticked
-    requires { ⌜ (Plain n (now words)) × (first + n ≤ length (now marks)) × (first + n ≤ length (now values)) × (length (now state) ≡ 256) × (Listed 7 n (now words) (now registers) count) × (t < 2 ^ 24) × (at < 2 ^ 40) ⌝ }
-    ensures { λ r. ⌜ ((past : Ticks) (ms vs : List ℕ) → Ready (rowsIn n (now (words .entry))) past t at (now (state .entry)) → length (cells past) ≡ first → Wrote (cells past) ms vs (now (marks .entry)) (now (values .entry)) → TickAt (rowsIn n (now (words .entry))) t past (tickOf (rowsIn n (now (words .entry))) (now (log .entry)) past) ms vs (now (marks .exit)) (now (values .exit)) (now (state .exit)) r) ⌝ }
+    requires { ⌜ (Plain n (now words))
+        × (first + n ≤ length (now marks))
+        × (first + n ≤ length (now values))
+        × (length (now state) ≡ 256)
+        × (Listed 7 n (now words) (now registers) count)
+        × (t < 2 ^ 24)
+        × (at < 2 ^ 40) ⌝ }
+    ensures { λ r. ⌜ ((past : Ticks) (ms vs : List ℕ)
+        → Ready (rowsIn n (now (words .entry))) past t at (now (state .entry))
+        → length (cells past) ≡ first
+        → Wrote (cells past) ms vs (now (marks .entry)) (now (values .entry))
+        → TickAt (rowsIn n (now (words .entry))) t past (tickOf (rowsIn n (now (words .entry))) (now (log .entry)) past) ms vs
+        (now (marks .exit)) (now (values .exit)) (now (state .exit)) r) ⌝ }
 {
     ticks::tick(
         n,
@@ -61,8 +74,21 @@ fn turn(
     marks: &mut [u8],
     values: &mut [u32],
 ) -> Ticked
-    requires { ⌜ (Plain n (now words)) × (t * n + n ≤ length (now marks)) × (t * n + n ≤ length (now values)) × (length (now state) ≡ 256) × (Listed 7 n (now words) (now registers) «register_count») × (Listed 10 n (now words) (now laters) «later_count») × (t < 2 ^ 24) × (inputs ≡ runs.inputs (rowsIn n (now words))) ⌝ }
-    ensures { λ r. ⌜ ((past : Ticks) (ms vs : List ℕ) → length past ≡ t → Regular n past → Wrote (cells past) ms vs (now (marks .entry)) (now (values .entry)) → AllCarry (rowsIn n (now (words .entry))) t past (now (state .entry)) → TickAt (rowsIn n (now (words .entry))) t past (tickOf (rowsIn n (now (words .entry))) (now (log .entry)) past) ms vs (now (marks .exit)) (now (values .exit)) (now (state .exit)) r) ⌝ }
+    requires { ⌜ (Plain n (now words))
+        × (t * n + n ≤ length (now marks))
+        × (t * n + n ≤ length (now values))
+        × (length (now state) ≡ 256)
+        × (Listed 7 n (now words) (now registers) «register_count»)
+        × (Listed 10 n (now words) (now laters) «later_count»)
+        × (t < 2 ^ 24)
+        × (inputs ≡ runs.inputs (rowsIn n (now words))) ⌝ }
+    ensures { λ r. ⌜ ((past : Ticks) (ms vs : List ℕ)
+        → length past ≡ t
+        → Regular n past
+        → Wrote (cells past) ms vs (now (marks .entry)) (now (values .entry))
+        → AllCarry (rowsIn n (now (words .entry))) t past (now (state .entry))
+        → TickAt (rowsIn n (now (words .entry))) t past (tickOf (rowsIn n (now (words .entry))) (now (log .entry)) past) ms vs
+        (now (marks .exit)) (now (values .exit)) (now (state .exit)) r) ⌝ }
 {
     state::collect(laters, later_count, n, words, t, marks, values, state);
     let first = (t as usize) * n;
@@ -97,8 +123,17 @@ fn run_ticks(
     marks: &mut [u8],
     values: &mut [u32],
 ) -> Answer
-    requires { ⌜ (Plain n (now words)) × (ticks * n ≤ length (now marks)) × (ticks * n ≤ length (now values)) × (length (now state) ≡ 256) × (Listed 7 n (now words) (now registers) «register_count») × (Listed 10 n (now words) (now laters) «later_count») × (ticks < 2 ^ 24) × (inputs ≡ runs.inputs (rowsIn n (now words))) × (AllCarry (rowsIn n (now words)) 0 [] (now state)) ⌝ }
-    ensures { λ r. ⌜ RanTo (runs.run (rowsIn n (now (words .entry))) (now (log .entry)) ticks) ticks (now (marks .entry)) (now (values .entry)) (now (marks .exit)) (now (values .exit)) r ⌝ }
+    requires { ⌜ (Plain n (now words))
+        × (ticks * n ≤ length (now marks))
+        × (ticks * n ≤ length (now values))
+        × (length (now state) ≡ 256)
+        × (Listed 7 n (now words) (now registers) «register_count»)
+        × (Listed 10 n (now words) (now laters) «later_count»)
+        × (ticks < 2 ^ 24)
+        × (inputs ≡ runs.inputs (rowsIn n (now words)))
+        × (AllCarry (rowsIn n (now words)) 0 [] (now state)) ⌝ }
+    ensures { λ r. ⌜ RanTo (runs.run (rowsIn n (now (words .entry))) (now (log .entry)) ticks) ticks (now (marks .entry)) (now (values .entry))
+        (now (marks .exit)) (now (values .exit)) r ⌝ }
 {
     let mut t: u32 = 0;
     while t < ticks {
@@ -144,8 +179,15 @@ fn run_from(
     marks: &mut [u8],
     values: &mut [u32],
 ) -> Answer
-    requires { ⌜ (Plain n (now words)) × (ticks * n ≤ length (now marks)) × (ticks * n ≤ length (now values)) × (length (now state) ≡ 256) × (ticks < 2 ^ 24) × (inputs ≡ runs.inputs (rowsIn n (now words))) × (AllCarry (rowsIn n (now words)) 0 [] (now state)) ⌝ }
-    ensures { λ r. ⌜ RanTo (runs.run (rowsIn n (now (words .entry))) (now (log .entry)) ticks) ticks (now (marks .entry)) (now (values .entry)) (now (marks .exit)) (now (values .exit)) r ⌝ }
+    requires { ⌜ (Plain n (now words))
+        × (ticks * n ≤ length (now marks))
+        × (ticks * n ≤ length (now values))
+        × (length (now state) ≡ 256)
+        × (ticks < 2 ^ 24)
+        × (inputs ≡ runs.inputs (rowsIn n (now words)))
+        × (AllCarry (rowsIn n (now words)) 0 [] (now state)) ⌝ }
+    ensures { λ r. ⌜ RanTo (runs.run (rowsIn n (now (words .entry))) (now (log .entry)) ticks) ticks (now (marks .entry)) (now (values .entry))
+        (now (marks .exit)) (now (values .exit)) r ⌝ }
 {
     let mut registers = [0u32; 64];
     let mut laters = [0u32; 64];
@@ -177,9 +219,10 @@ fn run_plain(
     values: &mut [u32],
 ) -> Answer
     requires { ⌜ Plain n (now words) ⌝ }
-    ensures { λ r. ⌜ Called n (now (words .entry)) (now (log .entry)) ticks (now (marks .entry)) (now (values .entry)) (now (marks .exit)) (now (values .exit)) r ⌝ }
+    ensures { λ r. ⌜ Called n (now (words .entry)) (now (log .entry)) ticks (now (marks .entry)) (now (values .entry)) (now (marks .exit))
+        (now (values .exit)) r ⌝ }
 {
-    if 65535 < ticks {
+    if MOST_TICKS < ticks {
         return Answer::refusal(31, 0);
     }
     let mut state = [0u32; 256];
@@ -206,7 +249,8 @@ pub fn run(
     marks: &mut [u8],
     values: &mut [u32],
 ) -> Answer
-    ensures { λ r. ⌜ Called count (now (words .entry)) (now (log .entry)) ticks (now (marks .entry)) (now (values .entry)) (now (marks .exit)) (now (values .exit)) r ⌝ }
+    ensures { λ r. ⌜ Called count (now (words .entry)) (now (log .entry)) ticks (now (marks .entry)) (now (values .entry)) (now (marks .exit))
+        (now (values .exit)) r ⌝ }
 {
     let found = table::examine(count, words);
     if found.number == 0 {

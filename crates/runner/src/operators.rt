@@ -77,7 +77,8 @@ pub(crate) fn input(
     i: usize,
 ) -> Outcome
     requires { ⌜ (i + 4 ≤ length (now state)) × (t < 2 ^ 24) × (period < 2 ^ 12) × (at < 2 ^ 40) ⌝ }
-    ensures { λ r. ⌜ Did (timedStep t (getD (now (log .entry)) (at + heldIn (now (state .entry)) i .y) 0) (heldIn (now (state .entry)) i)) (timedNext t period (heldIn (now (state .entry)) i)) i (now (state .entry)) (now (state .exit)) r ⌝ }
+    ensures { λ r. ⌜ Did (timedStep t (getD (now (log .entry)) (at + heldIn (now (state .entry)) i .y) 0) (heldIn (now (state .entry)) i))
+        (timedNext t period (heldIn (now (state .entry)) i)) i (now (state .entry)) (now (state .exit)) r ⌝ }
 {
     if t == state[i] {
         let k = state[i + 1] as usize;
@@ -94,7 +95,8 @@ pub(crate) fn input(
 // Constant: carries the next tick at which it is present.
 pub(crate) fn constant(t: u32, value: u32, period: u32, state: &mut [u32], i: usize) -> Outcome
     requires { ⌜ (i + 4 ≤ length (now state)) × (t < 2 ^ 24) × (period < 2 ^ 12) ⌝ }
-    ensures { λ r. ⌜ Did (timedStep t value (heldIn (now (state .entry)) i)) (timedNext t period (heldIn (now (state .entry)) i)) i (now (state .entry)) (now (state .exit)) r ⌝ }
+    ensures { λ r. ⌜ Did (timedStep t value (heldIn (now (state .entry)) i)) (timedNext t period (heldIn (now (state .entry)) i)) i
+        (now (state .entry)) (now (state .exit)) r ⌝ }
 {
     if t == state[i] {
         state[i] = t + period;
@@ -150,7 +152,9 @@ fn begin(t: u32, v: u32, k: u32, gap: u32, state: &mut [u32], i: usize) -> Outco
 // The copy of a faster row's latest presence, at its tick.
 fn copied(t: u32, gap: u32, state: &mut [u32], i: usize) -> Outcome
     requires { ⌜ (i + 4 ≤ length (now state)) × (t < 2 ^ 24) × (gap < 2 ^ 12) ⌝ }
-    ensures { λ r. ⌜ ((k : ℕ) → Did (fasterStep t absent (heldIn (now (state .entry)) i)) (fasterNext t absent k gap (heldIn (now (state .entry)) i)) i (now (state .entry)) (now (state .exit)) r) ⌝ }
+    ensures { λ r. ⌜ ((k : ℕ)
+        → Did (fasterStep t absent (heldIn (now (state .entry)) i)) (fasterNext t absent k gap (heldIn (now (state .entry)) i)) i
+        (now (state .entry)) (now (state .exit)) r) ⌝ }
 {
     let next = state[i + 1];
     let end = state[i + 2];
@@ -172,7 +176,8 @@ fn copied(t: u32, gap: u32, state: &mut [u32], i: usize) -> Outcome
 // Faster: carries the latest value, the next copy's tick, and the tick at which the next presence is due, 0 before the first.
 pub(crate) fn faster(t: u32, a: Signal, k: u32, gap: u32, state: &mut [u32], i: usize) -> Outcome
     requires { ⌜ (i + 4 ≤ length (now state)) × (t < 2 ^ 24) × (k < 2 ^ 6) × (gap < 2 ^ 12) ⌝ }
-    ensures { λ r. ⌜ Did (fasterStep t (cellIs a) (heldIn (now (state .entry)) i)) (fasterNext t (cellIs a) k gap (heldIn (now (state .entry)) i)) i (now (state .entry)) (now (state .exit)) r ⌝ }
+    ensures { λ r. ⌜ Did (fasterStep t (cellIs a) (heldIn (now (state .entry)) i))
+        (fasterNext t (cellIs a) k gap (heldIn (now (state .entry)) i)) i (now (state .entry)) (now (state .exit)) r ⌝ }
 {
     if a.mark == 0 {
         copied(t, gap, state, i)
@@ -193,7 +198,8 @@ pub(crate) fn faster(t: u32, a: Signal, k: u32, gap: u32, state: &mut [u32], i: 
 // Slower: carries how many presences are still to be left out.
 pub(crate) fn slower(a: Signal, k: u32, state: &mut [u32], i: usize) -> Outcome
     requires { ⌜ (i + 4 ≤ length (now state)) × (1 ≤ k) ⌝ }
-    ensures { λ r. ⌜ Did (slowerStep (cellIs a) (heldIn (now (state .entry)) i)) (slowerNext (cellIs a) k (heldIn (now (state .entry)) i)) i (now (state .entry)) (now (state .exit)) r ⌝ }
+    ensures { λ r. ⌜ Did (slowerStep (cellIs a) (heldIn (now (state .entry)) i)) (slowerNext (cellIs a) k (heldIn (now (state .entry)) i)) i
+        (now (state .entry)) (now (state .exit)) r ⌝ }
 {
     if a.mark == 0 {
         return ABSENT;
@@ -246,7 +252,8 @@ pub(crate) fn later(d: u32, a: Signal, state: &[u32], i: usize) -> Outcome
 // A presence of a head row's operand, after tick s.
 fn after(t: u32, x: u32, s: u32, state: &mut [u32], i: usize) -> Outcome
     requires { ⌜ (i + 4 ≤ length (now state)) × (t < 2 ^ 24) × (s < t) ⌝ }
-    ensures { λ r. ⌜ Did (afterStep t x (heldIn (now (state .entry)) i)) (afterNext t s (heldIn (now (state .entry)) i)) i (now (state .entry)) (now (state .exit)) r ⌝ }
+    ensures { λ r. ⌜ Did (afterStep t x (heldIn (now (state .entry)) i)) (afterNext t s (heldIn (now (state .entry)) i)) i (now (state .entry))
+        (now (state .exit)) r ⌝ }
 {
     let due = state[i];
     if due == 0 {
@@ -267,7 +274,8 @@ fn after(t: u32, x: u32, s: u32, state: &mut [u32], i: usize) -> Outcome
 // Head: carries 0 before the operand's first presence, then the tick at which the second is due, and 1 after that.
 pub(crate) fn head(t: u32, a: Signal, v: u32, s: u32, state: &mut [u32], i: usize) -> Outcome
     requires { ⌜ (i + 4 ≤ length (now state)) × (t < 2 ^ 24) ⌝ }
-    ensures { λ r. ⌜ Did (headStep t (cellIs a) v s (heldIn (now (state .entry)) i)) (headNext t (cellIs a) s (heldIn (now (state .entry)) i)) i (now (state .entry)) (now (state .exit)) r ⌝ }
+    ensures { λ r. ⌜ Did (headStep t (cellIs a) v s (heldIn (now (state .entry)) i)) (headNext t (cellIs a) s (heldIn (now (state .entry)) i)) i
+        (now (state .entry)) (now (state .exit)) r ⌝ }
 {
     if a.mark == 0 {
         if t == s {
@@ -287,7 +295,8 @@ pub(crate) fn head(t: u32, a: Signal, v: u32, s: u32, state: &mut [u32], i: usiz
 // Tail: carries 0 before the operand's first presence, then 1.
 pub(crate) fn tail(a: Signal, state: &mut [u32], i: usize) -> Outcome
     requires { ⌜ i + 4 ≤ length (now state) ⌝ }
-    ensures { λ r. ⌜ Did (tailStep (cellIs a) (heldIn (now (state .entry)) i)) (tailNext (cellIs a) (heldIn (now (state .entry)) i)) i (now (state .entry)) (now (state .exit)) r ⌝ }
+    ensures { λ r. ⌜ Did (tailStep (cellIs a) (heldIn (now (state .entry)) i)) (tailNext (cellIs a) (heldIn (now (state .entry)) i)) i
+        (now (state .entry)) (now (state .exit)) r ⌝ }
 {
     if a.mark == 0 {
         return ABSENT;
@@ -338,16 +347,16 @@ fn chosen(wanted: bool, x: u32, y: u32) -> Outcome
 }
 
 // The one of two that is to be present alone.
-fn alone(x: Signal, y: Signal) -> Outcome
-    ensures { λ r. ⌜ r ≡ outcomeOf (alone (cellIs x) (cellIs y)) ⌝ }
+fn alone(one: Signal, other: Signal) -> Outcome
+    ensures { λ r. ⌜ r ≡ outcomeOf (alone (cellIs one) (cellIs other)) ⌝ }
 {
-    if x.mark == 0 {
+    if one.mark == 0 {
         CLASH
     } else {
-        if y.mark == 0 {
+        if other.mark == 0 {
             Outcome {
                 mark: 1,
-                value: x.value,
+                value: one.value,
             }
         } else {
             CLASH

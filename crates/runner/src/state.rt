@@ -12,7 +12,9 @@ ghost use Rattle.runner.specs.Private.Ready.{rowsIn, Plain, AllCarry, Re
 // Row f is added to the list where it is of the kind.
 fn listed_with(kind: u32, words: &[u32], f: usize, list: &mut [u32], found: usize) -> usize
     requires { ⌜ (f < 64) × (4 * f < length (now words)) × (found < length (now list)) ⌝ }
-    ensures { λ r. ⌜ (now (list .exit) ≡ cond (eqb (getD (now (words .entry)) (4 * f) 0) kind) (set (now (list .entry)) found f) (now (list .entry))) × (r ≡ cond (eqb (getD (now (words .entry)) (4 * f) 0) kind) (found + 1) found) ⌝ }
+    ensures { λ r. ⌜ (now (list .exit)
+        ≡ cond (eqb (getD (now (words .entry)) (4 * f) 0) kind) (set (now (list .entry)) found f) (now (list .entry)))
+        × (r ≡ cond (eqb (getD (now (words .entry)) (4 * f) 0) kind) (found + 1) found) ⌝ }
 {
     if words[4 * f] == kind {
         list[found] = f as u32;
@@ -99,7 +101,13 @@ fn collect_row(
     values: &[u32],
     state: &mut [u32],
 )
-    requires { ⌜ (n ≤ 64) × (a < n) × (f < 64) × (t < 2 ^ 24) × (t * n + n ≤ length (now marks)) × (t * n + n ≤ length (now values)) × (length (now state) ≡ 256) ⌝ }
+    requires { ⌜ (n ≤ 64)
+        × (a < n)
+        × (f < 64)
+        × (t < 2 ^ 24)
+        × (t * n + n ≤ length (now marks))
+        × (t * n + n ≤ length (now values))
+        × (length (now state) ≡ 256) ⌝ }
     ensures { λ _. ⌜ Fetched n a d f t (now (marks .entry)) (now (values .entry)) (now (state .entry)) (now (state .exit)) ⌝ }
 {
     if d <= t {
@@ -122,8 +130,19 @@ pub(crate) fn collect(
     values: &[u32],
     state: &mut [u32],
 )
-    requires { ⌜ (Plain n (now words)) × (t < 2 ^ 24) × (t * n + n ≤ length (now marks)) × (t * n + n ≤ length (now values)) × (length (now state) ≡ 256) × (Listed 10 n (now words) (now laters) count) ⌝ }
-    ensures { λ _. ⌜ ((past : Ticks) (ms vs : List ℕ) (at : ℕ) → length past ≡ t → at ≡ t * inputs (rowsIn n (now (words .entry))) → Regular n past → Wrote (cells past) ms vs (now (marks .entry)) (now (values .entry)) → AllCarry (rowsIn n (now (words .entry))) t past (now (state .entry)) → Ready (rowsIn n (now (words .entry))) past t at (now (state .exit))) ⌝ }
+    requires { ⌜ (Plain n (now words))
+        × (t < 2 ^ 24)
+        × (t * n + n ≤ length (now marks))
+        × (t * n + n ≤ length (now values))
+        × (length (now state) ≡ 256)
+        × (Listed 10 n (now words) (now laters) count) ⌝ }
+    ensures { λ _. ⌜ ((past : Ticks) (ms vs : List ℕ) (at : ℕ)
+        → length past ≡ t
+        → at ≡ t * inputs (rowsIn n (now (words .entry)))
+        → Regular n past
+        → Wrote (cells past) ms vs (now (marks .entry)) (now (values .entry))
+        → AllCarry (rowsIn n (now (words .entry))) t past (now (state .entry))
+        → Ready (rowsIn n (now (words .entry))) past t at (now (state .exit))) ⌝ }
 {
     let mut j = 0;
     while j < count {

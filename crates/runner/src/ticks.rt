@@ -40,7 +40,10 @@ fn signal_at(marks: &[u8], values: &[u32], f: usize, a: u32) -> Signal
 // Kinds 2 to 6, over the signals of flows a and b.
 fn combined_at(kind: u32, marks: &[u8], values: &[u32], f: usize, a: u32, b: u32) -> Outcome
     requires { ⌜ (a < f) × (b < f) × (f ≤ length (now marks)) × (f ≤ length (now values)) ⌝ }
-    ensures { λ o. ⌜ o ≡ outcomeOf (combined (opOf kind) (cellsIn (now (marks .entry)) (now (values .entry)) f a) (cellsIn (now (marks .entry)) (now (values .entry)) f b)) ⌝ }
+    ensures { λ o. ⌜ o
+        ≡ outcomeOf
+        (combined (opOf kind) (cellsIn (now (marks .entry)) (now (values .entry)) f a)
+        (cellsIn (now (marks .entry)) (now (values .entry)) f b)) ⌝ }
 {
     operators::combined(
         kind,
@@ -64,8 +67,20 @@ fn outcome(
     marks: &[u8],
     values: &[u32],
 ) -> Outcome
-    requires { ⌜ (f < 64) × (kind < 16) × (Fits 64 f (decode kind p q r)) × (f ≤ length (now marks)) × (f ≤ length (now values)) × (length (now state) ≡ 256) × (t < 2 ^ 24) × (at < 2 ^ 40) ⌝ }
-    ensures { λ o. ⌜ Did (stepOf (decode kind p q r) t (now (log .entry)) at (cellsIn (now (marks .entry)) (now (values .entry)) f) (heldIn (now (state .entry)) (4 * f))) (nextOf (decode kind p q r) t (cellsIn (now (marks .entry)) (now (values .entry)) f) (heldIn (now (state .entry)) (4 * f))) (4 * f) (now (state .entry)) (now (state .exit)) o ⌝ }
+    requires { ⌜ (f < 64)
+        × (kind < 16)
+        × (Fits 64 f (decode kind p q r))
+        × (f ≤ length (now marks))
+        × (f ≤ length (now values))
+        × (length (now state) ≡ 256)
+        × (t < 2 ^ 24)
+        × (at < 2 ^ 40) ⌝ }
+    ensures { λ o. ⌜ Did
+        (stepOf (decode kind p q r) t (now (log .entry)) at (cellsIn (now (marks .entry)) (now (values .entry)) f)
+        (heldIn (now (state .entry)) (4 * f)))
+        (nextOf (decode kind p q r) t (cellsIn (now (marks .entry)) (now (values .entry)) f)
+        (heldIn (now (state .entry)) (4 * f)))
+        (4 * f) (now (state .entry)) (now (state .exit)) o ⌝ }
 {
     let i = 4 * f;
     let code = kind % KINDS;
@@ -124,8 +139,17 @@ fn flows(
     marks: &mut [u8],
     values: &mut [u32],
 ) -> Ticked
-    requires { ⌜ (Plain n (now words)) × (n ≤ length (now marks)) × (n ≤ length (now values)) × (length (now state) ≡ 256) × (t < 2 ^ 24) × (at < 2 ^ 40) ⌝ }
-    ensures { λ r. ⌜ ((past : Ticks) → Ready (rowsIn n (now (words .entry))) past t at (now (state .entry)) → FlowsEnd (rowsIn n (now (words .entry))) t past (flowsFrom (rowsIn n (now (words .entry))) (now (log .entry)) past [] (rowsIn n (now (words .entry)))) (now (marks .entry)) (now (values .entry)) (now (marks .exit)) (now (values .exit)) (now (state .exit)) r) ⌝ }
+    requires { ⌜ (Plain n (now words))
+        × (n ≤ length (now marks))
+        × (n ≤ length (now values))
+        × (length (now state) ≡ 256)
+        × (t < 2 ^ 24)
+        × (at < 2 ^ 40) ⌝ }
+    ensures { λ r. ⌜ ((past : Ticks)
+        → Ready (rowsIn n (now (words .entry))) past t at (now (state .entry))
+        → FlowsEnd (rowsIn n (now (words .entry))) t past
+        (flowsFrom (rowsIn n (now (words .entry))) (now (log .entry)) past [] (rowsIn n (now (words .entry))))
+        (now (marks .entry)) (now (values .entry)) (now (marks .exit)) (now (values .exit)) (now (state .exit)) r) ⌝ }
 {
     let mut f = 0;
     while f < n {
@@ -169,8 +193,17 @@ fn latch(
     marks: &[u8],
     values: &[u32],
 ) -> Ticked
-    requires { ⌜ (Plain n (now words)) × (n ≤ length (now marks)) × (n ≤ length (now values)) × (length (now state) ≡ 256) × (Listed 7 n (now words) (now registers) count) ⌝ }
-    ensures { λ r. ⌜ ((past : Ticks) (cells : Tick) (ms vs : List ℕ) (t : ℕ) → length cells ≡ n → Wrote cells ms vs (now (marks .entry)) (now (values .entry)) → AllFollow (rowsIn n (now (words .entry))) t cells past (now (state .entry)) → LatchEnd (rowsIn n (now (words .entry))) t past cells (badRegister (sourceMeets cells) 0 (rowsIn n (now (words .entry)))) (now (state .exit)) r) ⌝ }
+    requires { ⌜ (Plain n (now words))
+        × (n ≤ length (now marks))
+        × (n ≤ length (now values))
+        × (length (now state) ≡ 256)
+        × (Listed 7 n (now words) (now registers) count) ⌝ }
+    ensures { λ r. ⌜ ((past : Ticks) (cells : Tick) (ms vs : List ℕ) (t : ℕ)
+        → length cells ≡ n
+        → Wrote cells ms vs (now (marks .entry)) (now (values .entry))
+        → AllFollow (rowsIn n (now (words .entry))) t cells past (now (state .entry))
+        → LatchEnd (rowsIn n (now (words .entry))) t past cells (badRegister (sourceMeets cells) 0 (rowsIn n (now (words .entry))))
+        (now (state .exit)) r) ⌝ }
 {
     let mut j = 0;
     while j < count {
@@ -199,8 +232,17 @@ pub(crate) fn tick(
     marks: &mut [u8],
     values: &mut [u32],
 ) -> Ticked
-    requires { ⌜ (Plain n (now words)) × (n ≤ length (now marks)) × (n ≤ length (now values)) × (length (now state) ≡ 256) × (Listed 7 n (now words) (now registers) count) × (t < 2 ^ 24) × (at < 2 ^ 40) ⌝ }
-    ensures { λ r. ⌜ ((past : Ticks) → Ready (rowsIn n (now (words .entry))) past t at (now (state .entry)) → TickDone (rowsIn n (now (words .entry))) t past (tickOf (rowsIn n (now (words .entry))) (now (log .entry)) past) (now (marks .entry)) (now (values .entry)) (now (marks .exit)) (now (values .exit)) (now (state .exit)) r) ⌝ }
+    requires { ⌜ (Plain n (now words))
+        × (n ≤ length (now marks))
+        × (n ≤ length (now values))
+        × (length (now state) ≡ 256)
+        × (Listed 7 n (now words) (now registers) count)
+        × (t < 2 ^ 24)
+        × (at < 2 ^ 40) ⌝ }
+    ensures { λ r. ⌜ ((past : Ticks)
+        → Ready (rowsIn n (now (words .entry))) past t at (now (state .entry))
+        → TickDone (rowsIn n (now (words .entry))) t past (tickOf (rowsIn n (now (words .entry))) (now (log .entry)) past)
+        (now (marks .entry)) (now (values .entry)) (now (marks .exit)) (now (values .exit)) (now (state .exit)) r) ⌝ }
 {
     match flows(n, words, log, at, t, state, marks, values) {
         Ticked::Stopped(f) => Ticked::Stopped(f),
