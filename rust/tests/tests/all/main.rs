@@ -6,6 +6,7 @@ mod extremes;
 mod header;
 mod limits;
 mod long;
+mod mirror;
 mod packed;
 mod paper;
 mod short;
