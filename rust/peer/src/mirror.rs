@@ -11,7 +11,7 @@ use crate::{Answer, MOST_FLOWS};
 const MOST_TICKS: u32 = 65_535;
 
 /// The words that a row carries from tick to tick.
-const CARRIED: usize = 4;
+type Held = [u32; 4];
 
 /// A flow at a tick: its mark, 1 present or 0 absent, and its value.
 #[derive(Clone, Copy)]
@@ -75,7 +75,7 @@ pub fn run(plan_count: u32, words: &[u32], log: &[u32], ticks: u32, marks: &mut 
     if ticks > MOST_TICKS {
         return Answer::number(31);
     }
-    let mut state = [0; CARRIED * MOST_FLOWS];
+    let mut state = [[0; 4]; MOST_FLOWS];
     let inputs = start(rows, &mut state);
     if log.len() != ticks as usize * inputs {
         return Answer::number(32);
@@ -98,18 +98,18 @@ pub fn run(plan_count: u32, words: &[u32], log: &[u32], ticks: u32, marks: &mut 
 }
 
 /// The words that the rows carry into tick 0, and the count of inputs.
-fn start(rows: &[Row], state: &mut [u32]) -> usize {
+fn start(rows: &[Row], state: &mut [Held]) -> usize {
     let mut inputs = 0;
     for (flow, &[kind, p, q, r]) in rows.iter().enumerate() {
-        let i = CARRIED * flow;
+        let held = &mut state[flow];
         match kind {
             0 => {
-                state[i] = q;
-                state[i + 1] = inputs as u32;
+                held[0] = q;
+                held[1] = inputs as u32;
                 inputs += 1;
             }
-            1 => state[i] = r,
-            7 => state[i] = p,
+            1 => held[0] = r,
+            7 => held[0] = p,
             _ => {}
         }
     }
@@ -117,16 +117,16 @@ fn start(rows: &[Row], state: &mut [u32]) -> usize {
 }
 
 /// What tick t needs of earlier ticks: the cells of the later rows.
-fn collect(laters: &[usize], rows: &[Row], t: u32, marks: &[u8], values: &[u32], state: &mut [u32]) {
+fn collect(laters: &[usize], rows: &[Row], t: u32, marks: &[u8], values: &[u32], state: &mut [Held]) {
     for &flow in laters {
         let [_, a, d, _] = rows[flow];
-        let i = CARRIED * flow;
+        let held = &mut state[flow];
         if d <= t {
             let place = (t - d) as usize * rows.len() + a as usize;
-            state[i] = u32::from(marks[place]);
-            state[i + 1] = values[place];
+            held[0] = u32::from(marks[place]);
+            held[1] = values[place];
         } else {
-            state[i] = 0;
+            held[0] = 0;
         }
     }
 }
@@ -140,12 +140,12 @@ fn tick(
     log: &[u32],
     at: usize,
     t: u32,
-    state: &mut [u32],
+    state: &mut [Held],
     marks: &mut [u8],
     values: &mut [u32],
 ) -> Ticked {
-    for (flow, &row) in rows.iter().enumerate() {
-        let outcome = outcome(row, t, log, at, state, CARRIED * flow, marks, values);
+    for ((flow, &row), held) in rows.iter().enumerate().zip(state.iter_mut()) {
+        let outcome = outcome(row, t, log, at, held, marks, values);
         if outcome.mark == CLASHED {
             return Ticked::Stopped(flow);
         }
@@ -157,7 +157,7 @@ fn tick(
 
 /// After all flows: each register takes over its source, up to the first whose source and beat are not both present
 /// or both absent.
-fn latch(registers: &[usize], rows: &[Row], state: &mut [u32], marks: &[u8], values: &[u32]) -> Ticked {
+fn latch(registers: &[usize], rows: &[Row], state: &mut [Held], marks: &[u8], values: &[u32]) -> Ticked {
     for &flow in registers {
         let [_, _, beat, source] = rows[flow];
         let (beat, source) = (beat as usize, source as usize);
@@ -165,35 +165,33 @@ fn latch(registers: &[usize], rows: &[Row], state: &mut [u32], marks: &[u8], val
             return Ticked::Stopped(flow);
         }
         if marks[source] != 0 {
-            state[CARRIED * flow] = values[source];
+            state[flow][0] = values[source];
         }
     }
     Ticked::Full
 }
 
-/// What a row comes to at tick t: one decision over the kind. Its carried words start at `i`.
-#[allow(clippy::too_many_arguments)]
+/// What a row comes to at tick t: one decision over the kind.
 fn outcome(
     [kind, p, q, r]: Row,
     t: u32,
     log: &[u32],
     at: usize,
-    state: &mut [u32],
-    i: usize,
+    held: &mut Held,
     marks: &[u8],
     values: &[u32],
 ) -> Outcome {
     let signal = |flow: u32| Signal { mark: marks[flow as usize], value: values[flow as usize] };
     match kind {
-        0 => input(t, p, log, at, state, i),
-        1 => constant(t, p, q, state, i),
+        0 => input(t, p, log, at, held),
+        1 => constant(t, p, q, held),
         2..=6 => combined(kind, signal(p), signal(q)),
-        7 => registered(signal(q), state[i]),
-        8 => faster(t, signal(p), q, r, state, i),
-        9 => slower(signal(p), q, state, i),
-        10 => later(q, signal(p), state, i),
-        11 => head(t, signal(p), q, r, state, i),
-        12 => tail(signal(p), state, i),
+        7 => registered(signal(q), held[0]),
+        8 => faster(t, signal(p), q, r, held),
+        9 => slower(signal(p), q, held),
+        10 => later(q, signal(p), held),
+        11 => head(t, signal(p), q, r, held),
+        12 => tail(signal(p), held),
         13 => sampled(true, signal(p), signal(q)),
         14 => sampled(false, signal(p), signal(q)),
         15 => merged(signal(p), signal(q), signal(r)),
@@ -202,20 +200,20 @@ fn outcome(
 }
 
 /// Input: carries the next tick at which it is present, and its number among the inputs.
-fn input(t: u32, period: u32, log: &[u32], at: usize, state: &mut [u32], i: usize) -> Outcome {
-    if t != state[i] {
+fn input(t: u32, period: u32, log: &[u32], at: usize, held: &mut Held) -> Outcome {
+    if t != held[0] {
         return ABSENT;
     }
-    state[i] = t + period;
-    present(log[at + state[i + 1] as usize])
+    held[0] = t + period;
+    present(log[at + held[1] as usize])
 }
 
 /// Constant: carries the next tick at which it is present.
-fn constant(t: u32, value: u32, period: u32, state: &mut [u32], i: usize) -> Outcome {
-    if t != state[i] {
+fn constant(t: u32, value: u32, period: u32, held: &mut Held) -> Outcome {
+    if t != held[0] {
         return ABSENT;
     }
-    state[i] = t + period;
+    held[0] = t + period;
     present(value)
 }
 
@@ -248,73 +246,73 @@ fn registered(beat: Signal, held: u32) -> Outcome {
 
 /// Faster: carries the latest value, the next copy's tick, and the tick at which the next presence is due, 0 before
 /// the first.
-fn faster(t: u32, a: Signal, k: u32, gap: u32, state: &mut [u32], i: usize) -> Outcome {
-    let due = state[i + 2];
+fn faster(t: u32, a: Signal, k: u32, gap: u32, held: &mut Held) -> Outcome {
+    let due = held[2];
     if a.mark == 0 {
-        if t != state[i + 1] || t >= due {
+        if t != held[1] || t >= due {
             return ABSENT;
         }
-        state[i + 1] = t + gap;
-        return present(state[i]);
+        held[1] = t + gap;
+        return present(held[0]);
     }
     if due != 0 && due != t {
         return CLASH;
     }
-    state[i] = a.value;
-    state[i + 1] = t + gap;
-    state[i + 2] = t + k * gap;
+    held[0] = a.value;
+    held[1] = t + gap;
+    held[2] = t + k * gap;
     present(a.value)
 }
 
 /// Slower: carries how many presences are still to be left out.
-fn slower(a: Signal, k: u32, state: &mut [u32], i: usize) -> Outcome {
+fn slower(a: Signal, k: u32, held: &mut Held) -> Outcome {
     if a.mark == 0 {
         return ABSENT;
     }
-    if state[i] != 0 {
-        state[i] -= 1;
+    if held[0] != 0 {
+        held[0] -= 1;
         return ABSENT;
     }
-    state[i] = k - 1;
+    held[0] = k - 1;
     present(a.value)
 }
 
 /// Later: the operand itself where d is 0, else what was collected.
-fn later(d: u32, a: Signal, state: &[u32], i: usize) -> Outcome {
+fn later(d: u32, a: Signal, held: &Held) -> Outcome {
     if d == 0 {
         return if a.mark == 0 { ABSENT } else { present(a.value) };
     }
-    if state[i] == 0 {
+    if held[0] == 0 {
         ABSENT
     } else {
-        present(state[i + 1])
+        present(held[1])
     }
 }
 
 /// Head: carries 0 before the operand's first presence, then the tick at which the second is due, and 1 after that.
-fn head(t: u32, a: Signal, value: u32, s: u32, state: &mut [u32], i: usize) -> Outcome {
+fn head(t: u32, a: Signal, value: u32, s: u32, held: &mut Held) -> Outcome {
     if a.mark == 0 {
         return if t == s { present(value) } else { ABSENT };
     }
     if t <= s {
         return CLASH;
     }
-    match state[i] {
-        0 => state[i] = t + (t - s),
+    match held[0] {
+        0 => held[0] = t + (t - s),
         1 => {}
-        due if due == t => state[i] = 1,
+        due if due == t => held[0] = 1,
         _ => return CLASH,
     }
     present(a.value)
 }
 
 /// Tail: carries 0 before the operand's first presence, then 1.
-fn tail(a: Signal, state: &mut [u32], i: usize) -> Outcome {
+fn tail(a: Signal, held: &mut Held) -> Outcome {
     if a.mark == 0 {
         return ABSENT;
     }
-    if state[i] == 0 {
-        state[i] = 1;
+    if held[0] == 0 {
+        held[0] = 1;
         return ABSENT;
     }
     present(a.value)
