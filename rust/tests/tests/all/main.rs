@@ -9,6 +9,7 @@ mod long;
 mod mirror;
 mod packed;
 mod paper;
+mod readme;
 mod short;
 mod summary;
 mod wrapper;
