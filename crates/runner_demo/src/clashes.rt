@@ -12,8 +12,8 @@ fn pair(label: &[u8], kind: u32, a: u32, b: u32) {
     shown(3, &words, &log, 1, &mut marks, &mut values, 0);
 }
 
-// Kinds 2 to 6, when and when-not, with one operand alone.
-fn pairs() {
+// Kinds 2 to 6 with one operand alone.
+fn sums() {
     pair(b"add, a alone", 2, 0, 1);
     pair(b"add, b alone", 2, 1, 0);
     pair(b"subtract, a alone", 3, 0, 1);
@@ -24,6 +24,10 @@ fn pairs() {
     pair(b"equal, b alone", 5, 1, 0);
     pair(b"larger, a alone", 6, 0, 1);
     pair(b"larger, b alone", 6, 1, 0);
+}
+
+// When and when-not with one operand alone.
+fn samples() {
     pair(b"when, a alone", 13, 0, 1);
     pair(b"when, c alone", 13, 1, 0);
     pair(b"when-not, a alone", 14, 0, 1);
@@ -39,20 +43,24 @@ fn single(label: &[u8], words: &[u32]) {
     shown(2, words, &log, 4, &mut marks, &mut values, 0);
 }
 
-// Faster whose operand comes too early or too late, and head whose operand is present at or before s, or a second time too early or too late.
-fn singles() {
-    let soon = [0, 2, 0, 0, 8, 0, 3, 1];
-    single(b"faster, too early", &soon);
+// Faster whose operand comes too early or too late.
+fn copies() {
+    let early = [0, 2, 0, 0, 8, 0, 3, 1];
+    single(b"faster, too early", &early);
     let late = [0, 3, 0, 0, 8, 0, 2, 1];
     single(b"faster, too late", &late);
+}
+
+// Head whose operand is present at or before s, or a second time too early or too late.
+fn heads() {
     let at = [0, 1, 0, 0, 11, 0, 42, 0];
     single(b"head, at s", &at);
     let before = [0, 4, 1, 0, 11, 0, 42, 3];
     single(b"head, before s", &before);
-    let second_soon = [0, 1, 2, 0, 11, 0, 42, 0];
-    single(b"head, second too early", &second_soon);
-    let second_late = [0, 2, 1, 0, 11, 0, 42, 0];
-    single(b"head, second too late", &second_late);
+    let early = [0, 1, 2, 0, 11, 0, 42, 0];
+    single(b"head, second too early", &early);
+    let late = [0, 2, 1, 0, 11, 0, 42, 0];
+    single(b"head, second too late", &late);
 }
 
 // Merge by a constant with the phase c of inputs with the phases a and b: phase 0 is present at tick 0, phase 1 absent.
@@ -65,12 +73,16 @@ fn merge(label: &[u8], value: u32, c: u32, a: u32, b: u32) {
     shown(4, &words, &log, 1, &mut marks, &mut values, 0);
 }
 
-// All twelve cases of a merge: three fit together.
-fn merges() {
+// All four cases of a merge whose c is absent: one fits.
+fn merges_absent() {
     merge(b"merge, c absent, none", 4, 1, 1, 1);
     merge(b"merge, c absent, a alone", 4, 1, 0, 1);
     merge(b"merge, c absent, b alone", 4, 1, 1, 0);
     merge(b"merge, c absent, both", 4, 1, 0, 0);
+}
+
+// All eight of a merge whose c is non-zero or zero: one each fits.
+fn merges_present() {
     merge(b"merge, c non-zero, none", 4, 0, 1, 1);
     merge(b"merge, c non-zero, a alone", 4, 0, 0, 1);
     merge(b"merge, c non-zero, b alone", 4, 0, 1, 0);
@@ -136,9 +148,12 @@ fn registers() {
 }
 
 pub(crate) fn all() {
-    pairs();
-    singles();
-    merges();
+    sums();
+    samples();
+    copies();
+    heads();
+    merges_absent();
+    merges_present();
     merged_tail();
     registers();
 }

@@ -229,18 +229,30 @@ fn tried(label: &[u8], count: u32, words: &[u32], ticks: u32) {
     shown(count, words, &log, ticks, &mut marks, &mut values, 0);
 }
 
-// Refusals of the table leave all.
-fn tables() {
+// Refusals of a table leave all: its count and its length.
+fn counts() {
     let words = [0, 1, 0, 0];
     tried(b"no flows", 0, &words, 2);
     tried(b"65 flows", 65, &words, 2);
     tried(b"words of one row for two", 2, &words, 2);
     let five = [0, 1, 0, 0, 0];
     tried(b"five words", 1, &five, 2);
+}
+
+// Kinds, and operands that are not in the table or not below their row.
+fn kinds() {
     let unknown = [16, 0, 0, 0];
     tried(b"kind 16", 1, &unknown, 2);
     let second = [0, 1, 0, 0, 16, 0, 0, 0];
     tried(b"kind 16 in row 1", 2, &second, 2);
+    let itself = [12, 0, 0, 0];
+    tried(b"operand itself", 1, &itself, 2);
+    let source = [0, 1, 0, 0, 7, 7, 0, 2];
+    tried(b"source 2 of two flows", 2, &source, 2);
+}
+
+// Fields outside their range.
+fn fields() {
     let period = [0, 0, 0, 0];
     tried(b"period 0", 1, &period, 2);
     let phase = [0, 1, 4096, 0];
@@ -251,10 +263,6 @@ fn tables() {
     tried(b"flow 64", 1, &far, 2);
     let copies = [0, 1, 0, 0, 9, 0, 64, 0];
     tried(b"k 64 in row 1", 2, &copies, 2);
-    let itself = [12, 0, 0, 0];
-    tried(b"operand itself", 1, &itself, 2);
-    let source = [0, 1, 0, 0, 7, 7, 0, 2];
-    tried(b"source 2 of two flows", 2, &source, 2);
 }
 
 // Refusals of the count of ticks, of the log and of the traces leave all; a run of no ticks writes nothing.
@@ -301,7 +309,9 @@ fn main() {
     rates();
     sums();
     constants();
-    tables();
+    counts();
+    kinds();
+    fields();
     lengths();
     clashes::all();
 }
