@@ -53,3 +53,8 @@ pub const MAX_TICKS: u32 = 65_535;
 
 /// The bytes of the longest packed table: a count, and 64 rows of 61 bits.
 pub const PACKED_MAX: usize = 489;
+
+/// The repository's README, whose example is a test.
+#[cfg(doctest)]
+#[doc = include_str!("../../../README.md")]
+struct Readme;

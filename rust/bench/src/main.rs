@@ -1,168 +1,88 @@
-//! The proved library against the quick implementation in Rust: run, check, read and write, in one process and on
-//! the same input, with the ratio of their times.
+//! The proved library against Rust, in one process and on the same input. The run is measured against two others: the
+//! same algorithm in safe Rust (`peer::mirror`), and a quick run with rows made ready beforehand (`peer::run`).
+//! Check, write and read are measured against the quick implementation.
+//!
+//!     cargo run --release -p bench
+//!
+//! Times depend on the machine and on what else it does; instructions do not. `bench run PLAN FLOWS TICKS IMPLEMENTATION`
+//! makes one run and nothing else that depends on the ticks, so that the instructions of a cell are the difference
+//! between two counts of ticks, divided by the cells between them:
+//!
+//!     valgrind --tool=callgrind --callgrind-out-file=/dev/null target/release/bench run mixed 16 1000 library
+//!     valgrind --tool=callgrind --callgrind-out-file=/dev/null target/release/bench run mixed 16 11000 library
+//!
+//! Here the difference of the two lines 'Collected' is divided by 10,000 × 16. PLAN is mixed, sparse or sums;
+//! IMPLEMENTATION is library, mirror or quick.
 
+mod measure;
 mod plans;
+mod runs;
+mod tables;
 
-use std::hint::black_box;
-use std::time::{Duration, Instant};
+use std::env;
+use std::process::ExitCode;
 
-use plans::{mixed, sums, Plan};
-
-/// How often each is measured, by turns.
-const REPETITIONS: usize = 31;
-
-/// How many calls of check, read and write make one measurement.
-const CALLS: u32 = 2_000;
+use plans::{mixed, sparse, sums};
 
 /// As many ticks as a run may have.
 const MOST_TICKS: usize = 65_535;
 
-/// What was measured of library and peer: the least times, the median of the ratios of all pairs, and the sum of
-/// the results.
-struct Measured {
-    library: Duration,
-    peer: Duration,
-    median_ratio: f64,
-    sum: u64,
-}
+/// Everything, in a minute or two.
+fn report() {
+    println!("Library, mirror and quick, by turns in one process on the same input and in the same buffers.");
+    println!(
+        "Times are the least, in ns. Of the two ratios the first is that of the least times, the second the median"
+    );
+    println!("over the turns. library/mirror is the library against the same algorithm in safe Rust.");
 
-/// Measures both by turns, so that each pair meets the same state of the machine, and checks that both give one sum.
-fn measure(mut library: impl FnMut() -> u64, mut peer: impl FnMut() -> u64) -> Measured {
-    let (mut pairs, mut sum) = (Vec::new(), 0_u64);
-    for repetition in 0..=REPETITIONS {
-        let start = Instant::now();
-        let library_sum = black_box(library());
-        let middle = Instant::now();
-        let peer_sum = black_box(peer());
-        let end = Instant::now();
-        assert_eq!(library_sum, peer_sum, "both give the same results");
-        sum = sum.wrapping_add(library_sum);
-        // The first pair warms up caches and pages.
-        if repetition > 0 {
-            pairs.push((middle - start, end - middle));
+    runs::heading("The run, all ticks, a cell");
+    for flows in [1, 4, 16, 64] {
+        for plan in [mixed(flows), sparse(flows), sums(flows)] {
+            runs::run(&plan, MOST_TICKS);
         }
     }
-    let mut ratios: Vec<f64> = pairs.iter().map(|(library, peer)| ratio(*library, *peer)).collect();
-    ratios.sort_by(f64::total_cmp);
-    Measured {
-        library: pairs.iter().map(|pair| pair.0).min().unwrap_or_default(),
-        peer: pairs.iter().map(|pair| pair.1).min().unwrap_or_default(),
-        median_ratio: ratios[ratios.len() / 2],
-        sum,
-    }
-}
 
-fn ratio(library: Duration, peer: Duration) -> f64 {
-    library.as_secs_f64() / peer.as_secs_f64()
-}
+    runs::heading("Growth with ticks, a cell");
+    let growth: Vec<_> = [1_000, 4_000, 16_000, 64_000].map(|ticks| runs::run(&mixed(16), ticks)).into();
+    runs::linear("64 times the ticks", &growth);
 
-/// One line of the report: both times, what one of so many cells or calls takes, and the ratios.
-fn report(what: &str, measured: Measured, number: usize) {
-    let Measured { library, peer, median_ratio, sum } = measured;
-    let each = |time: Duration| time.as_nanos() as f64 / number as f64;
-    println!(
-        "{what:<36} {:>9.3} {:>9.2}   {:>9.3} {:>9.2}   {:>6.2} {median_ratio:>6.2}   {sum:016x}",
-        library.as_secs_f64() * 1e3,
-        each(library),
-        peer.as_secs_f64() * 1e3,
-        each(peer),
-        ratio(library, peer),
-    );
-}
+    runs::heading("Growth with flows, a cell");
+    let growth: Vec<_> = [16, 32, 48, 64].map(|flows| runs::run(&mixed(flows), 8_000)).into();
+    runs::linear("4 times the flows", &growth);
+    let growth: Vec<_> = [8, 16, 32, 64].map(|flows| runs::run(&sums(flows), 8_000)).into();
+    runs::linear("8 times the flows", &growth);
 
-fn heading(title: &str, unit: &str) {
-    println!("\n{title}");
-    println!("{:<36} {:>9} {unit:>9}   {:>9} {unit:>9}   {:>6} {:>6}   sum", "", "library", "peer", "ratio", "median");
-}
-
-/// A sum over a trace: every mark and value counts.
-fn sum_of(marks: &[u8], values: &[u32], count: u32) -> u64 {
-    let marks: u64 = marks.iter().map(|&mark| u64::from(mark)).sum();
-    let values: u64 = values.iter().map(|&value| u64::from(value)).sum();
-    marks.wrapping_mul(0x9E37_79B9).wrapping_add(values).wrapping_add(u64::from(count))
-}
-
-/// Measures a run alone; the sums over the traces are taken once more, outside the time.
-fn run(plan: &Plan, ticks: usize) {
-    let flows = plan.flows();
-    let log = plan.log(ticks);
-    let (mut marks, mut values) = (vec![0; ticks * flows], vec![0; ticks * flows]);
-    let (mut peer_marks, mut peer_values) = (marks.clone(), values.clone());
-    let (count, words) = (flows as u32, &plan.words[..]);
-    let measured = measure(
-        || u64::from(baarqidho::run(count, words, &log, ticks as u32, &mut marks, &mut values).count),
-        || u64::from(peer::run(count, words, &log, ticks as u32, &mut peer_marks, &mut peer_values).count),
-    );
-    assert_eq!((&marks, &values), (&peer_marks, &peer_values), "both give the same trace");
-    let sum = sum_of(&marks, &values, ticks as u32);
-    let name = format!("{}, {flows} flows, {ticks} ticks", plan.name);
-    report(&name, Measured { sum, ..measured }, ticks * flows);
-}
-
-/// Calls something many times and sums what it gives.
-fn many(mut call: impl FnMut() -> u32) -> u64 {
-    (0..CALLS).map(|_| u64::from(black_box(call()))).sum()
-}
-
-/// Measures check, read and write of one plan.
-fn table(plan: &Plan) {
-    let flows = plan.flows();
-    let (count, words) = (flows as u32, &plan.words[..]);
-    let name = |call: &str| format!("{call}, {}, {flows} flows", plan.name);
-
-    let mut clocks = [0; 7 * 64];
-    let mut peer_clocks = [0; 7 * 64];
-    let times = measure(
-        || many(|| baarqidho::check(count, black_box(words), &mut clocks).count + clocks[7 * flows - 7]),
-        || many(|| peer::check(count, black_box(words), &mut peer_clocks).count + peer_clocks[7 * flows - 7]),
-    );
-    report(&name("check"), times, CALLS as usize);
-
-    let mut packed = [0; 489];
-    let mut peer_packed = [0; 489];
-    let times = measure(
-        || many(|| baarqidho::write(count, black_box(words), &mut packed).count + u32::from(packed[1])),
-        || many(|| peer::write(count, black_box(words), &mut peer_packed).count + u32::from(peer_packed[1])),
-    );
-    report(&name("write"), times, CALLS as usize);
-    assert_eq!(packed, peer_packed);
-
-    let bytes = baarqidho::write(count, words, &mut packed).count as usize;
-    let (mut plain, mut peer_plain) = ([0; 256], [0; 256]);
-    let times = measure(
-        || many(|| baarqidho::read(black_box(&packed[..bytes]), &mut plain).count + plain[4 * flows - 4]),
-        || many(|| peer::read(black_box(&packed[..bytes]), &mut peer_plain).count + peer_plain[4 * flows - 4]),
-    );
-    report(&name("read"), times, CALLS as usize);
-    assert_eq!((plain, clocks), (peer_plain, peer_clocks));
-}
-
-fn main() {
-    println!(
-        "Library against peer, by turns in one process on the same input. Times and the first ratio are the least of"
-    );
-    println!("{REPETITIONS} after one to warm up; the second ratio is the median over the pairs. Buffers are not cleared between.");
-
-    heading("The run, all ticks (ms, ns a cell)", "ns");
+    tables::heading("Check, write and read, a call");
     for flows in [1, 4, 16, 64] {
-        run(&mixed("mixed", flows, 1), MOST_TICKS);
-        run(&mixed("one tick in ten", flows, 10), MOST_TICKS);
-        run(&sums(flows), MOST_TICKS);
+        tables::table(&mixed(flows));
+        tables::table(&sums(flows));
     }
+}
 
-    heading("Growth with ticks (ms, ns a cell)", "ns");
-    for ticks in [1_000, 4_000, 16_000, 64_000] {
-        run(&mixed("mixed", 16, 1), ticks);
-    }
+/// One run, as the four arguments say; nothing if they do not.
+fn one_run(arguments: &[String]) -> Option<()> {
+    let [plan, flows, ticks, implementation] = arguments else { return None };
+    let flows = flows.parse().ok().filter(|flows| (1..=64).contains(flows))?;
+    let ticks = ticks.parse().ok().filter(|&ticks| ticks <= MOST_TICKS)?;
+    let plan = match plan.as_str() {
+        "mixed" => mixed(flows),
+        "sparse" => sparse(flows),
+        "sums" => sums(flows),
+        _ => return None,
+    };
+    runs::once(&plan, ticks, runs::of_name(implementation)?);
+    Some(())
+}
 
-    heading("Growth with flows (ms, ns a cell)", "ns");
-    for flows in [8, 16, 32, 48, 64] {
-        run(&sums(flows), 16_000);
+fn main() -> ExitCode {
+    let arguments: Vec<String> = env::args().skip(1).collect();
+    match arguments.split_first() {
+        None => report(),
+        Some((mode, rest)) if mode == "run" && one_run(rest).is_some() => {}
+        Some(_) => {
+            eprintln!("bench, or bench run mixed|sparse|sums FLOWS TICKS library|mirror|quick");
+            return ExitCode::FAILURE;
+        }
     }
-
-    heading(&format!("Check, write and read, {CALLS} calls (ms, ns a call)"), "ns");
-    for flows in [1, 4, 16, 64] {
-        table(&mixed("mixed", flows, 1));
-        table(&sums(flows));
-    }
+    ExitCode::SUCCESS
 }

@@ -30,8 +30,18 @@ impl Plan {
     }
 }
 
+/// Every kind, all flows present at almost every tick.
+pub fn mixed(flows: usize) -> Plan {
+    blocks("mixed", flows, 1)
+}
+
+/// The same rows, one tick in ten.
+pub fn sparse(flows: usize) -> Plan {
+    blocks("sparse", flows, 10)
+}
+
 /// Blocks of sixteen rows with every kind, all flows on or next to the clock (period, 0).
-pub fn mixed(name: &'static str, flows: usize, period: u32) -> Plan {
+fn blocks(name: &'static str, flows: usize, period: u32) -> Plan {
     let mut rows = Vec::new();
     for block in 0..4 {
         let at = |row: u32| 16 * block + row;

@@ -1,10 +1,11 @@
 //! Bench plans, quick: read, write, check, run and listing with constant work a cell and no heap.
 //!
 //! The run carries between ticks only what each kind of row needs, so that no cell looks through the trace again.
-//! It is what the proved library is measured against.
+//! It is what the proved library is measured against, with the run of [`mirror`] beside it.
 
 mod check;
 mod listing;
+pub mod mirror;
 mod packed;
 mod plan;
 mod run;

@@ -1,4 +1,4 @@
-//! The three implementations behind one set of signatures.
+//! The implementations behind one set of signatures.
 
 /// Number, flow, tick and count of an answer.
 pub type Parts = (u32, u32, u32, u32);
@@ -49,6 +49,14 @@ pub static REFERENCE: Implementation = implementation!(reference);
 
 /// The quick one.
 pub static PEER: Implementation = implementation!(peer);
+
+/// The quick one with the run that takes the library's own steps: for the benchmark, and held against the paper so
+/// that it measures equal work.
+pub static MIRROR: Implementation = Implementation {
+    name: "mirror",
+    run: |count, words, log, ticks, marks, values| parts!(peer::mirror::run(count, words, log, ticks, marks, values)),
+    ..implementation!(peer)
+};
 
 /// All, for short runs: the first is what the others are held against.
 pub static ALL: [&Implementation; 3] = [&REFERENCE, &LIBRARY, &PEER];
