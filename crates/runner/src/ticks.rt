@@ -6,9 +6,8 @@ ghost use lib.Dec.{eqb};
 ghost use Prim.Native.Nat.{ℕ, _+_, _*_, _≤_, _<_, _^_};
 ghost use lib.ListN.{length, getD, set};
 ghost use Rattle.table.proofs.Tables.{Fits};
-ghost use Rattle.runner.specs.Private.Carried.{cellIs, outcomeOf, cellsIn, heldIn, opOf, decode, stepOf, nextOf, Did};
+ghost use Rattle.runner.specs.Private.Carried.{cellIs, cellsIn, heldIn, decode, stepOf, nextOf, Did};
 ghost use Rattle.table.specs.Rows.{badRegister};
-ghost use Rattle.runner.specs.Operators.{combined};
 ghost use Rattle.runner.specs.Runs.{Tick, Ticks, flowsFrom, sourceMeets, tickOf};
 ghost use Rattle.runner.specs.Private.Ready.{rowsIn, Plain, Ready, AllFollow, Wrote, FlowsEnd, LatchEnd, TickDone, Listed};
 use crate::operators;
@@ -35,21 +34,6 @@ fn signal_at(marks: &[u8], values: &[u32], f: usize, a: u32) -> Signal
         mark: marks[i],
         value: values[i],
     }
-}
-
-// Kinds 2 to 6, over the signals of flows a and b.
-fn combined_at(kind: u32, marks: &[u8], values: &[u32], f: usize, a: u32, b: u32) -> Outcome
-    requires { ⌜ (a < f) × (b < f) × (f ≤ length (now marks)) × (f ≤ length (now values)) ⌝ }
-    ensures { λ o. ⌜ o
-        ≡ outcomeOf
-        (combined (opOf kind) (cellsIn (now (marks .entry)) (now (values .entry)) f a)
-        (cellsIn (now (marks .entry)) (now (values .entry)) f b)) ⌝ }
-{
-    operators::combined(
-        kind,
-        signal_at(marks, values, f, a),
-        signal_at(marks, values, f, b),
-    )
 }
 
 // What row f comes to at tick t: one decision over the kind. A known kind is its own remainder; that lets the compiler make one jump of the
@@ -109,11 +93,31 @@ fn outcome(
         1 => operators::constant(t, p, q, state, i),
         0 => operators::input(t, p, log, at, state, i),
         2..=6 => match code {
-            2 => combined_at(2, marks, values, f, p, q),
-            3 => combined_at(3, marks, values, f, p, q),
-            4 => combined_at(4, marks, values, f, p, q),
-            5 => combined_at(5, marks, values, f, p, q),
-            _ => combined_at(6, marks, values, f, p, q),
+            2 => operators::combined(
+                2,
+                signal_at(marks, values, f, p),
+                signal_at(marks, values, f, q),
+            ),
+            3 => operators::combined(
+                3,
+                signal_at(marks, values, f, p),
+                signal_at(marks, values, f, q),
+            ),
+            4 => operators::combined(
+                4,
+                signal_at(marks, values, f, p),
+                signal_at(marks, values, f, q),
+            ),
+            5 => operators::combined(
+                5,
+                signal_at(marks, values, f, p),
+                signal_at(marks, values, f, q),
+            ),
+            _ => operators::combined(
+                6,
+                signal_at(marks, values, f, p),
+                signal_at(marks, values, f, q),
+            ),
         },
         16..=4294967295 => CLASH,
     }
