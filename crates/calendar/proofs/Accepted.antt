@@ -1,8 +1,8 @@
 -- A plan whose rows and sources have clocks runs to its end on them, for every count of ticks. Assumes nothing.
 use mathlib.Core.Path.{_≡_, refl, sym, _∙_, ap, subst}
-use Prim.Native.Nat.{ℕ, zero, suc, _+_, _*_, _≤_, _<_}
+use Prim.Native.Nat.{ℕ, zero, suc, _*_, _<_}
 use native.Mathlib.Omega.{arith}
-use mathlib.Core.Bool.{Bool, true, false}
+use mathlib.Core.Bool.{true}
 use mathlib.Core.List.{List, [], _∷_, append-nil}
 use mathlib.Core.Option.{none}
 use lib.ListN.{length, length-append}
@@ -14,9 +14,8 @@ use Rattle.table.proofs.Tables.{Fits, AllFit}
 use Rattle.checker.specs.Clocks.{Clock}
 use Rattle.checker.specs.Rules.{clockAt, sourceFits}
 use Rattle.checker.proofs.ClockLaws.{beq-same, same-clock}
-use Rattle.checker.proofs.CheckLaws.{Clocked, AllSane, all-sane}
-use Rattle.runner.specs.Cells.{mark}
-use Rattle.runner.specs.Runs.{Tick, Ticks, cellIn, filled, flowsFrom, sourceMeets, tickOf, Ran, done, run, cells}
+use Rattle.checker.proofs.CheckLaws.{Clocked, all-sane}
+use Rattle.runner.specs.Runs.{Tick, Ticks, filled, flowsFrom, sourceMeets, tickOf, done, run, cells}
 use Rattle.calendar.proofs.Dues.{due}
 use Rattle.calendar.proofs.Keeping.{Kept, Front, front-law}
 

@@ -1,16 +1,15 @@
 -- When a clock is due at a tick, and what the operators that look at one tick alone make of it. Assumes nothing.
 use mathlib.Core.Path.{_≡_, refl, sym, _∙_, ap}
-use Prim.Native.Nat.{ℕ, _<_}
+use Prim.Native.Nat.{ℕ}
 use mathlib.Core.Bool.{Bool, true, false, cond, _&&_, not, Bool·beq, true≢false, false≢true, and-true, and-assoc}
 use mathlib.Core.List.{List, [], _∷_, _++_}
 use lib.ListN.{length, List·getD-append}
-use lib.Dec.{eqb}
 use Rattle.table.specs.Rows.{Op}
 use Rattle.checker.specs.Clocks.{Condition, Clock, plain, under}
 use Rattle.checker.proofs.ClockLaws.{plain-empty}
 use Rattle.checker.proofs.CheckLaws.{Below}
 use Rattle.runner.specs.Cells.{Cell, absent, present, mark, History, onGrid}
-use Rattle.runner.specs.Operators.{Step, is, clashes, combined, registered, truthOf, sampled, neither, alone, merged}
+use Rattle.runner.specs.Operators.{is, clashes, combined, registered, truthOf, sampled, neither, alone, merged}
 use Rattle.runner.specs.Runs.{Tick, Ticks, cellIn}
 use Rattle.calendar.proofs.Flows.{Makes, cond-mark}
 

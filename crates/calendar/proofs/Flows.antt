@@ -5,14 +5,14 @@ use native.Mathlib.Nat.{eq-of-mul-eq-mul-right, div-add-mod', mul-mod-left, mod-
 use native.Mathlib.Decide.{ℕ-discrete}
 use native.Mathlib.Omega.{arith}
 use mathlib.Core.Bool.{Bool, true, false, cond, _&&_, _||_, not, false≢true, and-true}
-use mathlib.Core.List.{List, [], _∷_}
-use mathlib.Core.Option.{Option, none, some}
+use mathlib.Core.List.{[], _∷_}
+use mathlib.Core.Option.{none, some}
 use lib.ListN.{length}
-use lib.Dec.{eqb, ltb}
+use lib.Dec.{eqb}
 use borrow.Author.Tests.{eqb-true, eqb-false, eq-eqb, ne-eqb, lt-ltb, le-ltb}
 use Rattle.table.proofs.Tests.{and-left, and-right, and-both, same-test, Tried, passed, failed, try}
 use Rattle.runner.specs.Cells.{Cell, absent, present, mark, History, back, count, Presence, latest, onGrid}
-use Rattle.runner.specs.Operators.{Step, is, clashes, clashUnless, copied, exactly, spaced, fasterOf, slowerOf, laterOf, tailOf, evenly}
+use Rattle.runner.specs.Operators.{Step, is, clashes, copied, exactly, spaced, fasterOf, slowerOf, laterOf, tailOf, evenly}
 use Rattle.runner.specs.Operators.{headFits, headOf}
 use Rattle.calendar.proofs.Grid.{On, on-of, of-on, off-grid, next, at-first, at-second}
 

@@ -4,8 +4,8 @@ use Prim.Native.Nat.{ℕ, zero, suc, _+_, _*_, _-_, _%_, _/_, _≤_, _<_}
 use native.Mathlib.Nat.{mul-mod-left, div-add-mod', mul-le-mul-right}
 use native.Mathlib.Decide.{decLt}
 use native.Mathlib.Omega.{arith}
-use mathlib.Core.Bool.{Bool, true, false, _&&_, true≢false, false≢true}
-use lib.Dec.{eqb, leb}
+use mathlib.Core.Bool.{true, false, true≢false, false≢true}
+use lib.Dec.{leb}
 use borrow.Author.Tests.{leb-true, eqb-true, le-leb, eq-eqb}
 use Rattle.table.proofs.Tests.{and-left, and-right, and-both, Tried, passed, failed, try}
 use Rattle.runner.specs.Cells.{onGrid}

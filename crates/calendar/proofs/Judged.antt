@@ -1,6 +1,6 @@
 -- A plan free of sampling and merging whose clocks differ clashes within the judging ticks. Assumes nothing.
 use mathlib.Core.Path.{_≡_, refl, sym, _∙_, ap, subst}
-use Prim.Native.Nat.{ℕ, zero, suc, _+_, _*_, _-_, _≤_, _<_}
+use Prim.Native.Nat.{ℕ, suc, _+_, _*_, _-_, _≤_, _<_}
 use native.Mathlib.Decide.{decLt}
 use native.Mathlib.Omega.{arith}
 use mathlib.Core.Bool.{Bool, true, false, true≢false, false≢true}
@@ -10,8 +10,7 @@ use lib.ListN.{length, length-append}
 use lib.Dec.{eqb}
 use borrow.Author.Tests.{eqb-false}
 use Rattle.table.specs.Answers.{Refusal, Result, good, refused, unless, clocksDiffer, beyondLimits, notPlain}
-use Rattle.table.specs.Rows.{Row, Op, input, constant, combine, register, faster, slower, later, head, tail, sample, merge, onRegister}
-use Rattle.table.specs.Rows.{badRegister}
+use Rattle.table.specs.Rows.{Row, input, constant, combine, register, faster, slower, later, head, tail, sample, merge, onRegister}
 use Rattle.table.proofs.Lists.{Each, each-front, each-at, below-suc}
 use Rattle.table.proofs.Registers.{Passes, Registers, all-pass, registers}
 use Rattle.table.proofs.Tables.{Fits, AllFit}
@@ -29,7 +28,7 @@ use Rattle.calendar.proofs.Grid.{Parted, parted}
 use Rattle.calendar.proofs.Flows.{Regular, faster-clash, head-early, head-clash}
 use Rattle.calendar.proofs.Dues.{due-plain, combined-clash}
 use Rattle.calendar.proofs.Keeping.{Kept, history-length, regular}
-use Rattle.calendar.proofs.Endings.{not-filled, Last, last, ended-before, tick-parts, front-of, front-size, front-kept, front-filled}
+use Rattle.calendar.proofs.Endings.{not-filled, Last, last, ended-before, tick-parts, front-of, front-kept, front-filled}
 use Rattle.calendar.proofs.Endings.{tick-kept, run-kept}
 
 -- a row that neither samples nor merges

@@ -1,21 +1,21 @@
 -- Rows whose clocks the rules give keep them, tick by tick. Assumes nothing.
 use mathlib.Core.Path.{_≡_, refl, sym, _∙_, ap, subst}
-use Prim.Native.Nat.{ℕ, zero, suc, _+_, _*_, _≤_, _<_}
+use Prim.Native.Nat.{ℕ, suc, _+_, _≤_, _<_}
 use native.Mathlib.Omega.{arith}
 use mathlib.Core.Bool.{Bool, true, false, _&&_, and-true}
 use mathlib.Core.List.{List, [], _∷_, _++_}
 use lib.ListN.{length, length-map, length-append, List·getD-append}
 use lib.Seq.{getD-append-seam}
-use Rattle.table.specs.Rows.{Row, Op, input, constant, combine, register, faster, slower, later, head, tail, sample, merge}
+use Rattle.table.specs.Rows.{Row, input, constant, combine, register, faster, slower, later, head, tail, sample, merge}
 use Rattle.table.proofs.Lists.{below-suc}
-use Rattle.table.proofs.Tables.{In, Fits, AllFit}
+use Rattle.table.proofs.Tables.{Fits, AllFit}
 use Rattle.checker.specs.Clocks.{Clock, every, plain, under}
 use Rattle.checker.proofs.RuleLaws.{Rule, by-input, by-constant, by-combine, by-register, by-faster, by-slower, by-later, by-head, by-tail}
 use Rattle.checker.proofs.RuleLaws.{by-sample, by-merge, rule-of}
-use Rattle.checker.proofs.CheckLaws.{Clocked, Sane, AllSane, below-le}
+use Rattle.checker.proofs.CheckLaws.{Clocked, AllSane, below-le}
 use Rattle.runner.specs.Cells.{Cell, absent, present, mark, onGrid}
 use Rattle.runner.specs.Operators.{Step, is}
-use Rattle.runner.specs.Runs.{Tick, Ticks, cellIn, history, cellOf, TickEnd, filled, stopped, flowsFrom}
+use Rattle.runner.specs.Runs.{Tick, Ticks, cellIn, history, cellOf, flowsFrom}
 use Rattle.calendar.proofs.Flows.{Makes, cond-mark, Regular, faster-law, slower-law, later-law, tail-law, head-law}
 use Rattle.calendar.proofs.Dues.{holds, due, due-plain, due-under, due-append, made, combined-law, registered-law, sampled-law}
 use Rattle.calendar.proofs.Dues.{merged-law}

@@ -1,36 +1,35 @@
 -- Check and run share one calendar. Assumes nothing.
 use mathlib.Core.Path.{_≡_, refl, sym, _∙_, ap, subst}
-use mathlib.Core.Logic.{_↔_, _⊎_, inl, inr}
-use Prim.Native.Nat.{ℕ, zero, suc, _+_, _*_, _≤_, _<_}
+use mathlib.Core.Logic.{_↔_, inl, inr}
+use Prim.Native.Nat.{ℕ, _+_, _*_, _≤_, _<_}
 use native.Mathlib.Nat.{mul-le-mul-right}
 use native.Mathlib.Omega.{arith}
 use mathlib.Core.Bool.{Bool, true, false, _&&_}
-use mathlib.Core.List.{List, [], _∷_, _++_, map}
+use mathlib.Core.List.{List, map}
 use lib.ListN.{length, getD, drop}
 use lib.Seq.{getD-drop}
 use lib.Dec.{leb, eqb}
 use borrow.Author.Tests.{le-leb, eq-eqb}
-use Rattle.table.specs.Answers.{Refusal, Result, good, refused, unless, then, number, over, answer, noRoom, clocksDiffer, tooManyTicks}
+use Rattle.table.specs.Answers.{Refusal, Result, good, refused, unless, number, over, answer, noRoom, clocksDiffer, tooManyTicks}
 use Rattle.table.specs.Answers.{wrongLog, shortTrace}
 use Rattle.table.specs.Rows.{Row, tail, Kind, kinds}
 use Rattle.table.specs.Plain.{four, tableOf}
-use Rattle.table.proofs.Tests.{and-both, good-inj, unless-good, then-good}
+use Rattle.table.proofs.Tests.{good-inj, unless-good, then-good}
 use Rattle.table.proofs.AnswerLaws.{no-zero, answer-zero, is-differing}
 use Rattle.table.proofs.Lists.{Each, each-entry, each-of}
 use Rattle.table.proofs.Registers.{Passes}
 use Rattle.table.proofs.Tables.{AllFit, Made, Table, rowAt, table-made}
 use Rattle.checker.specs.Clocks.{Clock}
 use Rattle.checker.specs.Rules.{clockAt, sourceFits, clocksOf}
-use Rattle.checker.specs.Answers.{clocksWords, checking, checkAnswer, clocksAfter}
+use Rattle.checker.specs.Answers.{clocksWords, checking, checkAnswer}
 use Rattle.checker.proofs.CheckLaws.{Clocked, AllSane, all-sane, Checked, fine, bad-row, bad-source, checked}
-use Rattle.runner.specs.Cells.{Cell, absent, value}
+use Rattle.runner.specs.Cells.{value}
 use Rattle.runner.specs.Runs.{Ticks, inputs, Ran, done, clashed, run, cells}
 use Rattle.runner.specs.Answers.{maxTicks, running, ranAnswer, markByte}
-use Rattle.calendar.specs.Calendar.{cellAt, Due, Accepts, Asked, Ends, OnCalendar, Free, Judged, judgingTicks, SharedCalendar}
-use Rattle.calendar.proofs.Keeping.{Kept}
+use Rattle.calendar.specs.Calendar.{Accepts, Asked, Ends, OnCalendar, Free, Judged, judgingTicks, SharedCalendar}
 use Rattle.calendar.proofs.Accepted.{Wide, cells-length, Runs, runs}
 use Rattle.calendar.proofs.Judged.{FreeRow, AllFree, refused-clashes}
-use Rattle.calendar.proofs.Shown.{AtTick, at-tick, written, Shows, due-shown}
+use Rattle.calendar.proofs.Shown.{AtTick, at-tick, written, due-shown}
 
 -- What an accepted table has.
 record Accepted (m : ℕ) (words : List ℕ) (room : ℕ) : Type 0 where

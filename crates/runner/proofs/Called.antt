@@ -1,14 +1,13 @@
 -- What a run promises, refusal by refusal. Assumes nothing.
 use mathlib.Core.Path.{_≡_, refl, sym, _∙_, ap, subst}
 use Prim.Native.Nat.{ℕ, _*_, _≤_, _<_}
-use native.Mathlib.Omega.{arith}
 use mathlib.Core.Bool.{_&&_}
 use mathlib.Core.List.{List, map}
 use lib.ListN.{length}
 use lib.Dec.{leb, eqb}
 use borrow.Author.Tests.{le-leb, lt-leb, eq-eqb, ne-eqb}
 use Rattle.table.specs.declared.Answer.{Answer}
-use Rattle.table.specs.Answers.{Refusal, tooManyTicks, wrongLog, shortTrace, Result, good, refused, unless, then, refusal, answer, leaves}
+use Rattle.table.specs.Answers.{Refusal, tooManyTicks, wrongLog, shortTrace, Result, good, refused, unless, refusal, answer, leaves}
 use Rattle.table.specs.Rows.{Row}
 use Rattle.table.specs.Plain.{tableOf, rowsIn as goodRows, plainAnswer}
 use Rattle.table.proofs.AnswerLaws.{no-zero}

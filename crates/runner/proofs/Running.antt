@@ -4,17 +4,14 @@ use Prim.Native.Nat.{ℕ, zero, suc, _+_, _*_, _-_, _≤_, _<_}
 use native.Mathlib.Nat.{mul-le-mul-right, suc-mul, zero-add}
 use native.Mathlib.Numerals.{add-one}
 use native.Mathlib.Omega.{arith}
-use mathlib.Core.List.{List, [], _∷_, _++_, map}
-use lib.ListN.{length, length-map}
+use mathlib.Core.List.{List, [], _∷_, _++_}
+use lib.ListN.{length}
 use Rattle.table.specs.Answers.{over}
 use Rattle.table.specs.Rows.{Row}
 use Rattle.runner.specs.declared.ticks.Ticked.{Ticked}
 use Rattle.runner.specs.declared.ticks.Ticked.the-variants as ticked
-use Rattle.runner.specs.Cells.{Cell}
 use Rattle.runner.specs.Runs.{Tick, Ticks, TickEnd, filled, stopped, tickOf, Ran, done, clashed, onTick, onRun, run, cells}
 use Rattle.runner.specs.Private.Ready.{AllCarry, Regular, Wrote, TickAt, RanTo}
-use Rattle.runner.proofs.Cells.{length-over}
-use Rattle.runner.proofs.Collecting.{cells-length}
 use Rattle.runner.proofs.Ticking.{full-or-stopped, same-flow}
 
 pub record Running (n t : ℕ) (rows : List Row) (log ms₀ vs₀ s ms vs : List ℕ) : Type 0 where
@@ -45,11 +42,6 @@ module _ (n : ℕ) (rows : List Row) (log ms₀ vs₀ : List ℕ) where
   starts s C = record { past = []; ticks = refl; so-far = refl; regular = tt; wrote = record { marks = refl; values = refl }; carried = C }
 
   module _ (t ticks : ℕ) (s ms vs : List ℕ) (R : Running n t rows log ms₀ vs₀ s ms vs) where
-    pub same-long : t ≤ ticks → (l₀ l : List ℕ) (g : Cell → ℕ) → ticks * n ≤ length l₀ → l ≡ over (map g (cells (R .past))) l₀ → length l ≡ length l₀
-    same-long h l₀ l g k e =
-        let m : t * n ≤ ticks * n = mul-le-mul-right n h in
-        ap length e ∙ length-over (map g (cells (R .past))) l₀ (omega (arith, length-map (cells (R .past)) g, cells-length n (R .past) (R .regular), ap (λ (i : ℕ). i * n) (R .ticks)))
-
     -- the next tick of the definition
     unroll : run rows log (suc t) ≡ onTick t (R .past) (tickOf rows log (R .past))
     unfolding run

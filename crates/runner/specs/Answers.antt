@@ -1,13 +1,12 @@
 -- What the run answers, and leaves in marks and values.
 use Prim.Native.Nat.{ℕ, _*_}
-use mathlib.Core.Bool.{Bool, _&&_}
+use mathlib.Core.Bool.{_&&_}
 use mathlib.Core.List.{List, map}
 use lib.ListN.{length}
 use lib.Dec.{leb, eqb}
 use Rattle.table.specs.declared.Answer.{Answer}
 use Rattle.table.specs.Answers.{Result, good, refused, unless, then, number, success, refusal, leaves, tooManyTicks, wrongLog, shortTrace, clash}
 use Rattle.table.specs.Bits.{bit}
-use Rattle.table.specs.Rows.{Row}
 use Rattle.table.specs.Plain.{tableOf}
 use Rattle.runner.specs.Cells.{Cell, mark, value}
 use Rattle.runner.specs.Runs.{inputs, Ran, done, clashed, run, trace}

@@ -1,8 +1,6 @@
 // What each operator makes of its operands' signals at a tick and of the words that its row carries from tick to tick.
 ghost use mathlib.Core.Path.{_≡_};
 ghost use Prim.Native.Nat.{ℕ, _+_, _*_, _≤_, _<_, _^_};
-ghost use mathlib.Core.Bool.{Bool, true, false};
-ghost use lib.Dec.{eqb};
 ghost use lib.ListN.{length, getD};
 ghost use Rattle.table.specs.Bits.{bit};
 ghost use Rattle.table.specs.Rows.{larger};

@@ -4,7 +4,7 @@ ghost use mathlib.Core.Bool.{cond};
 ghost use mathlib.Core.List.{List, []};
 ghost use lib.Dec.{eqb};
 ghost use Prim.Native.Nat.{ℕ, _+_, _*_, _≤_, _<_, _^_};
-ghost use lib.ListN.{length, getD, set};
+ghost use lib.ListN.{length, set};
 ghost use Rattle.table.proofs.Tables.{Fits};
 ghost use Rattle.runner.specs.Private.Carried.{cellIs, cellsIn, heldIn, decode, stepOf, nextOf, Did};
 ghost use Rattle.table.specs.Rows.{badRegister};

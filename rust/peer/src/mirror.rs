@@ -4,11 +4,8 @@
 //! It follows the proved code and not the paper, so it is no oracle and its agreement with the library says nothing
 //! about either. It is for the benchmark alone, which tells from it what the same algorithm takes in safe Rust.
 
-use crate::plan::{rows, Row};
+use crate::plan::{runnable, Row};
 use crate::{Answer, MOST_FLOWS};
-
-/// The most ticks of a run.
-const MOST_TICKS: u32 = 65_535;
 
 /// The words that a row carries from tick to tick.
 type Held = [u32; 4];
@@ -68,22 +65,12 @@ impl Listed {
 
 /// Runs a plain table over a log for some ticks. The count of the answer is that of the ticks.
 pub fn run(plan_count: u32, words: &[u32], log: &[u32], ticks: u32, marks: &mut [u8], values: &mut [u32]) -> Answer {
-    let rows = match rows(plan_count, words) {
-        Ok(rows) => rows,
+    let (rows, inputs) = match runnable(plan_count, words, log, ticks, marks, values) {
+        Ok(ready) => ready,
         Err(refusal) => return refusal,
     };
-    if ticks > MOST_TICKS {
-        return Answer::number(31);
-    }
     let mut state = [[0; 4]; MOST_FLOWS];
-    let inputs = start(rows, &mut state);
-    if log.len() != ticks as usize * inputs {
-        return Answer::number(32);
-    }
-    let cells = ticks as usize * rows.len();
-    if marks.len() < cells || values.len() < cells {
-        return Answer::number(33);
-    }
+    start(rows, &mut state);
     let (registers, laters) = (Listed::new(7, rows), Listed::new(10, rows));
     for t in 0..ticks {
         collect(laters.flows(), rows, t, marks, values, &mut state);
@@ -97,15 +84,14 @@ pub fn run(plan_count: u32, words: &[u32], log: &[u32], ticks: u32, marks: &mut 
     Answer::success(ticks as usize)
 }
 
-/// The words that the rows carry into tick 0, and the count of inputs.
-fn start(rows: &[Row], state: &mut [Held]) -> usize {
+/// The words that the rows carry into tick 0.
+fn start(rows: &[Row], state: &mut [Held]) {
     let mut inputs = 0;
-    for (flow, &[kind, p, q, r]) in rows.iter().enumerate() {
-        let held = &mut state[flow];
+    for (held, &[kind, p, q, r]) in state.iter_mut().zip(rows) {
         match kind {
             0 => {
                 held[0] = q;
-                held[1] = inputs as u32;
+                held[1] = inputs;
                 inputs += 1;
             }
             1 => held[0] = r,
@@ -113,7 +99,6 @@ fn start(rows: &[Row], state: &mut [Held]) -> usize {
             _ => {}
         }
     }
-    inputs
 }
 
 /// What tick t needs of earlier ticks: the cells of the later rows.

@@ -2,6 +2,9 @@
 
 use crate::{Answer, LIMIT, MOST_FLOWS};
 
+/// The most ticks of a run.
+const MOST_TICKS: u32 = 65_535;
+
 /// A row in plain form: kind and three fields.
 pub type Row = [u32; 4];
 
@@ -57,4 +60,29 @@ pub fn test_row(flow: usize, flows: usize, &[kind, x, y, z]: &Row) -> Result<(),
         return Err(Answer::at(15, flow));
     }
     Ok(())
+}
+
+/// The rows of a plain table that is to run, and how many of them are inputs: numbers 11 to 15, 31, 32 and 33.
+#[inline]
+pub fn runnable<'a>(
+    plan_count: u32,
+    words: &'a [u32],
+    log: &[u32],
+    ticks: u32,
+    marks: &[u8],
+    values: &[u32],
+) -> Result<(&'a [Row], usize), Answer> {
+    let rows = rows(plan_count, words)?;
+    if ticks > MOST_TICKS {
+        return Err(Answer::number(31));
+    }
+    let inputs = rows.iter().filter(|row| row[0] == 0).count();
+    if log.len() != ticks as usize * inputs {
+        return Err(Answer::number(32));
+    }
+    let cells = ticks as usize * rows.len();
+    if marks.len() < cells || values.len() < cells {
+        return Err(Answer::number(33));
+    }
+    Ok((rows, inputs))
 }

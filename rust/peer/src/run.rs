@@ -1,29 +1,15 @@
 //! The run, with the state of each row carried from tick to tick.
 
-use crate::plan::rows;
+use crate::plan::runnable;
 use crate::steps::{Now, Past, Step};
 use crate::{Answer, MOST_FLOWS};
 
-/// The most ticks of a run.
-const MOST_TICKS: u32 = 65_535;
-
 /// Runs a plain table over a log for some ticks. The count of the answer is that of the ticks.
 pub fn run(plan_count: u32, words: &[u32], log: &[u32], ticks: u32, marks: &mut [u8], values: &mut [u32]) -> Answer {
-    let rows = match rows(plan_count, words) {
-        Ok(rows) => rows,
+    let (rows, inputs) = match runnable(plan_count, words, log, ticks, marks, values) {
+        Ok(ready) => ready,
         Err(refusal) => return refusal,
     };
-    if ticks > MOST_TICKS {
-        return Answer::number(31);
-    }
-    let inputs = rows.iter().filter(|row| row[0] == 0).count();
-    if log.len() != ticks as usize * inputs {
-        return Answer::number(32);
-    }
-    let cells = ticks as usize * rows.len();
-    if marks.len() < cells || values.len() < cells {
-        return Answer::number(33);
-    }
     let mut steps = [Step::Tail { a: 0, seen: false }; MOST_FLOWS];
     let mut column = 0;
     for (step, row) in steps.iter_mut().zip(rows) {
