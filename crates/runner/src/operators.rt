@@ -5,7 +5,7 @@ ghost use lib.ListN.{length, getD};
 ghost use Rattle.table.specs.Bits.{bit};
 ghost use Rattle.table.specs.Rows.{larger};
 ghost use Rattle.runner.specs.Operators.{below, apply, combined, sampled, neither, alone, merged};
-ghost use Rattle.runner.specs.Private.Carried.{cellIs, outcomeOf, Held, heldIn, opOf, Did, timedStep, timedNext, registerStep, fasterStep, fasterNext, begun, slowerStep, slowerNext, laterStep, afterStep, afterNext, headStep, headNext, tailStep, tailNext};
+ghost use Rattle.runner.specs.Private.Carried.{cellIs, outcomeOf, cellsIn, Held, heldIn, opOf, Did, timedStep, timedNext, registerStep, fasterStep, fasterNext, begun, slowerStep, slowerNext, laterStep, afterStep, afterNext, headStep, headNext, tailStep, tailNext};
 ghost use Rattle.runner.specs.Operators.{is};
 ghost use Rattle.runner.specs.Cells.{absent, present};
 
@@ -104,19 +104,25 @@ pub(crate) fn constant(t: u32, value: u32, period: u32, state: &mut [u32], i: us
     }
 }
 
-// Kinds 2 to 6: present when both operands are.
-pub(crate) fn combined(kind: u32, x: Signal, y: Signal) -> Outcome
-    ensures { λ r. ⌜ r ≡ outcomeOf (combined (opOf kind) (cellIs x) (cellIs y)) ⌝ }
+// Kinds 2 to 6, of flows a and b below f: present when both are. It reads the values only where both are present, so that one sum after another
+// waits for values alone.
+pub(crate) fn combined(kind: u32, marks: &[u8], values: &[u32], f: usize, a: u32, b: u32) -> Outcome
+    requires { ⌜ (a < f) × (b < f) × (f ≤ length (now marks)) × (f ≤ length (now values)) ⌝ }
+    ensures { λ r. ⌜ r ≡ outcomeOf (combined (opOf kind)
+        (cellsIn (now (marks .entry)) (now (values .entry)) f a)
+        (cellsIn (now (marks .entry)) (now (values .entry)) f b)) ⌝ }
 {
-    if x.mark == 0 {
-        if y.mark == 0 { ABSENT } else { CLASH }
+    let i = a as usize;
+    let j = b as usize;
+    if marks[i] == 0 {
+        if marks[j] == 0 { ABSENT } else { CLASH }
     } else {
-        if y.mark == 0 {
+        if marks[j] == 0 {
             CLASH
         } else {
             Outcome {
                 mark: 1,
-                value: apply(kind, x.value, y.value),
+                value: apply(kind, values[i], values[j]),
             }
         }
     }

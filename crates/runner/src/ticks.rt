@@ -93,31 +93,11 @@ fn outcome(
         1 => operators::constant(t, p, q, state, i),
         0 => operators::input(t, p, log, at, state, i),
         2..=6 => match code {
-            2 => operators::combined(
-                2,
-                signal_at(marks, values, f, p),
-                signal_at(marks, values, f, q),
-            ),
-            3 => operators::combined(
-                3,
-                signal_at(marks, values, f, p),
-                signal_at(marks, values, f, q),
-            ),
-            4 => operators::combined(
-                4,
-                signal_at(marks, values, f, p),
-                signal_at(marks, values, f, q),
-            ),
-            5 => operators::combined(
-                5,
-                signal_at(marks, values, f, p),
-                signal_at(marks, values, f, q),
-            ),
-            _ => operators::combined(
-                6,
-                signal_at(marks, values, f, p),
-                signal_at(marks, values, f, q),
-            ),
+            2 => operators::combined(2, marks, values, f, p, q),
+            3 => operators::combined(3, marks, values, f, p, q),
+            4 => operators::combined(4, marks, values, f, p, q),
+            5 => operators::combined(5, marks, values, f, p, q),
+            _ => operators::combined(6, marks, values, f, p, q),
         },
         16..=4294967295 => CLASH,
     }

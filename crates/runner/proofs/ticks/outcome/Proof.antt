@@ -22,9 +22,12 @@ below c = omega arith
 fields : (c : tie.Start) (n : ℕ) → c .args .kind % 16 ≡ n → Fits 64 (c .args .f) (decode n (c .args .p) (c .args .q) (c .args .r))
 fields c n e = subst (λ (j : ℕ). Fits 64 (c .args .f) (decode j (c .args .p) (c .args .q) (c .args .r))) (known c n e) (c .pre .2)
 
--- a lower flow
+-- one lower flow, and two
 near : (c : tie.Start) {a : ℕ} → a < c .args .f → (a < c .args .f) × (c .args .f ≤ length (c .args .marks .now)) × (c .args .f ≤ length (c .args .values .now))
 near c l = (l, c .pre .3, c .pre .4)
+
+both : (c : tie.Start) {a b : ℕ} → (a < c .args .f) × (b < c .args .f) → (a < c .args .f) × (b < c .args .f) × (c .args .f ≤ length (c .args .marks .now)) × (c .args .f ≤ length (c .args .values .now))
+both c l = (l .0, l .1, c .pre .3, c .pre .4)
 
 mul-i : tie.Need-mul-i
 mul-i c = search needs
@@ -124,60 +127,25 @@ input-requires : tie.Need-input-requires
 unfolding decode
 input-requires c κs = let h = fields (c .before .before .before .before .before .before) 0 (c .before .match .keys11) in (omega arith, c .before .before .before .before .before .before .pre .6, omega arith, c .before .before .before .before .before .before .pre .7)
 
-signal-at-requires-14 : tie.Need-signal-at-requires-14
-unfolding decode
-signal-at-requires-14 c κs = near (c .before .before .before .before .before .before .before) (fields (c .before .before .before .before .before .before .before) 2 (c .match2 .keys1) .0)
-
-signal-at-requires-15 : tie.Need-signal-at-requires-15
-unfolding decode
-signal-at-requires-15 c κs = near (c .before .before .before .before .before .before .before .before) (fields (c .before .before .before .before .before .before .before .before) 2 (c .before .match2 .keys1) .1)
-
 combined-requires : tie.Need-combined-requires
-combined-requires c κs = search needs
-
-signal-at-requires-16 : tie.Need-signal-at-requires-16
 unfolding decode
-signal-at-requires-16 c κs = near (c .before .before .before .before .before .before .before) (fields (c .before .before .before .before .before .before .before) 3 (c .match2 .keys2) .0)
-
-signal-at-requires-17 : tie.Need-signal-at-requires-17
-unfolding decode
-signal-at-requires-17 c κs = near (c .before .before .before .before .before .before .before .before) (fields (c .before .before .before .before .before .before .before .before) 3 (c .before .match2 .keys2) .1)
+combined-requires c κs = both (c .before .before .before .before .before .before .before) (fields (c .before .before .before .before .before .before .before) 2 (c .match2 .keys1))
 
 combined-requires-2 : tie.Need-combined-requires-2
-combined-requires-2 c κs = search needs
-
-signal-at-requires-18 : tie.Need-signal-at-requires-18
 unfolding decode
-signal-at-requires-18 c κs = near (c .before .before .before .before .before .before .before) (fields (c .before .before .before .before .before .before .before) 4 (c .match2 .keys3) .0)
-
-signal-at-requires-19 : tie.Need-signal-at-requires-19
-unfolding decode
-signal-at-requires-19 c κs = near (c .before .before .before .before .before .before .before .before) (fields (c .before .before .before .before .before .before .before .before) 4 (c .before .match2 .keys3) .1)
+combined-requires-2 c κs = both (c .before .before .before .before .before .before .before) (fields (c .before .before .before .before .before .before .before) 3 (c .match2 .keys2))
 
 combined-requires-3 : tie.Need-combined-requires-3
-combined-requires-3 c κs = search needs
-
-signal-at-requires-20 : tie.Need-signal-at-requires-20
 unfolding decode
-signal-at-requires-20 c κs = near (c .before .before .before .before .before .before .before) (fields (c .before .before .before .before .before .before .before) 5 (c .match2 .keys4) .0)
-
-signal-at-requires-21 : tie.Need-signal-at-requires-21
-unfolding decode
-signal-at-requires-21 c κs = near (c .before .before .before .before .before .before .before .before) (fields (c .before .before .before .before .before .before .before .before) 5 (c .before .match2 .keys4) .1)
+combined-requires-3 c κs = both (c .before .before .before .before .before .before .before) (fields (c .before .before .before .before .before .before .before) 4 (c .match2 .keys3))
 
 combined-requires-4 : tie.Need-combined-requires-4
-combined-requires-4 c κs = search needs
-
-signal-at-requires-22 : tie.Need-signal-at-requires-22
 unfolding decode
-signal-at-requires-22 c κs = near (c .before .before .before .before .before .before .before) (fields (c .before .before .before .before .before .before .before) 6 (six _ (c .before .if1 .taken) (c .before .before .match .rest .1) (c .before .before .match .rest .0 .1) (c .match2 .rest .0 .0 .0 .1) (c .match2 .rest .0 .0 .1) (c .match2 .rest .0 .1) (c .match2 .rest .1)) .0)
-
-signal-at-requires-23 : tie.Need-signal-at-requires-23
-unfolding decode
-signal-at-requires-23 c κs = near (c .before .before .before .before .before .before .before .before) (fields (c .before .before .before .before .before .before .before .before) 6 (six _ (c .before .before .if1 .taken) (c .before .before .before .match .rest .1) (c .before .before .before .match .rest .0 .1) (c .before .match2 .rest .0 .0 .0 .1) (c .before .match2 .rest .0 .0 .1) (c .before .match2 .rest .0 .1) (c .before .match2 .rest .1)) .1)
+combined-requires-4 c κs = both (c .before .before .before .before .before .before .before) (fields (c .before .before .before .before .before .before .before) 5 (c .match2 .keys4))
 
 combined-requires-5 : tie.Need-combined-requires-5
-combined-requires-5 c κs = search needs
+unfolding decode
+combined-requires-5 c κs = both (c .before .before .before .before .before .before .before) (fields (c .before .before .before .before .before .before .before) 6 (six _ (c .before .if1 .taken) (c .before .before .match .rest .1) (c .before .before .match .rest .0 .1) (c .match2 .rest .0 .0 .0 .1) (c .match2 .rest .0 .0 .1) (c .match2 .rest .0 .1) (c .match2 .rest .1)))
 
 returns : tie.Need-returns
 unfolding decode stepOf nextOf
@@ -246,23 +214,23 @@ returns-11 c = simp (known (c .before .before .before .before .before .before .b
 
 returns-12 : tie.Need-returns-12
 unfolding decode stepOf nextOf
-returns-12 c = unchanged (simp (known (c .before .before .before .before .before .before .before .before .before .before) 2 (c .before .before .before .match2 .keys1), sym (c .before .before .signal-at14 .ensures), sym (c .before .signal-at15 .ensures)) (c .combined .ensures)) (simp (known (c .before .before .before .before .before .before .before .before .before .before) 2 (c .before .before .before .match2 .keys1)))
+returns-12 c = unchanged (simp (known (c .before .before .before .before .before .before .before .before) 2 (c .before .match2 .keys1)) (c .combined .ensures)) (simp (known (c .before .before .before .before .before .before .before .before) 2 (c .before .match2 .keys1)))
 
 returns-13 : tie.Need-returns-13
 unfolding decode stepOf nextOf
-returns-13 c = unchanged (simp (known (c .before .before .before .before .before .before .before .before .before .before) 3 (c .before .before .before .match2 .keys2), sym (c .before .before .signal-at16 .ensures), sym (c .before .signal-at17 .ensures)) (c .combined2 .ensures)) (simp (known (c .before .before .before .before .before .before .before .before .before .before) 3 (c .before .before .before .match2 .keys2)))
+returns-13 c = unchanged (simp (known (c .before .before .before .before .before .before .before .before) 3 (c .before .match2 .keys2)) (c .combined2 .ensures)) (simp (known (c .before .before .before .before .before .before .before .before) 3 (c .before .match2 .keys2)))
 
 returns-14 : tie.Need-returns-14
 unfolding decode stepOf nextOf
-returns-14 c = unchanged (simp (known (c .before .before .before .before .before .before .before .before .before .before) 4 (c .before .before .before .match2 .keys3), sym (c .before .before .signal-at18 .ensures), sym (c .before .signal-at19 .ensures)) (c .combined3 .ensures)) (simp (known (c .before .before .before .before .before .before .before .before .before .before) 4 (c .before .before .before .match2 .keys3)))
+returns-14 c = unchanged (simp (known (c .before .before .before .before .before .before .before .before) 4 (c .before .match2 .keys3)) (c .combined3 .ensures)) (simp (known (c .before .before .before .before .before .before .before .before) 4 (c .before .match2 .keys3)))
 
 returns-15 : tie.Need-returns-15
 unfolding decode stepOf nextOf
-returns-15 c = unchanged (simp (known (c .before .before .before .before .before .before .before .before .before .before) 5 (c .before .before .before .match2 .keys4), sym (c .before .before .signal-at20 .ensures), sym (c .before .signal-at21 .ensures)) (c .combined4 .ensures)) (simp (known (c .before .before .before .before .before .before .before .before .before .before) 5 (c .before .before .before .match2 .keys4)))
+returns-15 c = unchanged (simp (known (c .before .before .before .before .before .before .before .before) 5 (c .before .match2 .keys4)) (c .combined4 .ensures)) (simp (known (c .before .before .before .before .before .before .before .before) 5 (c .before .match2 .keys4)))
 
 returns-16 : tie.Need-returns-16
 unfolding decode stepOf nextOf
-returns-16 c = unchanged (simp (known (c .before .before .before .before .before .before .before .before .before .before) 6 (six _ (c .before .before .before .before .if1 .taken) (c .before .before .before .before .before .match .rest .1) (c .before .before .before .before .before .match .rest .0 .1) (c .before .before .before .match2 .rest .0 .0 .0 .1) (c .before .before .before .match2 .rest .0 .0 .1) (c .before .before .before .match2 .rest .0 .1) (c .before .before .before .match2 .rest .1)), sym (c .before .before .signal-at22 .ensures), sym (c .before .signal-at23 .ensures)) (c .combined5 .ensures)) (simp (known (c .before .before .before .before .before .before .before .before .before .before) 6 (six _ (c .before .before .before .before .if1 .taken) (c .before .before .before .before .before .match .rest .1) (c .before .before .before .before .before .match .rest .0 .1) (c .before .before .before .match2 .rest .0 .0 .0 .1) (c .before .before .before .match2 .rest .0 .0 .1) (c .before .before .before .match2 .rest .0 .1) (c .before .before .before .match2 .rest .1))))
+returns-16 c = unchanged (simp (known (c .before .before .before .before .before .before .before .before) 6 (six _ (c .before .before .if1 .taken) (c .before .before .before .match .rest .1) (c .before .before .before .match .rest .0 .1) (c .before .match2 .rest .0 .0 .0 .1) (c .before .match2 .rest .0 .0 .1) (c .before .match2 .rest .0 .1) (c .before .match2 .rest .1))) (c .combined5 .ensures)) (simp (known (c .before .before .before .before .before .before .before .before) 6 (six _ (c .before .before .if1 .taken) (c .before .before .before .match .rest .1) (c .before .before .before .match .rest .0 .1) (c .before .match2 .rest .0 .0 .0 .1) (c .before .match2 .rest .0 .0 .1) (c .before .match2 .rest .0 .1) (c .before .match2 .rest .1))))
 
 returns-17 : tie.Need-returns-17
 returns-17 c = absurd (no-other _ (below (c .before .before .before .before .before .before)) (above-eleven _ (c .if1 .left) (c .before .match .rest .0 .0 .1) (c .before .match .rest .0 .0 .0 .1) (c .before .match .rest .0 .0 .0 .0 .1) (c .before .match .rest .0 .0 .0 .0 .0 .1) (c .before .match .rest .0 .0 .0 .0 .0 .0 .1)) (c .before .match .rest .0 .0 .0 .0 .0 .0 .0 .1) (c .before .match .rest .0 .0 .0 .0 .0 .0 .0 .0 .1) (c .before .match .rest .0 .0 .0 .0 .0 .0 .0 .0 .0 .1) (c .before .match .rest .0 .0 .0 .0 .0 .0 .0 .0 .0 .0 .1))
@@ -298,20 +266,10 @@ outcome-spec =
     registered-requires
     constant-requires
     input-requires
-    signal-at-requires-14
-    signal-at-requires-15
     combined-requires
-    signal-at-requires-16
-    signal-at-requires-17
     combined-requires-2
-    signal-at-requires-18
-    signal-at-requires-19
     combined-requires-3
-    signal-at-requires-20
-    signal-at-requires-21
     combined-requires-4
-    signal-at-requires-22
-    signal-at-requires-23
     combined-requires-5
     returns
     returns-2
