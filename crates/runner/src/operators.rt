@@ -1,19 +1,14 @@
-// What each operator makes of its operands' signals at a tick and of the words that its row carries from tick to tick.
+// What each operator makes of its operands' cells at a tick, which stand below f in marks and values, and of the words that its row carries from
+// tick to tick. A value is read only where it is needed.
 ghost use mathlib.Core.Path.{_≡_};
 ghost use Prim.Native.Nat.{ℕ, _+_, _*_, _≤_, _<_, _^_};
 ghost use lib.ListN.{length, getD};
 ghost use Rattle.table.specs.Bits.{bit};
 ghost use Rattle.table.specs.Rows.{larger};
 ghost use Rattle.runner.specs.Operators.{below, apply, combined, sampled, neither, alone, merged};
-ghost use Rattle.runner.specs.Private.Carried.{cellIs, outcomeOf, cellsIn, Held, heldIn, opOf, Did, timedStep, timedNext, registerStep, fasterStep, fasterNext, begun, slowerStep, slowerNext, laterStep, afterStep, afterNext, headStep, headNext, tailStep, tailNext};
+ghost use Rattle.runner.specs.Private.Carried.{outcomeOf, cellsIn, Held, heldIn, opOf, Did, timedStep, timedNext, registerStep, fasterStep, fasterNext, begun, slowerStep, slowerNext, laterStep, afterStep, afterNext, headStep, headNext, tailStep, tailNext};
 ghost use Rattle.runner.specs.Operators.{is};
 ghost use Rattle.runner.specs.Cells.{absent, present};
-
-// A flow's cell at a tick: absent where the mark is 0, else present with the value.
-pub struct Signal {
-    pub mark: u8,
-    pub value: u32,
-}
 
 // What a row comes to at a tick: the mark and the value of its cell, or the mark of a clash.
 pub struct Outcome {
@@ -104,8 +99,7 @@ pub(crate) fn constant(t: u32, value: u32, period: u32, state: &mut [u32], i: us
     }
 }
 
-// Kinds 2 to 6, of flows a and b below f: present when both are. It reads the values only where both are present, so that one sum after another
-// waits for values alone.
+// Kinds 2 to 6: present when both operands are.
 pub(crate) fn combined(kind: u32, marks: &[u8], values: &[u32], f: usize, a: u32, b: u32) -> Outcome
     requires { ⌜ (a < f) × (b < f) × (f ≤ length (now marks)) × (f ≤ length (now values)) ⌝ }
     ensures { λ r. ⌜ r ≡ outcomeOf (combined (opOf kind)
@@ -129,10 +123,11 @@ pub(crate) fn combined(kind: u32, marks: &[u8], values: &[u32], f: usize, a: u32
 }
 
 // Register: carries the value of its source's latest presence, at first the initial value.
-pub(crate) fn registered(beat: Signal, held: u32) -> Outcome
-    ensures { λ r. ⌜ ((h : Held) → h .x ≡ held → r ≡ outcomeOf (registerStep (cellIs beat) h)) ⌝ }
+pub(crate) fn registered(marks: &[u8], values: &[u32], f: usize, b: u32, held: u32) -> Outcome
+    requires { ⌜ (b < f) × (f ≤ length (now marks)) ⌝ }
+    ensures { λ r. ⌜ ((h : Held) → h .x ≡ held → r ≡ outcomeOf (registerStep (cellsIn (now (marks .entry)) (now (values .entry)) f b) h)) ⌝ }
 {
-    if beat.mark == 0 {
+    if marks[b as usize] == 0 {
         ABSENT
     } else {
         Outcome {
@@ -178,20 +173,38 @@ fn copied(t: u32, gap: u32, state: &mut [u32], i: usize) -> Outcome
 }
 
 // Faster: carries the latest value, the next copy's tick, and the tick at which the next presence is due, 0 before the first.
-pub(crate) fn faster(t: u32, a: Signal, k: u32, gap: u32, state: &mut [u32], i: usize) -> Outcome
-    requires { ⌜ (i + 4 ≤ length (now state)) × (t < 2 ^ 24) × (k < 2 ^ 6) × (gap < 2 ^ 12) ⌝ }
-    ensures { λ r. ⌜ Did (fasterStep t (cellIs a) (heldIn (now (state .entry)) i))
-        (fasterNext t (cellIs a) k gap (heldIn (now (state .entry)) i)) i (now (state .entry)) (now (state .exit)) r ⌝ }
+pub(crate) fn faster(
+    t: u32,
+    marks: &[u8],
+    values: &[u32],
+    f: usize,
+    a: u32,
+    k: u32,
+    gap: u32,
+    state: &mut [u32],
+    i: usize,
+) -> Outcome
+    requires { ⌜ (a < f)
+        × (f ≤ length (now marks))
+        × (f ≤ length (now values))
+        × (i + 4 ≤ length (now state))
+        × (t < 2 ^ 24)
+        × (k < 2 ^ 6)
+        × (gap < 2 ^ 12) ⌝ }
+    ensures { λ r. ⌜ Did (fasterStep t (cellsIn (now (marks .entry)) (now (values .entry)) f a) (heldIn (now (state .entry)) i))
+        (fasterNext t (cellsIn (now (marks .entry)) (now (values .entry)) f a) k gap (heldIn (now (state .entry)) i)) i
+        (now (state .entry)) (now (state .exit)) r ⌝ }
 {
-    if a.mark == 0 {
+    let j = a as usize;
+    if marks[j] == 0 {
         copied(t, gap, state, i)
     } else {
         let end = state[i + 2];
         if end == 0 {
-            begin(t, a.value, k, gap, state, i)
+            begin(t, values[j], k, gap, state, i)
         } else {
             if t == end {
-                begin(t, a.value, k, gap, state, i)
+                begin(t, values[j], k, gap, state, i)
             } else {
                 CLASH
             }
@@ -200,12 +213,22 @@ pub(crate) fn faster(t: u32, a: Signal, k: u32, gap: u32, state: &mut [u32], i: 
 }
 
 // Slower: carries how many presences are still to be left out.
-pub(crate) fn slower(a: Signal, k: u32, state: &mut [u32], i: usize) -> Outcome
-    requires { ⌜ (i + 4 ≤ length (now state)) × (1 ≤ k) ⌝ }
-    ensures { λ r. ⌜ Did (slowerStep (cellIs a) (heldIn (now (state .entry)) i)) (slowerNext (cellIs a) k (heldIn (now (state .entry)) i)) i
+pub(crate) fn slower(
+    marks: &[u8],
+    values: &[u32],
+    f: usize,
+    a: u32,
+    k: u32,
+    state: &mut [u32],
+    i: usize,
+) -> Outcome
+    requires { ⌜ (a < f) × (f ≤ length (now marks)) × (f ≤ length (now values)) × (i + 4 ≤ length (now state)) × (1 ≤ k) ⌝ }
+    ensures { λ r. ⌜ Did (slowerStep (cellsIn (now (marks .entry)) (now (values .entry)) f a) (heldIn (now (state .entry)) i))
+        (slowerNext (cellsIn (now (marks .entry)) (now (values .entry)) f a) k (heldIn (now (state .entry)) i)) i
         (now (state .entry)) (now (state .exit)) r ⌝ }
 {
-    if a.mark == 0 {
+    let j = a as usize;
+    if marks[j] == 0 {
         return ABSENT;
     }
     let left = state[i];
@@ -213,7 +236,7 @@ pub(crate) fn slower(a: Signal, k: u32, state: &mut [u32], i: usize) -> Outcome
         state[i] = k - 1;
         Outcome {
             mark: 1,
-            value: a.value,
+            value: values[j],
         }
     } else {
         state[i] = left - 1;
@@ -221,27 +244,37 @@ pub(crate) fn slower(a: Signal, k: u32, state: &mut [u32], i: usize) -> Outcome
     }
 }
 
-// A signal as it is.
-fn same(a: Signal) -> Outcome
-    ensures { λ r. ⌜ r ≡ outcomeOf (is (cellIs a)) ⌝ }
+// A cell as it is.
+fn same(marks: &[u8], values: &[u32], f: usize, a: u32) -> Outcome
+    requires { ⌜ (a < f) × (f ≤ length (now marks)) × (f ≤ length (now values)) ⌝ }
+    ensures { λ r. ⌜ r ≡ outcomeOf (is (cellsIn (now (marks .entry)) (now (values .entry)) f a)) ⌝ }
 {
-    if a.mark == 0 {
+    let j = a as usize;
+    if marks[j] == 0 {
         ABSENT
     } else {
         Outcome {
             mark: 1,
-            value: a.value,
+            value: values[j],
         }
     }
 }
 
 // Later: the operand itself where d is 0, else what was collected.
-pub(crate) fn later(d: u32, a: Signal, state: &[u32], i: usize) -> Outcome
-    requires { ⌜ i + 4 ≤ length (now state) ⌝ }
-    ensures { λ r. ⌜ r ≡ outcomeOf (laterStep (cellIs a) d (heldIn (now (state .entry)) i)) ⌝ }
+pub(crate) fn later(
+    d: u32,
+    marks: &[u8],
+    values: &[u32],
+    f: usize,
+    a: u32,
+    state: &[u32],
+    i: usize,
+) -> Outcome
+    requires { ⌜ (a < f) × (f ≤ length (now marks)) × (f ≤ length (now values)) × (i + 4 ≤ length (now state)) ⌝ }
+    ensures { λ r. ⌜ r ≡ outcomeOf (laterStep (cellsIn (now (marks .entry)) (now (values .entry)) f a) d (heldIn (now (state .entry)) i)) ⌝ }
 {
     if d == 0 {
-        return same(a);
+        return same(marks, values, f, a);
     }
     if state[i] == 0 {
         ABSENT
@@ -276,12 +309,24 @@ fn after(t: u32, x: u32, s: u32, state: &mut [u32], i: usize) -> Outcome
 }
 
 // Head: carries 0 before the operand's first presence, then the tick at which the second is due, and 1 after that.
-pub(crate) fn head(t: u32, a: Signal, v: u32, s: u32, state: &mut [u32], i: usize) -> Outcome
-    requires { ⌜ (i + 4 ≤ length (now state)) × (t < 2 ^ 24) ⌝ }
-    ensures { λ r. ⌜ Did (headStep t (cellIs a) v s (heldIn (now (state .entry)) i)) (headNext t (cellIs a) s (heldIn (now (state .entry)) i)) i
+pub(crate) fn head(
+    t: u32,
+    marks: &[u8],
+    values: &[u32],
+    f: usize,
+    a: u32,
+    v: u32,
+    s: u32,
+    state: &mut [u32],
+    i: usize,
+) -> Outcome
+    requires { ⌜ (a < f) × (f ≤ length (now marks)) × (f ≤ length (now values)) × (i + 4 ≤ length (now state)) × (t < 2 ^ 24) ⌝ }
+    ensures { λ r. ⌜ Did (headStep t (cellsIn (now (marks .entry)) (now (values .entry)) f a) v s (heldIn (now (state .entry)) i))
+        (headNext t (cellsIn (now (marks .entry)) (now (values .entry)) f a) s (heldIn (now (state .entry)) i)) i
         (now (state .entry)) (now (state .exit)) r ⌝ }
 {
-    if a.mark == 0 {
+    let j = a as usize;
+    if marks[j] == 0 {
         if t == s {
             Outcome { mark: 1, value: v }
         } else {
@@ -291,18 +336,28 @@ pub(crate) fn head(t: u32, a: Signal, v: u32, s: u32, state: &mut [u32], i: usiz
         if t <= s {
             CLASH
         } else {
-            after(t, a.value, s, state, i)
+            after(t, values[j], s, state, i)
         }
     }
 }
 
 // Tail: carries 0 before the operand's first presence, then 1.
-pub(crate) fn tail(a: Signal, state: &mut [u32], i: usize) -> Outcome
-    requires { ⌜ i + 4 ≤ length (now state) ⌝ }
-    ensures { λ r. ⌜ Did (tailStep (cellIs a) (heldIn (now (state .entry)) i)) (tailNext (cellIs a) (heldIn (now (state .entry)) i)) i
-        (now (state .entry)) (now (state .exit)) r ⌝ }
+pub(crate) fn tail(
+    marks: &[u8],
+    values: &[u32],
+    f: usize,
+    a: u32,
+    state: &mut [u32],
+    i: usize,
+) -> Outcome
+    requires { ⌜ (a < f) × (f ≤ length (now marks)) × (f ≤ length (now values)) × (i + 4 ≤ length (now state)) ⌝ }
+    ensures { λ r. ⌜ Did (tailStep (cellsIn (now (marks .entry)) (now (values .entry)) f a) (heldIn (now (state .entry)) i))
+        (tailNext (cellsIn (now (marks .entry)) (now (values .entry)) f a) (heldIn (now (state .entry)) i)) i
+        (now (state .entry))
+        (now (state .exit)) r ⌝ }
 {
-    if a.mark == 0 {
+    let j = a as usize;
+    if marks[j] == 0 {
         return ABSENT;
     }
     if state[i] == 0 {
@@ -311,22 +366,35 @@ pub(crate) fn tail(a: Signal, state: &mut [u32], i: usize) -> Outcome
     } else {
         Outcome {
             mark: 1,
-            value: a.value,
+            value: values[j],
         }
     }
 }
 
 // When, when-not: present where both are and c has the truth wanted.
-pub(crate) fn sampled(wanted: bool, a: Signal, c: Signal) -> Outcome
-    ensures { λ r. ⌜ r ≡ outcomeOf (sampled wanted (cellIs a) (cellIs c)) ⌝ }
+pub(crate) fn sampled(
+    wanted: bool,
+    marks: &[u8],
+    values: &[u32],
+    f: usize,
+    a: u32,
+    c: u32,
+) -> Outcome
+    requires { ⌜ (a < f) × (c < f) × (f ≤ length (now marks)) × (f ≤ length (now values)) ⌝ }
+    ensures { λ r. ⌜ r
+        ≡ outcomeOf
+        (sampled wanted (cellsIn (now (marks .entry)) (now (values .entry)) f a)
+        (cellsIn (now (marks .entry)) (now (values .entry)) f c)) ⌝ }
 {
-    if a.mark == 0 {
-        if c.mark == 0 { ABSENT } else { CLASH }
+    let i = a as usize;
+    let j = c as usize;
+    if marks[i] == 0 {
+        if marks[j] == 0 { ABSENT } else { CLASH }
     } else {
-        if c.mark == 0 {
+        if marks[j] == 0 {
             CLASH
         } else {
-            chosen(wanted, a.value, c.value)
+            chosen(wanted, values[i], values[j])
         }
     }
 }
@@ -351,16 +419,21 @@ fn chosen(wanted: bool, x: u32, y: u32) -> Outcome
 }
 
 // The one of two that is to be present alone.
-fn alone(one: Signal, other: Signal) -> Outcome
-    ensures { λ r. ⌜ r ≡ outcomeOf (alone (cellIs one) (cellIs other)) ⌝ }
+fn alone(marks: &[u8], values: &[u32], f: usize, one: u32, other: u32) -> Outcome
+    requires { ⌜ (one < f) × (other < f) × (f ≤ length (now marks)) × (f ≤ length (now values)) ⌝ }
+    ensures { λ r. ⌜ r
+        ≡ outcomeOf
+        (alone (cellsIn (now (marks .entry)) (now (values .entry)) f one)
+        (cellsIn (now (marks .entry)) (now (values .entry)) f other)) ⌝ }
 {
-    if one.mark == 0 {
+    let i = one as usize;
+    if marks[i] == 0 {
         CLASH
     } else {
-        if other.mark == 0 {
+        if marks[other as usize] == 0 {
             Outcome {
                 mark: 1,
-                value: one.value,
+                value: values[i],
             }
         } else {
             CLASH
@@ -369,27 +442,40 @@ fn alone(one: Signal, other: Signal) -> Outcome
 }
 
 // Neither of two.
-fn neither(x: Signal, y: Signal) -> Outcome
-    ensures { λ r. ⌜ r ≡ outcomeOf (neither (cellIs x) (cellIs y)) ⌝ }
+fn neither(marks: &[u8], values: &[u32], f: usize, a: u32, b: u32) -> Outcome
+    requires { ⌜ (a < f) × (b < f) × (f ≤ length (now marks)) ⌝ }
+    ensures { λ r. ⌜ r
+        ≡ outcomeOf
+        (neither (cellsIn (now (marks .entry)) (now (values .entry)) f a)
+        (cellsIn (now (marks .entry)) (now (values .entry)) f b)) ⌝ }
 {
-    if x.mark == 0 {
-        if y.mark == 0 { ABSENT } else { CLASH }
+    if marks[a as usize] == 0 {
+        if marks[b as usize] == 0 {
+            ABSENT
+        } else {
+            CLASH
+        }
     } else {
         CLASH
     }
 }
 
 // Merge: the one that the truth of c names, alone.
-pub(crate) fn merged(c: Signal, a: Signal, b: Signal) -> Outcome
-    ensures { λ r. ⌜ r ≡ outcomeOf (merged (cellIs c) (cellIs a) (cellIs b)) ⌝ }
+pub(crate) fn merged(marks: &[u8], values: &[u32], f: usize, c: u32, a: u32, b: u32) -> Outcome
+    requires { ⌜ (c < f) × (a < f) × (b < f) × (f ≤ length (now marks)) × (f ≤ length (now values)) ⌝ }
+    ensures { λ r. ⌜ r
+        ≡ outcomeOf
+        (merged (cellsIn (now (marks .entry)) (now (values .entry)) f c)
+        (cellsIn (now (marks .entry)) (now (values .entry)) f a) (cellsIn (now (marks .entry)) (now (values .entry)) f b)) ⌝ }
 {
-    if c.mark == 0 {
-        neither(a, b)
+    let j = c as usize;
+    if marks[j] == 0 {
+        neither(marks, values, f, a, b)
     } else {
-        if c.value == 0 {
-            alone(b, a)
+        if values[j] == 0 {
+            alone(marks, values, f, b, a)
         } else {
-            alone(a, b)
+            alone(marks, values, f, a, b)
         }
     }
 }

@@ -6,7 +6,7 @@ ghost use lib.Dec.{eqb};
 ghost use Prim.Native.Nat.{ℕ, _+_, _*_, _≤_, _<_, _^_};
 ghost use lib.ListN.{length, set};
 ghost use Rattle.table.proofs.Tables.{Fits};
-ghost use Rattle.runner.specs.Private.Carried.{cellIs, cellsIn, heldIn, decode, stepOf, nextOf, Did};
+ghost use Rattle.runner.specs.Private.Carried.{cellsIn, heldIn, decode, stepOf, nextOf, Did};
 ghost use Rattle.table.specs.Rows.{badRegister};
 ghost use Rattle.runner.specs.Runs.{Tick, Ticks, flowsFrom, sourceMeets, tickOf};
 ghost use Rattle.runner.specs.Private.Ready.{rowsIn, Plain, Ready, AllFollow, Wrote, FlowsEnd, LatchEnd, TickDone, Listed};
@@ -14,7 +14,6 @@ use crate::operators;
 use crate::operators::CLASH;
 use crate::operators::CLASHED;
 use crate::operators::Outcome;
-use crate::operators::Signal;
 
 const KINDS: u32 = 16;
 
@@ -22,18 +21,6 @@ const KINDS: u32 = 16;
 pub enum Ticked {
     Full,
     Stopped(usize),
-}
-
-// The signal of flow a in this tick, of which the flows below f are worked out.
-fn signal_at(marks: &[u8], values: &[u32], f: usize, a: u32) -> Signal
-    requires { ⌜ (a < f) × (f ≤ length (now marks)) × (f ≤ length (now values)) ⌝ }
-    ensures { λ r. ⌜ cellIs r ≡ cellsIn (now (marks .entry)) (now (values .entry)) f a ⌝ }
-{
-    let i = a as usize;
-    Signal {
-        mark: marks[i],
-        value: values[i],
-    }
 }
 
 // What row f comes to at tick t: one decision over the kind. A known kind is its own remainder; that lets the compiler make one jump of the
@@ -69,27 +56,15 @@ fn outcome(
     let i = 4 * f;
     let code = kind % KINDS;
     match code {
-        15 => operators::merged(
-            signal_at(marks, values, f, p),
-            signal_at(marks, values, f, q),
-            signal_at(marks, values, f, r),
-        ),
-        14 => operators::sampled(
-            false,
-            signal_at(marks, values, f, p),
-            signal_at(marks, values, f, q),
-        ),
-        13 => operators::sampled(
-            true,
-            signal_at(marks, values, f, p),
-            signal_at(marks, values, f, q),
-        ),
-        12 => operators::tail(signal_at(marks, values, f, p), state, i),
-        11 => operators::head(t, signal_at(marks, values, f, p), q, r, state, i),
-        10 => operators::later(q, signal_at(marks, values, f, p), state, i),
-        9 => operators::slower(signal_at(marks, values, f, p), q, state, i),
-        8 => operators::faster(t, signal_at(marks, values, f, p), q, r, state, i),
-        7 => operators::registered(signal_at(marks, values, f, q), state[i]),
+        15 => operators::merged(marks, values, f, p, q, r),
+        14 => operators::sampled(false, marks, values, f, p, q),
+        13 => operators::sampled(true, marks, values, f, p, q),
+        12 => operators::tail(marks, values, f, p, state, i),
+        11 => operators::head(t, marks, values, f, p, q, r, state, i),
+        10 => operators::later(q, marks, values, f, p, state, i),
+        9 => operators::slower(marks, values, f, p, q, state, i),
+        8 => operators::faster(t, marks, values, f, p, q, r, state, i),
+        7 => operators::registered(marks, values, f, q, state[i]),
         1 => operators::constant(t, p, q, state, i),
         0 => operators::input(t, p, log, at, state, i),
         2..=6 => match code {

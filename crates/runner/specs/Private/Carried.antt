@@ -7,7 +7,6 @@ use mathlib.Core.List.{List}
 use lib.ListN.{getD}
 use lib.Dec.{eqb, ltb, leb}
 use Rattle.table.specs.Rows.{Row, Op, add, subtract, less, equal, larger, input, constant, combine, register, faster, slower, later, head, tail, sample, merge}
-use Rattle.runner.specs.declared.operators.Signal.{Signal}
 use Rattle.runner.specs.declared.operators.Outcome.{Outcome}
 use Rattle.runner.specs.Cells.{Cell, absent, present, value}
 use Rattle.runner.specs.Answers.{markByte}
@@ -17,10 +16,7 @@ use Rattle.runner.specs.Operators.{Step, is, clashes, combined, sampled,
 abbrev pub cellAt : ℕ → ℕ → Cell
 cellAt m v = cond (eqb m 0) absent (present v)
 
--- the cell that a signal is, and a step as an outcome
-abbrev pub cellIs : Signal → Cell
-cellIs s = cellAt (s .mark) (s .value)
-
+-- a step as an outcome
 abbrev pub outcomeOf : Step → Outcome
 outcomeOf (is c) = record { mark = markByte c; value = value c }
 outcomeOf clashes = record { mark = 2; value = 0 }

@@ -1,27 +1,62 @@
 -- `sampled` meets its contract. Assumes nothing.
 use Rattle.runner.specs.Operators.{sampled}
-use borrow.Author.Tests.{eq-eqb, ne-eqb}
+use borrow.Author.Tests.{eq-eqb, ne-eqb, lt-ltb}
 use borrow.Author.Needs.{needs}
 use Rattle.runner.proofs.operators.sampled.Statement.{statement}
 use Rattle.runner.proofs.operators.sampled.Tie as tie
+
+shared-slice-read-if1 : tie.Need-shared-slice-read-if1
+shared-slice-read-if1 c = search needs
+
+shared-slice-read-if2 : tie.Need-shared-slice-read-if2
+shared-slice-read-if2 c = search needs
+
+shared-slice-read-if3 : tie.Need-shared-slice-read-if3
+shared-slice-read-if3 c = search needs
+
+mul-chosen : tie.Need-mul-chosen
+mul-chosen c = search needs
+
+shared-slice-read-chosen : tie.Need-shared-slice-read-chosen
+shared-slice-read-chosen c = search needs
+
+mul-chosen-2 : tie.Need-mul-chosen-2
+mul-chosen-2 c = search needs
+
+shared-slice-read-chosen-2 : tie.Need-shared-slice-read-chosen-2
+shared-slice-read-chosen-2 c = search needs
 
 chosen-requires : tie.Need-chosen-requires
 chosen-requires c κs = search needs
 
 returns : tie.Need-returns
 unfolding sampled
-returns c = simp (eq-eqb _ _ (c .if2 .taken), eq-eqb _ _ (c .before .before .if1 .taken))
+returns c = simp (eq-eqb _ _ (c .if2 .taken), eq-eqb _ _ (c .before .before .if1 .taken), lt-ltb _ _ (c .before .before .before .before .before .before .pre .0), lt-ltb _ _ (c .before .before .before .before .before .before .pre .1))
 
 returns-2 : tie.Need-returns-2
 unfolding sampled
-returns-2 c = simp (ne-eqb _ _ (c .if2 .left), eq-eqb _ _ (c .before .before .if1 .taken))
+returns-2 c = simp (ne-eqb _ _ (c .if2 .left), eq-eqb _ _ (c .before .before .if1 .taken), lt-ltb _ _ (c .before .before .before .before .before .before .pre .0), lt-ltb _ _ (c .before .before .before .before .before .before .pre .1))
 
 returns-3 : tie.Need-returns-3
 unfolding sampled
-returns-3 c = simp (eq-eqb _ _ (c .if3 .taken), ne-eqb _ _ (c .before .before .if1 .left))
+returns-3 c = simp (eq-eqb _ _ (c .if3 .taken), ne-eqb _ _ (c .before .before .if1 .left), lt-ltb _ _ (c .before .before .before .before .before .before .pre .0), lt-ltb _ _ (c .before .before .before .before .before .before .pre .1))
 
 returns-4 : tie.Need-returns-4
-returns-4 c = simp (ne-eqb _ _ (c .before .if3 .left), ne-eqb _ _ (c .before .before .before .if1 .left)) (c .chosen .ensures)
+returns-4 c = simp (ne-eqb _ _ (c .before .before .before .if3 .left), ne-eqb _ _ (c .before .before .before .before .before .if1 .left), lt-ltb _ _ (c .before .before .before .before .before .before .before .before .before .pre .0), lt-ltb _ _ (c .before .before .before .before .before .before .before .before .before .pre .1)) (c .chosen .ensures)
 
 pub sampled-spec : {M : Type 1} → statement M
-sampled-spec = tie.close (tie.spec chosen-requires returns returns-2 returns-3 returns-4)
+sampled-spec =
+    tie.close
+    (tie.spec
+    shared-slice-read-if1
+    shared-slice-read-if2
+    shared-slice-read-if3
+    mul-chosen
+    shared-slice-read-chosen
+    mul-chosen-2
+    shared-slice-read-chosen-2
+    chosen-requires
+    returns
+    returns-2
+    returns-3
+    returns-4)

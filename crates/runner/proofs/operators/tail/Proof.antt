@@ -1,12 +1,15 @@
 -- `tail` meets its contract. Assumes nothing.
 use Rattle.runner.proofs.Words.{unchanged, first}
-use borrow.Author.Tests.{eq-eqb, ne-eqb}
+use borrow.Author.Tests.{eq-eqb, ne-eqb, lt-ltb}
 use borrow.Author.Needs.{needs}
 use Rattle.runner.proofs.operators.tail.Statement.{statement}
 use Rattle.runner.proofs.operators.tail.Tie as tie
 
+shared-slice-read-if1 : tie.Need-shared-slice-read-if1
+shared-slice-read-if1 c = search needs
+
 returns : tie.Need-returns
-returns c = unchanged (simp (eq-eqb _ _ (c .if1 .taken))) (simp (eq-eqb _ _ (c .if1 .taken)))
+returns c = unchanged (simp (eq-eqb _ _ (c .if1 .taken), lt-ltb _ _ (c .before .before .pre .0))) (simp (eq-eqb _ _ (c .if1 .taken), lt-ltb _ _ (c .before .before .pre .0)))
 
 mul-if2 : tie.Need-mul-if2
 mul-if2 c = search needs
@@ -20,24 +23,33 @@ mul-state c = search needs
 slice-write-state : tie.Need-slice-write-state
 slice-write-state c = search needs
 
+mul-t17 : tie.Need-mul-t17
+mul-t17 c = search needs
+
+shared-slice-read-t19 : tie.Need-shared-slice-read-t19
+shared-slice-read-t19 c = search needs
+
 same-length : tie.Need-same-length
 same-length c = search needs
 
 returns-2 : tie.Need-returns-2
-returns-2 c = first (c .before .before .before .before .pre) (simp (eq-eqb _ _ (c .if2 .taken), ne-eqb _ _ (c .before .before .if1 .left))) (simp (eq-eqb _ _ (c .if2 .taken), ne-eqb _ _ (c .before .before .if1 .left)))
+returns-2 c = first (c .before .before .before .before .pre .3) (simp (eq-eqb _ _ (c .if2 .taken), ne-eqb _ _ (c .before .before .if1 .left), lt-ltb _ _ (c .before .before .before .before .pre .0))) (simp (eq-eqb _ _ (c .if2 .taken), ne-eqb _ _ (c .before .before .if1 .left), lt-ltb _ _ (c .before .before .before .before .pre .0)))
 
 returns-3 : tie.Need-returns-3
-returns-3 c = unchanged (simp (ne-eqb _ _ (c .if2 .left), ne-eqb _ _ (c .before .before .if1 .left))) (simp (ne-eqb _ _ (c .if2 .left), ne-eqb _ _ (c .before .before .if1 .left)))
+returns-3 c = unchanged (simp (ne-eqb _ _ (c .before .if2 .left), ne-eqb _ _ (c .before .before .before .if1 .left), lt-ltb _ _ (c .before .before .before .before .before .pre .0))) (simp (ne-eqb _ _ (c .before .if2 .left), ne-eqb _ _ (c .before .before .before .if1 .left), lt-ltb _ _ (c .before .before .before .before .before .pre .0)))
 
 pub tail-spec : {M : Type 1} → statement M
 tail-spec =
     tie.close
     (tie.spec
+    shared-slice-read-if1
     returns
     mul-if2
     slice-read-if2
     mul-state
     slice-write-state
+    mul-t17
+    shared-slice-read-t19
     same-length
     returns-2
     returns-3)
