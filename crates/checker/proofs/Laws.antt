@@ -1,6 +1,6 @@
 -- Numbers and lists of words. Assumes nothing.
-use mathlib.Core.Path.{_≡_, refl, sym, _∙_, ap, subst⁻¹}
-use Prim.Native.Nat.{ℕ, zero, suc, _+_, _*_, _^_, _≤_, _<_}
+use mathlib.Core.Path.{_≡_, sym, _∙_, ap, subst⁻¹}
+use Prim.Native.Nat.{ℕ, suc, _+_, _*_, _^_, _≤_, _<_}
 use native.Mathlib.Nat.{mul-le-mul-left, mul-lt-mul-of-pos-right, lt-of-le-of-lt, le-of-lt}
 use native.Mathlib.Omega.{arith}
 use lib.Pow.{pow-pos, pow-add}
@@ -9,7 +9,7 @@ use native.Mathlib.Numerals.{add-one}
 use lib.Seq.{sets-eq, getD-drop, length-take-le, drop-cons, take-suc, append-snoc, set-at}
 use Rattle.table.specs.Plain.{four}
 use Rattle.table.specs.Rows.{Words}
-use mathlib.Core.List.{List, [], _∷_, _++_, append-assoc}
+use mathlib.Core.List.{List, _++_, append-assoc}
 use Rattle.checker.specs.declared.Clock.{Clock as Kept}
 use Rattle.checker.specs.Private.Kept.{seven, words}
 

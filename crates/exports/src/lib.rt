@@ -18,7 +18,8 @@ pub extern "C" fn baarqidho_read(
     tick: &mut u32,
     count: &mut u32,
 ) -> u32
-    ensures answered { λ r. ⌜ Given (readAnswer (now (packed .entry)) (length (now (words .entry)))) r (now (flow .exit)) (now (tick .exit)) (now (count .exit)) ⌝ }
+    ensures answered { λ r. ⌜ Given (readAnswer (now (packed .entry)) (length (now (words .entry))))
+        r (now (flow .exit)) (now (tick .exit)) (now (count .exit)) ⌝ }
     ensures stored { λ r. ⌜ now (words .exit) ≡ wordsAfter (now (packed .entry)) (now (words .entry)) ⌝ }
 {
     let answer = table::parts(table::read(packed, words));
@@ -38,7 +39,8 @@ pub extern "C" fn baarqidho_write(
     tick: &mut u32,
     count: &mut u32,
 ) -> u32
-    ensures answered { λ r. ⌜ Given (writeAnswer flows (now (words .entry)) (length (now (packed .entry)))) r (now (flow .exit)) (now (tick .exit)) (now (count .exit)) ⌝ }
+    ensures answered { λ r. ⌜ Given (writeAnswer flows (now (words .entry)) (length (now (packed .entry))))
+        r (now (flow .exit)) (now (tick .exit)) (now (count .exit)) ⌝ }
     ensures stored { λ r. ⌜ now (packed .exit) ≡ bytesAfter flows (now (words .entry)) (now (packed .entry)) ⌝ }
 {
     let answer = table::write(flows, words, packed);
@@ -58,7 +60,8 @@ pub extern "C" fn baarqidho_check(
     tick: &mut u32,
     count: &mut u32,
 ) -> u32
-    ensures answered { λ r. ⌜ Given (checkAnswer flows (now (words .entry)) (length (now (clocks .entry)))) r (now (flow .exit)) (now (tick .exit)) (now (count .exit)) ⌝ }
+    ensures answered { λ r. ⌜ Given (checkAnswer flows (now (words .entry)) (length (now (clocks .entry))))
+        r (now (flow .exit)) (now (tick .exit)) (now (count .exit)) ⌝ }
     ensures stored { λ r. ⌜ now (clocks .exit) ≡ clocksAfter flows (now (words .entry)) (now (clocks .entry)) ⌝ }
 {
     let answer = checker::check(flows, words, clocks);
@@ -81,7 +84,8 @@ pub extern "C" fn baarqidho_run(
     tick: &mut u32,
     count: &mut u32,
 ) -> u32
-    ensures answered { λ r. ⌜ Given (runAnswer flows (now (words .entry)) (now (log .entry)) ticks (length (now (marks .entry))) (length (now (values .entry)))) r (now (flow .exit)) (now (tick .exit)) (now (count .exit)) ⌝ }
+    ensures answered { λ r. ⌜ Given (runAnswer flows (now (words .entry)) (now (log .entry)) ticks (length (now (marks .entry))) (length (now (values .entry))))
+        r (now (flow .exit)) (now (tick .exit)) (now (count .exit)) ⌝ }
     ensures marked { λ r. ⌜ now (marks .exit) ≡ marksAfter flows (now (words .entry)) (now (log .entry)) ticks (now (marks .entry)) (now (values .entry)) ⌝ }
     ensures valued { λ r. ⌜ now (values .exit) ≡ valuesAfter flows (now (words .entry)) (now (log .entry)) ticks (now (marks .entry)) (now (values .entry)) ⌝ }
 {
@@ -101,7 +105,8 @@ pub extern "C" fn baarqidho_listing(
     tick: &mut u32,
     count: &mut u32,
 ) -> u32
-    ensures answered { λ r. ⌜ Given (listingAnswer (now (packed .entry)) (length (now (text .entry)))) r (now (flow .exit)) (now (tick .exit)) (now (count .exit)) ⌝ }
+    ensures answered { λ r. ⌜ Given (listingAnswer (now (packed .entry)) (length (now (text .entry))))
+        r (now (flow .exit)) (now (tick .exit)) (now (count .exit)) ⌝ }
     ensures stored { λ r. ⌜ now (text .exit) ≡ textAfter (now (packed .entry)) (now (text .entry)) ⌝ }
 {
     let listed = lister::listing(packed, text);

@@ -10,12 +10,12 @@ use lib.Dec.{eqb}
 use lib.ListN.{length, getD, drop, length-append}
 use borrow.Author.Tests.{le-leb, lt-leb}
 use Rattle.table.specs.declared.Answer.{Answer}
-use Rattle.table.specs.Answers.{Result, good, refused, then, answer, success, badCount}
-use Rattle.table.specs.Rows.{Row, width, Words, rowOf, maxFlows}
+use Rattle.table.specs.Answers.{Result, good, refused, then, answer, success, numbered, badCount}
+use Rattle.table.specs.Rows.{Row, width, Words, rowOf}
 use Rattle.table.specs.Plain.{four, split, rowsFrom, countFits, tableOf}
 use Rattle.table.specs.Bits.{toBits, bits, byteCount, bytes}
 use Rattle.table.specs.Packed.{countWidth, kindWidth, rowBits, rowsBits, packed, writing, writeAnswer, bytesAfter}
-use Rattle.table.specs.Private.Codes.{kindAt, rowLength, verdict, kindCount}
+use Rattle.table.specs.Private.Codes.{kindAt, rowLength, verdict, kindCount, Ready}
 use Rattle.table.specs.Private.Laid.{putAt}
 use Rattle.table.proofs.Tests.{unless-good}
 use Rattle.table.proofs.Tables.{table-made}
@@ -128,13 +128,13 @@ table-good m words e = go (tableOf m words) refl e
     go (refused why f) u e = absurd (no-zero why (ap (λ (a : Answer). a .number) e))
 
 -- a refusal leaves the bytes
-pub write-refused : (m n f : ℕ) (words old : List ℕ) → answer (λ rs. m) (tableOf m words) ≡ record { number = n; flow = f; tick = 0; count = 0 }
-    → (record { number = n; flow = f; tick = 0; count = 0 } ≡ writeAnswer m words (length old)) × (old ≡ bytesAfter m words old)
+pub write-refused : (m n f : ℕ) (words old : List ℕ) → answer (λ rs. m) (tableOf m words) ≡ numbered n f
+    → (numbered n f ≡ writeAnswer m words (length old)) × (old ≡ bytesAfter m words old)
 unfolding writing
 write-refused m n f words old e = go (tableOf m words) refl e
   where
-    go : (r : Result (List Row)) → tableOf m words ≡ r → answer (λ rs. m) r ≡ record { number = n; flow = f; tick = 0; count = 0 }
-        → (record { number = n; flow = f; tick = 0; count = 0 } ≡ writeAnswer m words (length old)) × (old ≡ bytesAfter m words old)
+    go : (r : Result (List Row)) → tableOf m words ≡ r → answer (λ rs. m) r ≡ numbered n f
+        → (numbered n f ≡ writeAnswer m words (length old)) × (old ≡ bytesAfter m words old)
     go (good rows) u e = let z : m ≡ 0 = ap (λ (a : Answer). a .count) e in absurd (omega (arith, z, table-made m words rows u .some-flow))
     go (refused why g) u e = rw u (sym e, refl)
 
@@ -144,7 +144,7 @@ module _ (m size : ℕ) (words old : List ℕ) (ok : answer (λ rs. m) (tableOf 
 
   -- too few bytes
   pub write-full : length old < (size + 7) / 8
-      → (record { number = 10; flow = 0; tick = 0; count = 0 } ≡ writeAnswer m words (length old)) × (old ≡ bytesAfter m words old)
+      → (numbered 10 0 ≡ writeAnswer m words (length old)) × (old ≡ bytesAfter m words old)
   unfolding writing
   write-full h =
       rw (table-good m words ok .1, lt-leb (length (packed (split m words))) (length old) (omega (arith, bytes-size))) (refl, refl)
@@ -160,12 +160,6 @@ module _ (m size : ℕ) (words old : List ℕ) (ok : answer (λ rs. m) (tableOf 
       laid-bytes (tableBits m words) new old hn ho len (omega (arith, n, bytes-size)) e
       ∙ ap₂ (λ (a : List ℕ) (k : ℕ). a ++ drop k old) (sym (packed-split m words)) n in
       rw (table-good m words ok .1, le-leb (length (packed (split m words))) (length old) (omega (arith, bytes-size))) (ap success (sym bytes-size), t)
-
--- what putting an accepted table needs
-pub record Ready (m : ℕ) (words : List ℕ) : Type 0 where
-  pub few : m ≤ maxFlows
-  pub words-size : length words ≡ 4 * m
-  pub accepted : answer (λ rs. m) (rowsFrom m 0 (split m words)) ≡ success m
 
 pub ready : (m : ℕ) (words : List ℕ) → answer (λ rs. m) (tableOf m words) ≡ success m → Ready m words
 unfolding tableOf

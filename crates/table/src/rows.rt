@@ -3,7 +3,7 @@ use super::Record;
 ghost use mathlib.Core.Path.{_≡_};
 ghost use Prim.Native.Nat.{_<_, _≤_};
 ghost use lib.ListN.{getD};
-ghost use Rattle.table.specs.Rows.{Field, unused, width, ranged, placed, each, rowOf};
+ghost use Rattle.table.specs.Rows.{unused, width, ranged, placed, each, rowOf};
 ghost use Rattle.table.specs.Private.Codes.{coded, fieldList, kindAt, wordsOf, verdict, kindCount};
 
 const OPERAND: u32 = 0;

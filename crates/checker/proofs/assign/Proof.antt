@@ -8,9 +8,8 @@ use denote.Ref.{now}
 use borrow.Author.Needs.{needs}
 use Rattle.table.specs.Rows.{Row}
 use Rattle.table.proofs.Tables.{table-made}
-use Rattle.table.specs.Plain.{tableOf}
+use Rattle.table.specs.Plain.{tableOf, rowsIn}
 use Rattle.checker.specs.Private.Kept.{rowWords}
-use Rattle.table.specs.Plain.{rowsIn}
 use Rattle.checker.proofs.Folds.{Going, start, next, stop, finish}
 use Rattle.checker.proofs.assign.Statement.{statement}
 use Rattle.checker.proofs.assign.Tie as tie

@@ -3,7 +3,7 @@ use mathlib.Core.Path.{sym, _∙_, ap, subst}
 use native.Mathlib.Omega.{arith}
 use borrow.Author.Needs.{needs}
 use Rattle.lister.specs.declared.Listed.the-variants.{Bytes, NoRoom}
-use Rattle.lister.specs.Listing.{longest, Short}
+use Rattle.lister.specs.Listing.{Short}
 use Rattle.exports.specs.Parts.{listedParts}
 use Rattle.exports.proofs.GivenLaws.{given}
 use Rattle.exports.proofs.baarqidho_listing.Statement.{statement}

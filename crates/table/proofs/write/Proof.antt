@@ -53,7 +53,7 @@ put-table-requires c κs =
     let g = c .before .before .before .found2 .given in
     let z = subst (Sized (split (a .count) (now (a .words)))) (g .1) (c .before .before .before .before .before .survey .ensures .1) in
     let d = ready (a .count) (now (a .words)) (c .before .before .before .before .before .survey .ensures .0 ∙ ap (told (a .count)) (g .1)) in
-    (d .few, d .words-size, d .accepted, omega (arith, z .0, c .before .if1 .left))
+    (d, omega (arith, z .0, c .before .if1 .left))
 
 cast-success : tie.Need-cast-success
 cast-success c =

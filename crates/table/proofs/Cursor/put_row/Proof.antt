@@ -2,10 +2,9 @@
 use mathlib.Core.Path.{ap, _∙_}
 use Prim.Native.Nat.{_+_, _-_, _≤_}
 use native.Mathlib.Omega.{arith}
-use lib.ListN.{length}
+use lib.ListN.{length, length-append}
 use denote.Ref.{now}
 use mathlib.Core.List.{_++_}
-use lib.ListN.{length-append}
 use Rattle.table.specs.Rows.{width}
 use Rattle.table.specs.Bits.{bits, toBits}
 use Rattle.table.specs.Packed.{kindWidth}

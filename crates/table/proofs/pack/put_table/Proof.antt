@@ -40,7 +40,7 @@ loop-holds c =
       search needs,
       omega (arith, p .ensures .0, n),
       refl,
-      putting-starts (a .count) (p .result .at) (now (a .words)) (p .last .1 .0) (bits (now (a .out))) (toBits countWidth (a .count)) (c .before .before .before .before .before .before .before .pre .2)
+      putting-starts (a .count) (p .result .at) (now (a .words)) (p .last .1 .0) (bits (now (a .out))) (toBits countWidth (a .count)) (c .before .before .before .before .before .before .before .pre .0 .accepted)
           (p .ensures .1 ∙ ap (λ (x : ℕ). putAt (bits (now (a .out))) x (toBits countWidth (a .count))) n) e,
     )
 
@@ -64,9 +64,9 @@ put-row-requires c κs =
     let w = wordsOf (r .result) in
     let k = known-row (a .count) (l .row) (l .at) (q .result .at) (now (a .words)) (l .out) (q .last .1 .0) (l .inv .3) w (r .ensures) f in
     let m = room-row (a .count) (l .row) (l .at) (q .result .at) (now (a .words)) (l .out) (q .last .1 .0) (l .inv .3) w (r .ensures) f in (
-      omega (arith, l .inv .1, p .0, f),
+      omega (arith, l .inv .1, p .0 .few, f),
       k,
-      omega (arith, m, p .3, q .kept .1 .0, l .inv .2, q .ensures .0, c .before .before .before .before .before .before .before .before .new .ensures),
+      omega (arith, m, p .1, q .kept .1 .0, l .inv .2, q .ensures .0, c .before .before .before .before .before .before .before .before .new .ensures),
     )
 
 add-row : tie.Need-add-row Inv-loop μ-loop
@@ -91,7 +91,7 @@ loop-again c =
       omega (arith, l .inv .1, t .ensures .0, row-le (w .kind) k),
       t .kept .1 .0 ∙ l .inv .2,
       putting-goes (a .count) (l .row) (l .at) (q .result .at) (now (a .words)) (l .out) (q .last .1 .0) (l .inv .3) w (r .ensures) f (t .result .at) (t .last .1 .0)
-          (omega (arith, length-bits (l .out), m, p .3, q .kept .1 .0, l .inv .2, q .ensures .0, c .before .before .before .before .before .before .before .before .before .before .before .new .ensures)) (t .ensures .0) (t .ensures .1),
+          (omega (arith, length-bits (l .out), m, p .1, q .kept .1 .0, l .inv .2, q .ensures .0, c .before .before .before .before .before .before .before .before .before .before .before .new .ensures)) (t .ensures .0) (t .ensures .1),
     )
 
 same-length : tie.Need-same-length Inv-loop μ-loop
