@@ -15,10 +15,10 @@ use Rattle.table.specs.declared.Record.{Record}
 use Rattle.table.specs.declared.Taking.the-variants.{Got, Short}
 use Rattle.table.specs.Answers.{number, Result, good, refused, then, answer, leaves, success, numbered, cutShort, badCount, badFilling}
 use Rattle.table.specs.Rows.{Row, Words, rowOf, maxFlows}
-use Rattle.table.specs.Plain.{joined, countFits}
+use Rattle.table.specs.Plain.{joined, countFits, wordsOf}
 use Rattle.table.specs.Bits.{bits, fromBits}
 use Rattle.table.specs.Packed.{takeField, TakenRow, takeRow, takeRows, filling, unpacked, reading, readAnswer, wordsAfter, countWidth}
-use Rattle.table.specs.Private.Codes.{wordsOf, verdict}
+use Rattle.table.specs.Private.Codes.{verdict}
 use Rattle.table.specs.Places.{takeAt, lastPlace}
 use Rattle.table.specs.Private.Laid.{whole}
 use Rattle.table.specs.Private.Steps.{Found, Missing, AllTaken}
@@ -114,19 +114,15 @@ module _ (s : List ℕ) where
     pub count-there : countWidth ≤ length (bits s)
     count-there = omega (arith, h .within)
 
-    pub no-flows : m < 1 → answer length (unpacked s) ≡ numbered 11 0
+    pub bad-count : countFits m ≡ false → answer length (unpacked s) ≡ numbered 11 0
     unfolding unpacked
-    no-flows l = rw (h .field 0, lt-leb 1 m l)
+    bad-count e = rw (h .field 0, e)
 
-    pub many-flows : 1 ≤ m → maxFlows < m → answer length (unpacked s) ≡ numbered 11 0
+    pub counted : countFits m ≡ true → answer length (unpacked s) ≡ answer (λ ws. m) (takeRows m m 0 (drop countWidth (bits s)))
     unfolding unpacked
-    many-flows g l = rw (h .field 0, le-leb 1 m g, lt-leb m maxFlows l)
-
-    pub counted : 1 ≤ m → m ≤ maxFlows → answer length (unpacked s) ≡ answer (λ ws. m) (takeRows m m 0 (drop countWidth (bits s)))
-    unfolding unpacked
-    counted g l =
+    counted f =
         let e : p .at ≡ countWidth = omega (arith, h .past) in
-        rw (h .field 0, le-leb 1 m g, le-leb m maxFlows l, e) (rows-counted m (drop countWidth (bits s)))
+        rw (h .field 0, f, e) (rows-counted m (drop countWidth (bits s)))
 
 -- What a table that is not refused has.
 pub record Opened (s : List ℕ) (ws : List Words) : Type 0 where

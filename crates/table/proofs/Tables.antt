@@ -6,7 +6,7 @@ use mathlib.Core.Bool.{Bool, true, _&&_}
 use mathlib.Core.List.{List, _∷_}
 use mathlib.Core.Option.{Option, none, some}
 use lib.ListN.{length, getD, drop, getElem?}
-use lib.Seq.{drop-drop}
+use lib.Seq.{drop-drop, getD-drop}
 use lib.Dec.{eqb, leb}
 use borrow.Author.Tests.{leb-true, ltb-true, eqb-true}
 use Rattle.table.specs.Answers.{good, outOfRange, misplaced, badCount}
@@ -197,3 +197,9 @@ table-made m words rows e =
       fits = t .fits;
       row-at = λ f l. subst (λ (j : ℕ). Made m j (four (drop (4 * f) words)) (rowAt rows f)) (omega arith) (t .row-at f l);
     }
+
+-- four words that are read one by one
+pub four-read : (l : List ℕ) (i : ℕ) → _≡_ {A = Words} (record { kind = getD l i 0; one = getD l (i + 1) 0; two = getD l (i + 2) 0; three = getD l (i + 3) 0 }) (four (drop i l))
+four-read l i =
+    let e : i ≡ i + 0 = omega arith in
+    rw (getD-drop i l 0 0, getD-drop i l 1 0, getD-drop i l 2 0, getD-drop i l 3 0, ← e)

@@ -2,7 +2,7 @@
 use mathlib.Core.Path.{_≡_, refl, sym, ap, ap₂, _∙_}
 use mathlib.Core.Bool.{Bool, _&&_}
 use mathlib.Core.List.{List, [], _∷_, _++_, append-assoc, append-nil}
-use Prim.Native.Nat.{ℕ, zero, suc, _+_, _-_, _*_, _/_, _<_, _≤_}
+use Prim.Native.Nat.{ℕ, zero, suc, _+_, _-_, _*_, _<_, _≤_}
 use native.Mathlib.Nat.{sub-zero}
 use native.Mathlib.Numerals.{add-one}
 use native.Mathlib.Omega.{arith}
@@ -138,21 +138,21 @@ write-refused m n f words old e = go (tableOf m words) refl e
     go (good rows) u e = let z : m ≡ 0 = ap (λ (a : Answer). a .count) e in absurd (omega (arith, z, table-made m words rows u .some-flow))
     go (refused why g) u e = rw u (sym e, refl)
 
-module _ (m size : ℕ) (words old : List ℕ) (ok : answer (λ rs. m) (tableOf m words) ≡ success m) (is : size ≡ countWidth + length (rowsBits (split m words))) where
-  bytes-size : length (packed (split m words)) ≡ (size + 7) / 8
-  bytes-size = packed-length m words ∙ ap byteCount (sym is)
+module _ (m size : ℕ) (words old : List ℕ) (ok : answer (λ rs. m) (tableOf m words) ≡ success m) (is : size ≡ byteCount (countWidth + length (rowsBits (split m words)))) where
+  bytes-size : length (packed (split m words)) ≡ size
+  bytes-size = packed-length m words ∙ sym is
 
   -- too few bytes
-  pub write-full : length old < (size + 7) / 8
+  pub write-full : length old < size
       → (numbered 10 0 ≡ writeAnswer m words (length old)) × (old ≡ bytesAfter m words old)
   unfolding writing
   write-full h =
       rw (table-good m words ok .1, lt-leb (length (packed (split m words))) (length old) (omega (arith, bytes-size))) (refl, refl)
 
   -- room for all bytes
-  pub write-done : (new : List ℕ) → (size + 7) / 8 ≤ length old → ((k : ℕ) → getD new k 0 < 256) → ((k : ℕ) → getD old k 0 < 256)
+  pub write-done : (new : List ℕ) → size ≤ length old → ((k : ℕ) → getD new k 0 < 256) → ((k : ℕ) → getD old k 0 < 256)
       → length new ≡ length old → bits new ≡ putAt (bits old) 0 (tableBits m words)
-      → (success ((size + 7) / 8) ≡ writeAnswer m words (length old)) × (new ≡ bytesAfter m words old)
+      → (success size ≡ writeAnswer m words (length old)) × (new ≡ bytesAfter m words old)
   unfolding writing putAt
   write-done new h hn ho len e =
       let n : byteCount (length (tableBits m words)) ≡ length (packed (split m words)) = ap byteCount (table-length m words) ∙ sym (packed-length m words) in

@@ -13,7 +13,6 @@ use Rattle.checker.specs.Answers.{conditionWord, clocksWords}
 use Rattle.checker.specs.Clocks.{Clock, Condition}
 use Rattle.checker.specs.Rules.{withinLimits, clockAt, maxDerived, maxConditions}
 use Rattle.checker.specs.declared.Clock.{Clock as Kept}
-use Rattle.checker.specs.declared.Row.{Row as CodeRow}
 use Rattle.checker.specs.declared.Found.{Found}
 use Rattle.checker.specs.declared.Found.the-variants.{At, Nothing}
 use Rattle.checker.specs.declared.Verdict.{Verdict}
@@ -140,9 +139,6 @@ fitsIn ws b a = same (seven (drop (7 * a) ws)) (seven (drop (7 * b) ws))
 -- the same of a row by its four words
 abbrev pub sourceIn : List ℕ → Words → Bool
 sourceIn ws w = cond (eqb (w .kind) 7) (fitsIn ws (w .two) (w .three)) true
-
-abbrev pub rowWords : CodeRow → Words
-rowWords r = record { kind = r .kind; one = r .one; two = r .two; three = r .three }
 
 abbrev pub place : Found → Option ℕ
 place (At f) = some f

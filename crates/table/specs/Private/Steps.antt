@@ -13,7 +13,7 @@ use Rattle.table.specs.declared.Scan.the-variants.{End, Stopped}
 use Rattle.table.specs.Answers.{Refusal, number, good, refused, then, answer, numbered}
 use Rattle.table.specs.Rows.{Words, rowOf}
 use Rattle.table.specs.Packed.{takeRow, takeRows, countWidth}
-use Rattle.table.specs.Private.Codes.{wordsOf}
+use Rattle.table.specs.Plain.{wordsOf}
 use Rattle.table.specs.Places.{lastPlace, longestRecord}
 
 -- a row in plain form
