@@ -8,6 +8,17 @@ ghost use Rattle.runner.specs.Answers.{runAnswer, marksAfter, valuesAfter};
 ghost use Rattle.lister.specs.Listing.{textAfter};
 ghost use Rattle.exports.specs.Parts.{Given, listingAnswer};
 use lister::Listed;
+use table::Answer;
+
+// Gives an answer's parts out: the number returned, the others through pointers.
+fn give(answer: Answer, flow: &mut u32, tick: &mut u32, count: &mut u32) -> u32
+    ensures { λ r. ⌜ Given answer r (now (flow .exit)) (now (tick .exit)) (now (count .exit)) ⌝ }
+{
+    *flow = answer.flow;
+    *tick = answer.tick;
+    *count = answer.count;
+    answer.number
+}
 
 // Reads a packed table into plain form: the count of flows, and four words a flow.
 #[no_mangle]
@@ -23,10 +34,7 @@ pub extern "C" fn baarqidho_read(
     ensures stored { λ r. ⌜ now (words .exit) ≡ wordsAfter (now (packed .entry)) (now (words .entry)) ⌝ }
 {
     let answer = table::parts(table::read(packed, words));
-    *flow = answer.flow;
-    *tick = answer.tick;
-    *count = answer.count;
-    answer.number
+    give(answer, flow, tick, count)
 }
 
 // Writes a table in plain form as a packed table: the count of bytes.
@@ -44,10 +52,7 @@ pub extern "C" fn baarqidho_write(
     ensures stored { λ r. ⌜ now (packed .exit) ≡ bytesAfter flows (now (words .entry)) (now (packed .entry)) ⌝ }
 {
     let answer = table::write(flows, words, packed);
-    *flow = answer.flow;
-    *tick = answer.tick;
-    *count = answer.count;
-    answer.number
+    give(answer, flow, tick, count)
 }
 
 // Checks a table in plain form: the count of flows, and seven words of clock a flow.
@@ -65,10 +70,7 @@ pub extern "C" fn baarqidho_check(
     ensures stored { λ r. ⌜ now (clocks .exit) ≡ clocksAfter flows (now (words .entry)) (now (clocks .entry)) ⌝ }
 {
     let answer = checker::check(flows, words, clocks);
-    *flow = answer.flow;
-    *tick = answer.tick;
-    *count = answer.count;
-    answer.number
+    give(answer, flow, tick, count)
 }
 
 // Runs a table in plain form over a log: the count of ticks, and a mark and a value a cell.
@@ -90,10 +92,7 @@ pub extern "C" fn baarqidho_run(
     ensures valued { λ r. ⌜ now (values .exit) ≡ valuesAfter flows (now (words .entry)) (now (log .entry)) ticks (now (marks .entry)) (now (values .entry)) ⌝ }
 {
     let answer = runner::run(flows, words, log, ticks, marks, values);
-    *flow = answer.flow;
-    *tick = answer.tick;
-    *count = answer.count;
-    answer.number
+    give(answer, flow, tick, count)
 }
 
 // Lists a packed table as text: the count of bytes.
@@ -110,16 +109,8 @@ pub extern "C" fn baarqidho_listing(
     ensures stored { λ r. ⌜ now (text .exit) ≡ textAfter (now (packed .entry)) (now (text .entry)) ⌝ }
 {
     let listed = lister::listing(packed, text);
-    *flow = 0;
-    *tick = 0;
     match listed {
-        Listed::Bytes(size) => {
-            *count = size as u32;
-            0
-        }
-        Listed::NoRoom => {
-            *count = 0;
-            10
-        }
+        Listed::Bytes(size) => give(Answer::success(size as u32), flow, tick, count),
+        Listed::NoRoom => give(Answer::refusal(10, 0), flow, tick, count),
     }
 }
