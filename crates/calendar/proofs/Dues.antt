@@ -7,7 +7,7 @@ use lib.ListN.{length, List·getD-append}
 use Rattle.table.specs.Rows.{Op}
 use Rattle.checker.specs.Clocks.{Condition, Clock, plain, under}
 use Rattle.checker.proofs.ClockLaws.{plain-empty}
-use Rattle.checker.proofs.CheckLaws.{Below}
+use Rattle.checker.specs.Private.Kept.{Below}
 use Rattle.runner.specs.Cells.{Cell, absent, present, mark, History, onGrid}
 use Rattle.runner.specs.Operators.{is, clashes, combined, registered, truthOf, sampled, neither, alone, merged}
 use Rattle.runner.specs.Runs.{Tick, Ticks, cellIn}

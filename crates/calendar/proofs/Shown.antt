@@ -16,7 +16,8 @@ use Rattle.table.proofs.Tests.{and-left, and-right, and-both, Tried, passed, fa
 use Rattle.checker.specs.Clocks.{Condition, Clock}
 use Rattle.checker.specs.Rules.{clockAt}
 use Rattle.checker.specs.Answers.{conditionWord, clocksWords}
-use Rattle.checker.proofs.CheckLaws.{Below, below-le, Sane}
+use Rattle.checker.specs.Private.Kept.{Below}
+use Rattle.checker.proofs.CheckLaws.{below-le, Sane}
 use Rattle.checker.proofs.WordLaws.{word-at, condition-at}
 use Rattle.runner.specs.Cells.{Cell, absent, present, mark, value, onGrid}
 use Rattle.runner.specs.Runs.{Tick, Ticks, cellIn, cells}

@@ -1,16 +1,17 @@
 -- Each row's rule over seven-word clocks comes to what the paper's rule comes to, while the clocks are within the limits. Assumes nothing.
-use mathlib.Core.Path.{_≡_, refl, sym, _∙_, ap, ap₂, subst}
+use mathlib.Core.Path.{_≡_, refl, sym, _∙_, ap}
 use Prim.Native.Nat.{ℕ, zero, suc, _+_, _*_, _%_, _≤_, _<_}
 use native.Mathlib.Omega.{arith}
-use mathlib.Core.Bool.{Bool, true, false, _&&_, Bool·beq, true≢false, false≢true}
+use mathlib.Core.Bool.{Bool, true, false, _&&_, true≢false, false≢true}
 use mathlib.Core.List.{List, [], _∷_, _++_, map}
 use lib.ListN.{length, getD, length-append}
 use lib.Dec.{eqb, leb, eqb·suc-zero}
-use borrow.Author.Tests.{eqb-true, eq-eqb, leb-true, leb-false, le-leb}
-use Rattle.table.specs.Answers.{Refusal, Result, good, refused, unless, number, clocksDiffer, beyondLimits, notPlain}
+use borrow.Author.Tests.{eqb-true, eq-eqb, leb-false, le-leb}
+use Rattle.table.specs.Answers.{Refusal, Result, good, refused, unless, number, beyondLimits}
 use Rattle.table.specs.Bits.{bit}
+use Rattle.table.specs.Rows.{maxFlows}
 use Rattle.table.proofs.Tests.{and-left, and-right, and-both, same-test}
-use Rattle.checker.specs.Clocks.{Condition, Clock, every, isEmpty, plain, sameConditions, sameClock, under}
+use Rattle.checker.specs.Clocks.{Condition, Clock, every, isEmpty, sameConditions, sameClock, under}
 use Rattle.checker.specs.Rules.{withinLimits, limited, maxDerived}
 use Rattle.checker.specs.Answers.{conditionWord}
 use Rattle.checker.specs.declared.Clock.{Clock as Kept}
@@ -18,6 +19,8 @@ use Rattle.checker.specs.declared.Verdict.{Verdict}
 use Rattle.checker.specs.declared.Verdict.the-variants.{Is, Refused}
 use Rattle.checker.specs.Private.Kept as Kept
 use Rattle.checker.proofs.ClockLaws.{beq-same, same-conditions}
+use Rattle.checker.proofs.RuleLaws.{limits}
+use Rattle.checker.proofs.CheckLaws.{below-snoc}
 
 -- A verdict of row f and the rule's result: the same clock, within the limits, or the same refusal, which names f.
 abbrev pub Agrees : ℕ → Verdict → Result Clock → Type 0
@@ -33,7 +36,7 @@ agree-guard f false true why v r e h = absurd (true≢false e)
 agree-guard f false false why v r e h = (refl, refl)
 
 pub few : (k : Clock) → Kept.Within k → length (k .conditions) ≤ 4
-few k e = leb-true (length (k .conditions)) 4 (and-right (leb (k .phase) maxDerived) _ (and-right (leb (k .period) maxDerived) _ (e .0)))
+few k w = limits k (w .0) .few
 
 -- ---- clocks without conditions
 
@@ -144,10 +147,6 @@ under-kept k c u l h =
 one-more : (cs : List Condition) (d : Condition) → length (cs ++ (d ∷ [])) ≡ length cs + 1
 one-more cs d = length-append cs (d ∷ [])
 
-named-snoc : (cs : List Condition) (d : Condition) → Kept.Named cs → d .flow < 64 → Kept.Named (cs ++ (d ∷ []))
-named-snoc [] d h l = (l, tt)
-named-snoc (c ∷ cs) d h l = (h .0, named-snoc cs d (h .1) l)
-
 pub agree-under : (f : ℕ) (k : Clock) (c : ℕ) (u : Bool) → Kept.Within k → c < 64
     → Agrees f (Kept.under (Kept.kept k) (Kept.condition c u)) (limited f (under k c u))
 agree-under f k c u w h =
@@ -156,7 +155,7 @@ agree-under f k c u w h =
     let q : leb (k .phase) maxDerived ≡ true = and-left (leb (k .phase) maxDerived) _ (and-right (leb (k .period) maxDerived) _ (w .0)) in
     let e : withinLimits (under k c u) ≡ leb l 4 = rw (p, q, one-more (k .conditions) (record { flow = c; truth = u })) in
     rw (under-kept k c u (few k w) h)
-    (agree-guard f (leb l 4) (withinLimits (under k c u)) beyondLimits (Is (Kept.kept (under k c u))) (good (under k c u)) e (λ (t : leb l 4 ≡ true). (refl, (e ∙ t, named-snoc (k .conditions) (record { flow = c; truth = u }) (w .1) h))))
+    (agree-guard f (leb l 4) (withinLimits (under k c u)) beyondLimits (Is (Kept.kept (under k c u))) (good (under k c u)) e (λ (t : leb l 4 ≡ true). (refl, (e ∙ t, below-snoc maxFlows (k .conditions) (record { flow = c; truth = u }) (w .1) h))))
 
 pub extends-kept : (a c : Clock) (f : ℕ) (u : Bool) → length (a .conditions) ≤ 4 → length (c .conditions) ≤ 4 → f < 64
     → sameClock a (under c f u) ≡ Kept.extends (Kept.kept a) (Kept.kept c) (Kept.condition f u)

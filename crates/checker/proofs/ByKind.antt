@@ -4,32 +4,22 @@ use Prim.Native.Nat.{ℕ, _+_, _*_, _≤_, _<_}
 use native.Mathlib.Nat.{zero-add}
 use native.Mathlib.Omega.{arith}
 use mathlib.Core.Bool.{Bool, true, false, _&&_, cond}
-use mathlib.Core.List.{List, [], _∷_}
-use lib.ListN.{length}
 use lib.Dec.{eqb}
-use Rattle.table.specs.Answers.{Result, good, refused, unless, clocksDiffer, notPlain}
-use Rattle.table.specs.Rows.{Row, Kind, kinds, Words, maxField, onRegister}
+use Rattle.table.specs.Answers.{Result, good, unless, clocksDiffer, notPlain}
+use Rattle.table.specs.Rows.{Row, Kind, kinds, Words, onRegister}
 use Rattle.table.proofs.Tables.{Made, Fits, row-fits}
 use Rattle.table.proofs.Lists.{Each, each-entry}
 use Rattle.checker.specs.Clocks.{Clock, every, plain, sameClock, under}
 use Rattle.checker.specs.Rules.{clockOf, limited, maxDerived}
 use Rattle.checker.specs.declared.Clock.{Clock as Kept}
 use Rattle.checker.specs.declared.Verdict.{Verdict}
-use Rattle.checker.specs.declared.Verdict.the-variants.{Is, Refused}
+use Rattle.checker.specs.declared.Verdict.the-variants.{Is}
 use Rattle.checker.specs.Private.Kept as Kept
 use Rattle.checker.proofs.Agree.{Agrees, agree-guard, few, plain-count, agree-every, agree-limited, same-kept, agree-under, extends-kept}
-use borrow.Author.Tests.{leb-true}
-use Rattle.table.proofs.Tests.{and-left, and-right}
-use lib.Dec.{leb}
+use Rattle.checker.proofs.RuleLaws.{limits}
 
 -- A rule over a clock k within the limits.
 module _ (f : ℕ) (k : Clock) (w : Kept.Within k) where
-  period-within : k .period ≤ maxDerived
-  period-within = leb-true (k .period) maxDerived (and-left (leb (k .period) maxDerived) _ (w .0))
-
-  phase-within : k .phase ≤ maxDerived
-  phase-within = leb-true (k .phase) maxDerived (and-left (leb (k .phase) maxDerived) _ (and-right (leb (k .period) maxDerived) _ (w .0)))
-
   -- kinds 8 to 12 over a clock that is plain
   over-plain : (v : Verdict) (r : Result Clock) → Agrees f v r → Agrees f (Kept.guard (eqb (Kept.kept k .count) 0) 23 v) (unless (plain k) notPlain f r)
   over-plain v r h = agree-guard f (eqb (Kept.kept k .count) 0) (plain k) notPlain v r (plain-count (k .conditions)) (λ (t : eqb (Kept.kept k .count) 0 ≡ true). h)
@@ -90,13 +80,13 @@ module _ (m f : ℕ) (small : f < 64) (clk : ℕ → Clock) (h : ℕ → Kept) (
                 (
                   λ x y z t. (rw (held y (t .0)), within y (t .0)),
                   (
-                    λ x y z t. rw (held x (t .0)) (over-plain f (clk x) (within x (t .0)) _ _ (fitting f (clk x) (within x (t .0)) (clk x .period) (y * z) z (clk x .phase) (t .2 .upto) (phase-within f (clk x) (within x (t .0))))),
+                    λ x y z t. rw (held x (t .0)) (over-plain f (clk x) (within x (t .0)) _ _ (fitting f (clk x) (within x (t .0)) (clk x .period) (y * z) z (clk x .phase) (t .2 .upto) (limits (clk x) (within x (t .0) .0) .phase-fits))),
                     (
                       λ x y z t. rw (held x (t .0)) (over-plain f (clk x) (within x (t .0)) _ _ (agree-limited f (y * clk x .period) (clk x .phase))),
                       (
                         λ x y z t. rw (held x (t .0)) (over-plain f (clk x) (within x (t .0)) _ _ (agree-limited f (clk x .period) (clk x .phase + y))),
                         (
-                          λ x y z t. rw (held x (t .0)) (over-plain f (clk x) (within x (t .0)) _ _ (fitting f (clk x) (within x (t .0)) (clk x .phase) (z + clk x .period) (clk x .period) z (period-within f (clk x) (within x (t .0))) (t .1))),
+                          λ x y z t. rw (held x (t .0)) (over-plain f (clk x) (within x (t .0)) _ _ (fitting f (clk x) (within x (t .0)) (clk x .phase) (z + clk x .period) (clk x .period) z (limits (clk x) (within x (t .0) .0) .period-fits) (t .1))),
                           (
                             λ x y z t. rw (held x (t .0)) (over-plain f (clk x) (within x (t .0)) _ _ (agree-limited f (clk x .period) (clk x .phase + clk x .period))),
                             (

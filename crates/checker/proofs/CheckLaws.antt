@@ -1,21 +1,22 @@
 -- What the check has found, from what it comes to. Assumes nothing.
 use mathlib.Core.Path.{_≡_, refl, sym, _∙_, ap, subst}
-use Prim.Native.Nat.{ℕ, zero, suc, _+_, _≤_, _<_}
-use native.Mathlib.Nat.{add-zero, mul-le-mul}
+use Prim.Native.Nat.{ℕ, suc, _+_, _≤_, _<_}
+use native.Mathlib.Nat.{mul-le-mul}
 use native.Mathlib.Omega.{arith}
-use mathlib.Core.Bool.{Bool, true, false}
+use mathlib.Core.Bool.{false}
 use mathlib.Core.List.{List, [], _∷_, _++_}
-use mathlib.Core.Option.{Option, none, some}
-use lib.ListN.{length, getD, length-append, List·getD-append}
+use mathlib.Core.Option.{Option}
+use lib.ListN.{length, length-append, List·getD-append}
 use lib.Seq.{getD-append-seam}
 use Rattle.table.specs.Answers.{Refusal, Result, good, refused, then, clocksDiffer}
-use Rattle.table.specs.Rows.{Row, Op, input, constant, combine, register, faster, slower, later, head, tail, sample, merge, onRegister}
-use Rattle.table.specs.Rows.{badRegister}
+use Rattle.table.specs.Rows.{Row, input, constant, combine, register, faster, slower, later, head, tail, sample, merge, onRegister, badRegister}
+use Rattle.table.proofs.Tests.{not-good, good-inj}
 use Rattle.table.proofs.Lists.{Each, below-suc}
 use Rattle.table.proofs.Registers.{Passes, Registers, all-pass, one-fails, registers}
-use Rattle.table.proofs.Tables.{In, Fits, AllFit}
+use Rattle.table.proofs.Tables.{Fits, AllFit}
 use Rattle.checker.specs.Clocks.{Condition, Clock, every}
 use Rattle.checker.specs.Rules.{maxDerived, maxConditions, clockOf, clockAt, clocksFrom, sourced, sourceFits, clocksOf}
+use Rattle.checker.specs.Private.Kept.{Below}
 use Rattle.checker.proofs.RuleLaws.{Rule, by-input, by-constant, by-combine, by-register, by-faster, by-slower, by-later, by-head}
 use Rattle.checker.proofs.RuleLaws.{by-tail, by-sample, by-merge, rule-of}
 
@@ -105,16 +106,11 @@ checked m rows w = go (clocksFrom [] rows) (rows-view m [] rows w)
     go c (all ks x s k) = sources-view rows ks _ (s ∙ omega arith) k (registers (sourceFits ks) 0 rows)
     go c (first ks why g front r back y x s k z) = bad-row ks why g front r back y k (subst (λ (i : ℕ). clockOf (clockAt ks) i r ≡ refused why g) (s ∙ omega arith) z)
 
--- every condition is on a flow below f
-abbrev pub Below : ℕ → List Condition → Type 0
-Below f [] = Unit {0}
-Below f (c ∷ cs) = (c .flow < f) × Below f cs
-
 pub below-le : (f g : ℕ) (cs : List Condition) → f ≤ g → Below f cs → Below g cs
 below-le f g [] l b = tt
 below-le f g (c ∷ cs) l b = (omega (arith, b .0), below-le f g cs l (b .1))
 
-below-snoc : (f : ℕ) (cs : List Condition) (c : Condition) → Below f cs → c .flow < f → Below f (cs ++ (c ∷ []))
+pub below-snoc : (f : ℕ) (cs : List Condition) (c : Condition) → Below f cs → c .flow < f → Below f (cs ++ (c ∷ []))
 below-snoc f [] c b l = (l, tt)
 below-snoc f (d ∷ cs) c b l = (b .0, below-snoc f cs c (b .1) l)
 
@@ -164,3 +160,13 @@ module _ (clk : ℕ → Clock) (m : ℕ) where
   -- the clocks that the rules give are sane
   pub all-sane : (rs : List Row) → AllFit m 0 rs → Clocked clk 0 rs → AllSane clk (length rs)
   all-sane rs w k = subst (AllSane clk) (omega arith) (sane-from 0 rs w k (λ f l. absurd (omega arith)))
+
+-- what an accepted table's clocks are: one a flow, and sane
+pub sane-clocks : (m : ℕ) (rows : List Row) (ks : List Clock) → AllFit m 0 rows → clocksOf rows ≡ good ks → (length ks ≡ length rows) × AllSane (clockAt ks) (length rows)
+sane-clocks m rows ks w e = go (clocksOf rows) (checked m rows w) e
+  where
+    go : (r : Result (List Clock)) → Checked rows r → r ≡ good ks → (length ks ≡ length rows) × AllSane (clockAt ks) (length rows)
+    go r (fine js s k x) e =
+        subst (λ (l : List Clock). (length l ≡ length rows) × AllSane (clockAt l) (length rows)) (good-inj e) (s, all-sane (clockAt js) m rows w k)
+    go r (bad-row js why g front r′ back y k z) e = not-good e
+    go r (bad-source js g front r′ back k y z) e = not-good e

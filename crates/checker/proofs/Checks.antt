@@ -1,25 +1,22 @@
 -- The answers of the check's parts, joined to the answer of the whole. Assumes nothing.
-use mathlib.Core.Path.{_≡_, refl, sym, _∙_, ap, ap₂, subst}
+use mathlib.Core.Path.{_≡_, refl, sym, _∙_, ap, ap₂}
 use Prim.Native.Nat.{ℕ, suc, _+_, _*_, _≤_, _<_}
 use native.Mathlib.Omega.{arith}
-use mathlib.Core.Bool.{Bool, true, false, cond}
+use mathlib.Core.Bool.{Bool, cond}
 use mathlib.Core.List.{List, [], _∷_, _++_}
 use mathlib.Core.Option.{Option, none, some}
 use lib.ListN.{length, drop, take, length-append}
 use lib.Seq.{take-at}
 use lib.Dec.{leb}
 use borrow.Author.Tests.{le-leb, lt-leb}
-use Rattle.table.specs.declared.Answer.{Answer}
-use Rattle.table.specs.Answers.{Refusal, noRoom, Result, good, refused, unless, then, number, answer, leaves, over}
+use Rattle.table.specs.Answers.{Refusal, noRoom, Result, good, refused, unless, then, refusal, over}
 use Rattle.table.specs.Rows.{Row, input, constant, combine, register, faster, slower, later, head, tail, sample, merge, onRegister, badRegister}
-use Rattle.table.specs.Plain.{tableOf, rowsIn, plainAnswer}
+use Rattle.table.specs.Plain.{tableOf, rowsIn}
 use Rattle.table.proofs.Tests.{not-good, good-inj, then-good}
-use Rattle.table.proofs.Tables.{Table, table-made, Fits, AllFit}
+use Rattle.table.proofs.Tables.{Table, Fits, AllFit}
 use Rattle.checker.specs.Clocks.{Clock}
 use Rattle.checker.specs.Rules.{clockOf, clockAt, clocksFrom, clocksOf, sourced, sourceFits}
 use Rattle.checker.specs.Answers.{clocksWords, checking, checkAnswer, clocksAfter}
-use Rattle.checker.specs.declared.Found.{Found}
-use Rattle.checker.specs.declared.Found.the-variants.{At, Nothing}
 use Rattle.checker.specs.Private.Kept as Kept
 use Rattle.checker.proofs.Agree.{few, same-kept}
 use Rattle.checker.proofs.Folds.{seven-at, words-length}
@@ -98,18 +95,18 @@ sourced-good : (ks js : List Clock) (o : Option ℕ) → sourced ks o ≡ good j
 sourced-good ks js none e = good-inj e
 sourced-good ks js (some f) e = not-good e
 
-pub clocks-found : (rows : List Row) (ks : List Clock) → clocksOf rows ≡ good ks → clocksFrom [] rows ≡ good ks
+clocks-found : (rows : List Row) (ks : List Clock) → clocksOf rows ≡ good ks → clocksFrom [] rows ≡ good ks
 unfolding clocksOf
 clocks-found rows ks e =
     let x = then-good (clocksFrom [] rows) (λ js. sourced js (badRegister (sourceFits js) 0 rows)) ks e in
     x .1 ∙ ap good (sourced-good (x .0) ks (badRegister (sourceFits (x .0)) 0 rows) (x .2))
 
-pub all-clocks : (rows : List Row) (ks : List Clock) → clocksOf rows ≡ good ks → length ks ≡ length rows
+all-clocks : (rows : List Row) (ks : List Clock) → clocksOf rows ≡ good ks → length ks ≡ length rows
 all-clocks rows ks e = omega (arith, clocks-length [] rows ks (clocks-found rows ks e))
 
 -- a refusal leaves the buffer
 pub whole-refused : (m : ℕ) (words old : List ℕ) (why : Refusal) (f : ℕ) → checking m words (length old) ≡ refused why f
-    → (_≡_ {A = Answer} (record { number = number why; flow = f; tick = 0; count = 0 }) (checkAnswer m words (length old))) × (old ≡ clocksAfter m words old)
+    → (refusal why f ≡ checkAnswer m words (length old)) × (old ≡ clocksAfter m words old)
 whole-refused m words old why f e = (rw e, rw e)
 
 -- the words that were copied

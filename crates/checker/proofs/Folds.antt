@@ -3,22 +3,20 @@ use mathlib.Core.Path.{_≡_, refl, sym, _∙_, ap, ap₂, subst}
 use Prim.Native.Nat.{ℕ, zero, suc, _+_, _*_, _≤_, _<_}
 use native.Mathlib.Numerals.{add-one}
 use native.Mathlib.Omega.{arith}
-use mathlib.Core.Bool.{Bool, true, false, cond}
+use mathlib.Core.Bool.{Bool, true, false}
 use mathlib.Core.List.{List, [], _∷_, _++_, map, append-assoc, append-nil}
-use mathlib.Core.Option.{Option, none, some}
-use lib.ListN.{length, take, drop, getD, length-append, length-drop, List·getD-append, drop-of-length-le}
-use lib.Seq.{drop-cons, drop-drop, take-at, drop-at, drop-append-seam, getD-append-seam, drop-append-add}
-use Rattle.table.specs.Answers.{Refusal, Result, good, refused, then, number, answer, success, refusal, over}
-use Rattle.table.specs.declared.Answer.{Answer}
+use mathlib.Core.Option.{none, some}
+use lib.ListN.{length, take, drop, getD, length-append, drop-of-length-le}
+use lib.Seq.{drop-cons, drop-drop, take-at, drop-at, drop-append-add}
+use Rattle.table.specs.Answers.{Refusal, Result, good, refused, number, answer, success, numbered, over}
 use Rattle.table.proofs.Tests.{not-good, good-inj}
 use Rattle.table.specs.Rows.{Row, tail, Words, badRegister, onRegister}
 use Rattle.table.specs.Plain.{four}
-use Rattle.table.proofs.Tables.{Table, Made, rowAt, Fits, AllFit}
-use Rattle.checker.specs.Clocks.{Condition, Clock, every}
+use Rattle.table.proofs.Tables.{Table, Made, rowAt}
+use Rattle.checker.specs.Clocks.{Clock}
 use Rattle.checker.specs.Rules.{clockOf, clockAt, clocksFrom}
 use Rattle.checker.specs.Answers.{conditionWord, clockWords, clocksWords}
 use Rattle.checker.specs.declared.Clock.{Clock as Kept}
-use Rattle.checker.specs.declared.Verdict.{Verdict}
 use Rattle.checker.specs.declared.Verdict.the-variants.{Is, Refused}
 use Rattle.checker.specs.Private.Kept as Kept
 use Rattle.checker.proofs.Agree.{Agrees}
@@ -157,13 +155,13 @@ module _ (m : ℕ) (words : List ℕ) (rows : List Row) (old : List ℕ) (f : �
   -- the verdict is a refusal
   pub stop : (w : Words) → w ≡ four (drop (4 * f) words) → (n : ℕ)
       → Refused n ≡ Kept.rule (λ (g : ℕ). Kept.seven (drop (7 * g) buffer)) (w .kind) (w .one) (w .two) (w .three)
-      → (_≡_ {A = Answer} (record { number = n; flow = f; tick = 0; count = 0 }) (answer length (clocksFrom [] rows)))
+      → (numbered n f ≡ answer length (clocksFrom [] rows))
       × ((ks : List Clock) → clocksFrom [] rows ≡ good ks → ⊥)
   stop w e n v = go (clockOf (clockAt (s .clocks)) f (rowAt rows f)) refl (verdict-agrees w e)
     where
       go : (r : Result Clock) → clockOf (clockAt (s .clocks)) f (rowAt rows f) ≡ r
           → Agrees f (Kept.rule (λ (g : ℕ). Kept.seven (drop (7 * g) buffer)) (w .kind) (w .one) (w .two) (w .three)) r
-          → (_≡_ {A = Answer} (record { number = n; flow = f; tick = 0; count = 0 }) (answer length (clocksFrom [] rows)))
+          → (numbered n f ≡ answer length (clocksFrom [] rows))
           × ((ks : List Clock) → clocksFrom [] rows ≡ good ks → ⊥)
       go (good j) r a = absurd (is-not-refused (sym (v ∙ a .0)))
       go (refused why g) r a =
@@ -180,7 +178,7 @@ ended rows old f buffer e s =
     sym (s .left) ∙ ap (clocksFrom (s .clocks)) d
 
 pub finish : (rows : List Row) (old : List ℕ) (f : ℕ) (buffer : List ℕ) → length rows ≡ f → Going rows old f buffer
-    → (_≡_ {A = Answer} (record { number = 0; flow = 0; tick = 0; count = f }) (answer length (clocksFrom [] rows))) × Kept.Assigned (clocksFrom [] rows) old buffer
+    → (success f ≡ answer length (clocksFrom [] rows)) × Kept.Assigned (clocksFrom [] rows) old buffer
 finish rows old f buffer e s = (rw (whole, s .size), given)
   where
     whole : clocksFrom [] rows ≡ good (s .clocks)

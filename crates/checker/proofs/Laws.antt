@@ -1,15 +1,13 @@
 -- Numbers and lists of words. Assumes nothing.
-use mathlib.Core.Path.{_≡_, refl, sym, _∙_, ap, subst⁻¹}
-use Prim.Native.Nat.{ℕ, zero, suc, _+_, _*_, _^_, _≤_, _<_}
+use mathlib.Core.Path.{_≡_, sym, _∙_, ap, subst⁻¹}
+use Prim.Native.Nat.{ℕ, suc, _+_, _*_, _^_, _≤_, _<_}
 use native.Mathlib.Nat.{mul-le-mul-left, mul-lt-mul-of-pos-right, lt-of-le-of-lt, le-of-lt}
 use native.Mathlib.Omega.{arith}
 use lib.Pow.{pow-pos, pow-add}
 use lib.ListN.{length, take, drop, set, getD, length-append, length-drop}
 use native.Mathlib.Numerals.{add-one}
 use lib.Seq.{sets-eq, getD-drop, length-take-le, drop-cons, take-suc, append-snoc, set-at}
-use Rattle.table.specs.Plain.{four}
-use Rattle.table.specs.Rows.{Words}
-use mathlib.Core.List.{List, [], _∷_, _++_, append-assoc}
+use mathlib.Core.List.{List, _++_, append-assoc}
 use Rattle.checker.specs.declared.Clock.{Clock as Kept}
 use Rattle.checker.specs.Private.Kept.{seven, words}
 
@@ -39,12 +37,6 @@ pub seven-read : (l : List ℕ) (i : ℕ) → _≡_ {A = Kept}
 seven-read l i =
     let e : i ≡ i + 0 = omega arith in
     rw (getD-drop i l 0 0, getD-drop i l 1 0, getD-drop i l 2 0, getD-drop i l 3 0, getD-drop i l 4 0, getD-drop i l 5 0, getD-drop i l 6 0, ← e)
-
--- four words that are read one by one
-pub four-read : (l : List ℕ) (i : ℕ) → _≡_ {A = Words} (record { kind = getD l i 0; one = getD l (i + 1) 0; two = getD l (i + 2) 0; three = getD l (i + 3) 0 }) (four (drop i l))
-four-read l i =
-    let e : i ≡ i + 0 = omega arith in
-    rw (getD-drop i l 0 0, getD-drop i l 1 0, getD-drop i l 2 0, getD-drop i l 3 0, ← e)
 
 -- words that are copied one by one
 pub copy-length : (from to : List ℕ) (i : ℕ) → i ≤ length from → i ≤ length to → length (take i from ++ drop i to) ≡ length to

@@ -1,14 +1,13 @@
 -- What a rule that gives a clock has found. Assumes nothing.
-use mathlib.Core.Path.{_≡_, refl, subst}
+use mathlib.Core.Path.{_≡_, subst}
 use Prim.Native.Nat.{ℕ, _+_, _*_, _≤_}
 use mathlib.Core.Bool.{Bool, true, false, _&&_}
-use mathlib.Core.List.{List, []}
 use lib.ListN.{length}
 use lib.Dec.{eqb, leb}
-use borrow.Author.Tests.{eqb-true, leb-true}
-use Rattle.table.specs.Answers.{Refusal, Result, good, refused, unless, clocksDiffer, beyondLimits, notPlain}
+use borrow.Author.Tests.{eqb-true, leb-true, le-leb}
+use Rattle.table.specs.Answers.{Refusal, good, unless, clocksDiffer, beyondLimits, notPlain}
 use Rattle.table.specs.Rows.{Row, Op, input, constant, combine, register, faster, slower, later, head, tail, sample, merge}
-use Rattle.table.proofs.Tests.{and-left, and-right, good-inj, unless-good}
+use Rattle.table.proofs.Tests.{and-left, and-right, and-both, good-inj, unless-good}
 use Rattle.checker.specs.Clocks.{Clock, every, plain, sameClock, under}
 use Rattle.checker.specs.Rules.{maxDerived, maxConditions, withinLimits, limited, clockOf}
 use Rattle.checker.proofs.ClockLaws.{same-clock}
@@ -19,17 +18,22 @@ pub record Limited (k : Clock) : Type 0 where
   pub phase-fits : k .phase ≤ maxDerived
   pub few : length (k .conditions) ≤ maxConditions
 
-pub limited-good : (f : ℕ) (j k : Clock) → limited f j ≡ good k → (j ≡ k) × Limited j
+pub limits : (k : Clock) → withinLimits k ≡ true → Limited k
+limits k e =
+    let s : (leb (k .phase) maxDerived && leb (length (k .conditions)) maxConditions) ≡ true = and-right (leb (k .period) maxDerived) _ e in
+    record {
+      period-fits = leb-true _ _ (and-left (leb (k .period) maxDerived) _ e);
+      phase-fits = leb-true _ _ (and-left (leb (k .phase) maxDerived) _ s);
+      few = leb-true _ _ (and-right (leb (k .phase) maxDerived) _ s);
+    }
+
+pub within-limits : (k : Clock) → Limited k → withinLimits k ≡ true
+within-limits k l = and-both (le-leb _ _ (l .period-fits)) (and-both (le-leb _ _ (l .phase-fits)) (le-leb _ _ (l .few)))
+
+limited-good : (f : ℕ) (j k : Clock) → limited f j ≡ good k → (j ≡ k) × Limited j
 limited-good f j k e =
     let r = unless-good (withinLimits j) beyondLimits f (good j) k e in
-    let s : (leb (j .phase) maxDerived && leb (length (j .conditions)) maxConditions) ≡ true = and-right (leb (j .period) maxDerived) _ (r .0) in (
-      good-inj (r .1),
-      record {
-        period-fits = leb-true _ _ (and-left (leb (j .period) maxDerived) _ (r .0));
-        phase-fits = leb-true _ _ (and-left (leb (j .phase) maxDerived) _ s);
-        few = leb-true _ _ (and-right (leb (j .phase) maxDerived) _ s);
-      },
-    )
+    (good-inj (r .1), limits j (r .0))
 
 -- The rules once more, as what holds where a row has a clock.
 pub data Rule (clk : ℕ → Clock) : Row → Clock → Type 0 where

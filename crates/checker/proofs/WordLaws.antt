@@ -1,9 +1,9 @@
 -- The words that the check writes for a flow are its clock's. Assumes nothing.
-use mathlib.Core.Path.{_≡_, refl, sym, _∙_, ap, subst}
+use mathlib.Core.Path.{_≡_, refl, _∙_, ap, subst}
 use Prim.Native.Nat.{ℕ, zero, suc, _+_, _*_, min, _≤_, _<_}
 use native.Mathlib.Omega.{arith}
 use mathlib.Core.List.{List, [], _∷_, _++_, map, append-assoc}
-use lib.ListN.{length, getD, take, length-append, length-take, length-map, List·getD-append, List·getD-map}
+use lib.ListN.{length, getD, length-append, length-take, length-map, List·getD-append}
 use lib.Seq.{getD-append-add, getD-take}
 use Rattle.checker.specs.Clocks.{Condition, Clock}
 use Rattle.checker.specs.Rules.{maxConditions, clockAt}

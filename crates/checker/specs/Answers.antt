@@ -4,7 +4,7 @@ use mathlib.Core.List.{List, [], _∷_, _++_, map}
 use lib.ListN.{length, take}
 use lib.Dec.{leb}
 use Rattle.table.specs.declared.Answer.{Answer}
-use Rattle.table.specs.Answers.{Result, good, refused, unless, then, answer, leaves, noRoom}
+use Rattle.table.specs.Answers.{Result, unless, then, answer, leaves, noRoom}
 use Rattle.table.specs.Bits.{bit}
 use Rattle.table.specs.Plain.{tableOf}
 use Rattle.checker.specs.Clocks.{Condition, Clock}

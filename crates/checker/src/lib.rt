@@ -13,6 +13,7 @@ use rules::sampled;
 use rules::slower;
 use rules::tail;
 use table::Answer;
+use table::record_at;
 use table::word_at;
 ghost use mathlib.Core.Path.{_≡_};
 ghost use mathlib.Core.List.{[], _++_};
@@ -23,7 +24,7 @@ ghost use Rattle.table.specs.Rows.{badRegister};
 ghost use Rattle.table.specs.Plain.{four, tableOf, rowsIn};
 ghost use Rattle.checker.specs.Rules.{clocksFrom, clocksOf};
 ghost use Rattle.checker.specs.Answers.{checkAnswer, clocksAfter};
-ghost use Rattle.checker.specs.Private.Kept.{seven, words, rule, rowWords, fitsIn, sourceIn, place, Assigned};
+ghost use Rattle.checker.specs.Private.Kept.{seven, words, rule, fitsIn, sourceIn, place, Assigned};
 
 // A clock as the check keeps it: seven words, of which the conditions that are not used are 0.
 struct Clock {
@@ -40,14 +41,6 @@ struct Clock {
 enum Verdict {
     Is(Clock),
     Refused(u32),
-}
-
-// The four words of a row.
-struct Row {
-    kind: u32,
-    one: u32,
-    two: u32,
-    three: u32,
 }
 
 // The numbers of refusals: too little room, a kind that no table has, clocks differ, beyond the limits, a clock that is not plain.
@@ -74,19 +67,6 @@ fn clock_at(kept: &[u32], f: u32) -> Clock
         second: word_at(kept, at + 4),
         third: word_at(kept, at + 5),
         fourth: word_at(kept, at + 6),
-    }
-}
-
-// Row f of the table.
-fn row_at(words: &[u32], f: u32) -> Row
-    ensures { λ r. ⌜ rowWords r ≡ four (drop (4 * f) (now (words .entry))) ⌝ }
-{
-    let at = 4 * (f as usize);
-    Row {
-        kind: word_at(words, at),
-        one: word_at(words, at + 1),
-        two: word_at(words, at + 2),
-        three: word_at(words, at + 3),
     }
 }
 
@@ -134,7 +114,7 @@ fn assign(n: u32, words: &[u32], kept: &mut [u32]) -> Answer
 {
     let mut f: u32 = 0;
     while f < n {
-        let row = row_at(words, f);
+        let row = record_at(words, f);
         let verdict = rule(row.kind, row.one, row.two, row.three, kept);
         match verdict {
             Verdict::Is(k) => store(kept, f, k),
@@ -155,7 +135,7 @@ enum Found {
 fn source_fits(words: &[u32], kept: &[u32], f: u32) -> bool
     ensures { λ r. ⌜ r ≡ sourceIn (now (kept .entry)) (four (drop (4 * f) (now (words .entry)))) ⌝ }
 {
-    let row = row_at(words, f);
+    let row = record_at(words, f);
     if row.kind != 7 {
         return true;
     }

@@ -8,6 +8,17 @@ ghost use Rattle.runner.specs.Answers.{runAnswer, marksAfter, valuesAfter};
 ghost use Rattle.lister.specs.Listing.{textAfter};
 ghost use Rattle.exports.specs.Parts.{Given, listingAnswer};
 use lister::Listed;
+use table::Answer;
+
+// Gives an answer's parts out: the number returned, the others through pointers.
+fn give(answer: Answer, flow: &mut u32, tick: &mut u32, count: &mut u32) -> u32
+    ensures { λ r. ⌜ Given answer r (now (flow .exit)) (now (tick .exit)) (now (count .exit)) ⌝ }
+{
+    *flow = answer.flow;
+    *tick = answer.tick;
+    *count = answer.count;
+    answer.number
+}
 
 // Reads a packed table into plain form: the count of flows, and four words a flow.
 #[no_mangle]
@@ -18,14 +29,12 @@ pub extern "C" fn baarqidho_read(
     tick: &mut u32,
     count: &mut u32,
 ) -> u32
-    ensures answered { λ r. ⌜ Given (readAnswer (now (packed .entry)) (length (now (words .entry)))) r (now (flow .exit)) (now (tick .exit)) (now (count .exit)) ⌝ }
+    ensures answered { λ r. ⌜ Given (readAnswer (now (packed .entry)) (length (now (words .entry))))
+        r (now (flow .exit)) (now (tick .exit)) (now (count .exit)) ⌝ }
     ensures stored { λ r. ⌜ now (words .exit) ≡ wordsAfter (now (packed .entry)) (now (words .entry)) ⌝ }
 {
     let answer = table::parts(table::read(packed, words));
-    *flow = answer.flow;
-    *tick = answer.tick;
-    *count = answer.count;
-    answer.number
+    give(answer, flow, tick, count)
 }
 
 // Writes a table in plain form as a packed table: the count of bytes.
@@ -38,14 +47,12 @@ pub extern "C" fn baarqidho_write(
     tick: &mut u32,
     count: &mut u32,
 ) -> u32
-    ensures answered { λ r. ⌜ Given (writeAnswer flows (now (words .entry)) (length (now (packed .entry)))) r (now (flow .exit)) (now (tick .exit)) (now (count .exit)) ⌝ }
+    ensures answered { λ r. ⌜ Given (writeAnswer flows (now (words .entry)) (length (now (packed .entry))))
+        r (now (flow .exit)) (now (tick .exit)) (now (count .exit)) ⌝ }
     ensures stored { λ r. ⌜ now (packed .exit) ≡ bytesAfter flows (now (words .entry)) (now (packed .entry)) ⌝ }
 {
     let answer = table::write(flows, words, packed);
-    *flow = answer.flow;
-    *tick = answer.tick;
-    *count = answer.count;
-    answer.number
+    give(answer, flow, tick, count)
 }
 
 // Checks a table in plain form: the count of flows, and seven words of clock a flow.
@@ -58,14 +65,12 @@ pub extern "C" fn baarqidho_check(
     tick: &mut u32,
     count: &mut u32,
 ) -> u32
-    ensures answered { λ r. ⌜ Given (checkAnswer flows (now (words .entry)) (length (now (clocks .entry)))) r (now (flow .exit)) (now (tick .exit)) (now (count .exit)) ⌝ }
+    ensures answered { λ r. ⌜ Given (checkAnswer flows (now (words .entry)) (length (now (clocks .entry))))
+        r (now (flow .exit)) (now (tick .exit)) (now (count .exit)) ⌝ }
     ensures stored { λ r. ⌜ now (clocks .exit) ≡ clocksAfter flows (now (words .entry)) (now (clocks .entry)) ⌝ }
 {
     let answer = checker::check(flows, words, clocks);
-    *flow = answer.flow;
-    *tick = answer.tick;
-    *count = answer.count;
-    answer.number
+    give(answer, flow, tick, count)
 }
 
 // Runs a table in plain form over a log: the count of ticks, and a mark and a value a cell.
@@ -81,15 +86,13 @@ pub extern "C" fn baarqidho_run(
     tick: &mut u32,
     count: &mut u32,
 ) -> u32
-    ensures answered { λ r. ⌜ Given (runAnswer flows (now (words .entry)) (now (log .entry)) ticks (length (now (marks .entry))) (length (now (values .entry)))) r (now (flow .exit)) (now (tick .exit)) (now (count .exit)) ⌝ }
+    ensures answered { λ r. ⌜ Given (runAnswer flows (now (words .entry)) (now (log .entry)) ticks (length (now (marks .entry))) (length (now (values .entry))))
+        r (now (flow .exit)) (now (tick .exit)) (now (count .exit)) ⌝ }
     ensures marked { λ r. ⌜ now (marks .exit) ≡ marksAfter flows (now (words .entry)) (now (log .entry)) ticks (now (marks .entry)) (now (values .entry)) ⌝ }
     ensures valued { λ r. ⌜ now (values .exit) ≡ valuesAfter flows (now (words .entry)) (now (log .entry)) ticks (now (marks .entry)) (now (values .entry)) ⌝ }
 {
     let answer = runner::run(flows, words, log, ticks, marks, values);
-    *flow = answer.flow;
-    *tick = answer.tick;
-    *count = answer.count;
-    answer.number
+    give(answer, flow, tick, count)
 }
 
 // Lists a packed table as text: the count of bytes.
@@ -101,20 +104,13 @@ pub extern "C" fn baarqidho_listing(
     tick: &mut u32,
     count: &mut u32,
 ) -> u32
-    ensures answered { λ r. ⌜ Given (listingAnswer (now (packed .entry)) (length (now (text .entry)))) r (now (flow .exit)) (now (tick .exit)) (now (count .exit)) ⌝ }
+    ensures answered { λ r. ⌜ Given (listingAnswer (now (packed .entry)) (length (now (text .entry))))
+        r (now (flow .exit)) (now (tick .exit)) (now (count .exit)) ⌝ }
     ensures stored { λ r. ⌜ now (text .exit) ≡ textAfter (now (packed .entry)) (now (text .entry)) ⌝ }
 {
     let listed = lister::listing(packed, text);
-    *flow = 0;
-    *tick = 0;
     match listed {
-        Listed::Bytes(size) => {
-            *count = size as u32;
-            0
-        }
-        Listed::NoRoom => {
-            *count = 0;
-            10
-        }
+        Listed::Bytes(size) => give(Answer::success(size as u32), flow, tick, count),
+        Listed::NoRoom => give(Answer::refusal(10, 0), flow, tick, count),
     }
 }

@@ -1,44 +1,26 @@
 -- Reading and then the check, joined. Assumes nothing.
 use mathlib.Core.Path.{_≡_, refl, sym, _∙_, ap, ap₂}
-use Prim.Native.Nat.{ℕ, zero, suc, _+_, _*_, _≤_}
+use Prim.Native.Nat.{ℕ, _+_, _*_, _≤_}
 use native.Mathlib.Omega.{arith}
-use mathlib.Core.Bool.{Bool}
-use mathlib.Core.List.{List, [], _∷_, _++_}
+use mathlib.Core.List.{List, _++_}
 use lib.ListN.{length, take, drop}
 use lib.Seq.{take-at}
 use lib.Dec.{leb}
-use borrow.Author.Tests.{leb-true, le-leb}
+use borrow.Author.Tests.{le-leb}
 use Rattle.table.specs.declared.Answer.{Answer}
-use Rattle.table.specs.Answers.{Refusal, Result, good, refused, unless, then, answer, leaves, success, noRoom, badCount, badFilling}
+use Rattle.table.specs.Answers.{Refusal, Result, good, refused, unless, then, answer, leaves, success, numbered, noRoom}
 use Rattle.table.specs.Rows.{Words}
-use Rattle.table.specs.Plain.{joined, countFits}
-use Rattle.table.specs.Bits.{bits}
-use Rattle.table.specs.Packed.{countWidth, takeField, takeRow, takeRows, filling, unpacked, reading, readAnswer, wordsAfter}
-use Rattle.table.proofs.Tests.{and-left, and-right, good-inj, unless-good, then-good}
+use Rattle.table.specs.Plain.{joined}
+use Rattle.table.specs.Packed.{unpacked, reading, readAnswer, wordsAfter}
+use Rattle.table.proofs.Tests.{then-good}
 use Rattle.checker.specs.Clocks.{Clock}
 use Rattle.checker.specs.Answers.{checking}
 use Rattle.checker.specs.Private.Kept.{Limited}
 use Rattle.table.proofs.AnswerLaws.{answer-zero}
+use Rattle.table.proofs.ReadLaws.{opened}
+use Rattle.table.proofs.RoundTrip.{length-joined}
 use Rattle.checker.proofs.Bounds.{checked-within}
 use Rattle.lister.specs.Listing.{checked}
-
-rows-length : (m n f : ℕ) (bs : List Bool) (ws : List Words) → takeRows m n f bs ≡ good ws → length ws ≡ n
-unfolding takeRows
-rows-length m zero f bs ws e = sym (ap length (good-inj (unless-good (filling bs) badFilling 0 (good []) ws e .1)))
-rows-length m (suc n) f bs ws e =
-    let x = then-good (takeRow m f bs) (λ r. then (takeRows m n (suc f) (r .rest)) λ vs. good (r .words ∷ vs)) ws e in
-    let y = then-good (takeRows m n (suc f) (x .0 .rest)) (λ vs. good (x .0 .words ∷ vs)) ws (x .2) in
-    sym (ap length (good-inj (y .2))) ∙ ap suc (rows-length m n (suc f) (x .0 .rest) (y .0) (y .1))
-
--- a table that was read has 1 to 64 rows
-pub unpacked-size : (bs : List ℕ) (ws : List Words) → unpacked bs ≡ good ws → (1 ≤ length ws) × (length ws ≤ 64)
-unfolding unpacked
-unpacked-size bs ws e =
-    let x = then-good (takeField 0 countWidth (bits bs)) (λ m. unless (countFits (m .field)) badCount 0 (takeRows (m .field) (m .field) 0 (m .rest))) ws e in
-    let m : ℕ = x .0 .field in
-    let y = unless-good (countFits m) badCount 0 (takeRows m m 0 (x .0 .rest)) ws (x .2) in
-    let n = rows-length m m 0 (x .0 .rest) ws (y .1) in
-    (omega (arith, n, leb-true 1 m (and-left (leb 1 m) _ (y .0))), omega (arith, n, leb-true m 64 (and-right (leb 1 m) _ (y .0))))
 
 -- 256 words are room for any table
 pub reading-whole : (bs : List ℕ) → reading bs 256 ≡ unpacked bs
@@ -46,13 +28,8 @@ unfolding reading
 reading-whole bs = go (unpacked bs) refl
   where
     go : (r : Result (List Words)) → unpacked bs ≡ r → then r (λ ws. unless (leb (4 * length ws) 256) noRoom 0 (good ws)) ≡ r
-    go (good ws) e = let h : 4 * length ws ≤ 256 = omega (arith, unpacked-size bs ws e .1) in rw (le-leb (4 * length ws) 256 h)
+    go (good ws) e = let h : 4 * length ws ≤ 256 = omega (arith, opened bs ws e .few) in rw (le-leb (4 * length ws) 256 h)
     go (refused why f) e = refl
-
-joined-length : (ws : List Words) → length (joined ws) ≡ 4 * length ws
-unfolding joined
-joined-length [] = refl
-joined-length (w ∷ ws) = omega (arith, joined-length ws)
 
 pub read-table : (bs : List ℕ) (n : ℕ) → success n ≡ readAnswer bs 256 → (ws : List Words) × (unpacked bs ≡ good ws) × (n ≡ length ws)
 read-table bs n e =
@@ -60,13 +37,13 @@ read-table bs n e =
     let z = answer-zero length (unpacked bs) (sym (ap (λ (w : Answer). w .number) x)) in
     (z .0, z .1, ap (λ (w : Answer). w .count) (x ∙ ap (answer length) (z .1)))
 
-pub read-refused : (bs : List ℕ) (k row : ℕ) → _≡_ {A = Answer} (record { number = k; flow = row; tick = 0; count = 0 }) (readAnswer bs 256)
+pub read-refused : (bs : List ℕ) (k row : ℕ) → numbered k row ≡ readAnswer bs 256
     → (why : Refusal) × (f : ℕ) × (unpacked bs ≡ refused why f)
 read-refused bs k row e = go (unpacked bs) refl (e ∙ ap (answer length) (reading-whole bs))
   where
-    go : (r : Result (List Words)) → unpacked bs ≡ r → _≡_ {A = Answer} (record { number = k; flow = row; tick = 0; count = 0 }) (answer length r)
+    go : (r : Result (List Words)) → unpacked bs ≡ r → numbered k row ≡ answer length r
         → (why : Refusal) × (f : ℕ) × (unpacked bs ≡ refused why f)
-    go (good ws) u x = absurd (omega (arith, ap (λ (w : Answer). w .count) x, unpacked-size bs ws u .0))
+    go (good ws) u x = absurd (omega (arith, ap (λ (w : Answer). w .count) x, opened bs ws u .some-flow))
     go (refused why f) u x = (why, f, u)
 
 pub checked-refused : (bs : List ℕ) (why : Refusal) (f : ℕ) → unpacked bs ≡ refused why f → checked bs ≡ refused why f
@@ -84,7 +61,7 @@ checked-words bs old new ws n room u e l r h =
     let s : reading bs (length old) ≡ good ws = ap (reading bs) l ∙ reading-whole bs ∙ u in
     let w : new ≡ joined ws ++ drop (length (joined ws)) old = h ∙ ap (λ (x : Result (List Words)). leaves joined x old) s in
     let f : take (4 * n) new ≡ joined ws =
-    ap (take (4 * n)) w ∙ take-at (joined ws) (drop (length (joined ws)) old) (4 * n) (joined-length ws ∙ ap (λ (i : ℕ). 4 * i) (sym e)) in
+    ap (take (4 * n)) w ∙ take-at (joined ws) (drop (length (joined ws)) old) (4 * n) (length-joined ws ∙ ap (λ (i : ℕ). 4 * i) (sym e)) in
     ap₂ (λ (i : ℕ) (x : List ℕ). checking i x room) e f ∙ ap (checking (length ws) (joined ws)) r ∙ checked-good bs ws u
 
 pub checked-clocks : (bs : List ℕ) (ks : List Clock) → checked bs ≡ good ks → (length ks ≤ 64) × Limited ks

@@ -1,20 +1,20 @@
 -- The text of the words that the check left is the text of the clocks, and how long it is. Assumes nothing.
-use mathlib.Core.Path.{_≡_, refl, sym, _∙_, ap, ap₂, subst}
-use Prim.Native.Nat.{ℕ, zero, suc, _+_, _*_, _/_, _%_, _≤_, _<_}
+use mathlib.Core.Path.{_≡_, refl, _∙_, ap, ap₂}
+use Prim.Native.Nat.{ℕ, suc, _+_, _*_, _/_, _%_, _≤_, _<_}
 use native.Mathlib.Nat.{zero-add}
 use native.Mathlib.Omega.{arith}
 use mathlib.Core.Bool.{Bool, true, false}
 use mathlib.Core.List.{List, [], _∷_, _++_, map, append-assoc}
 use lib.ListN.{length, getD, drop, length-append}
 use lib.Dec.{eqb, leb}
-use borrow.Author.Tests.{leb-true, le-leb, lt-leb}
+use borrow.Author.Tests.{le-leb, lt-leb}
 use Rattle.table.specs.Answers.{Refusal, good, refused, number, over, leaves}
 use Rattle.table.specs.Bits.{bit}
-use Rattle.table.proofs.Tests.{and-left, and-right}
+use Rattle.table.specs.Rows.{maxFlows}
 use Rattle.checker.specs.Clocks.{Condition, Clock}
-use Rattle.checker.specs.Rules.{maxDerived}
 use Rattle.checker.specs.Answers.{conditionWord, clocksWords}
 use Rattle.checker.specs.Private.Kept as Kept
+use Rattle.checker.proofs.RuleLaws.{limits}
 use Rattle.checker.proofs.Agree.{few}
 use Rattle.checker.proofs.Folds.{words-cons}
 use Rattle.lister.specs.declared.Listed.the-variants.{Bytes, NoRoom}
@@ -76,12 +76,12 @@ condition-length : (c : Condition) → c .flow < 64 → length (conditionText c)
 unfolding conditionText
 condition-length c l = omega (arith, two (c .flow) (omega arith), length-append (decimal (c .flow)) (sign (c .truth) ∷ []))
 
-conditions-length : (cs : List Condition) → Kept.Named cs → length (conditionsFrom cs) ≤ 4 * length cs
+conditions-length : (cs : List Condition) → Kept.Below maxFlows cs → length (conditionsFrom cs) ≤ 4 * length cs
 unfolding conditionsFrom
 conditions-length [] h = omega arith
 conditions-length (c ∷ cs) h = omega (arith, condition-length c (h .0), conditions-length cs (h .1), length-append (conditionText c) (conditionsFrom cs))
 
-conditions-short : (cs : List Condition) → length cs ≤ 4 → Kept.Named cs → length (conditionsText cs) ≤ 16
+conditions-short : (cs : List Condition) → length cs ≤ 4 → Kept.Below maxFlows cs → length (conditionsText cs) ≤ 16
 conditions-short [] l h = omega arith
 conditions-short (c ∷ cs) l h = omega (arith, conditions-length (c ∷ cs) h)
 
@@ -91,14 +91,13 @@ field-length n j h = omega (arith, length-append (decimal n) (space ∷ []))
 line-length : (f : ℕ) (k : Clock) → f < 64 → Kept.Within k → length (lineText f k) ≤ 30
 unfolding lineText
 line-length f k l w =
-    let p : k .period ≤ 4095 = leb-true (k .period) maxDerived (and-left (leb (k .period) maxDerived) _ (w .0)) in
-    let q : k .phase ≤ 4095 = leb-true (k .phase) maxDerived (and-left (leb (k .phase) maxDerived) _ (and-right (leb (k .period) maxDerived) _ (w .0))) in
+    let fit = limits k (w .0) in
     let t : List ℕ = conditionsText (k .conditions) ++ (lineFeed ∷ []) in
     omega (
       arith,
       field-length f 2 (two f (omega arith)),
-      field-length (k .period) 4 (four (k .period) (omega arith)),
-      field-length (k .phase) 4 (four (k .phase) (omega arith)),
+      field-length (k .period) 4 (four (k .period) (omega (arith, fit .period-fits))),
+      field-length (k .phase) 4 (four (k .phase) (omega (arith, fit .phase-fits))),
       conditions-short (k .conditions) (few k w) (w .1),
       length-append (field f) (field (k .period) ++ (field (k .phase) ++ t)),
       length-append (field (k .period)) (field (k .phase) ++ t),

@@ -4,7 +4,7 @@ use mathlib.Core.Bool.{Bool, true, false, cond}
 use mathlib.Core.List.{List, [], _∷_, _++_}
 use lib.ListN.{length}
 use lib.Dec.{ltb, leb}
-use Rattle.table.specs.Answers.{Refusal, Result, good, refused, then, number, over}
+use Rattle.table.specs.Answers.{Result, good, refused, then, number, over}
 use Rattle.table.specs.Rows.{maxFlows}
 use Rattle.table.specs.Plain.{joined}
 use Rattle.table.specs.Packed.{unpacked}

@@ -1,10 +1,9 @@
 -- What an answer's number says of the work behind it. Assumes nothing.
 use mathlib.Core.Path.{_≡_, refl}
-use Prim.Native.Nat.{ℕ, _≤_}
+use Prim.Native.Nat.{ℕ}
 use native.Mathlib.Omega.{arith}
 use Rattle.table.specs.Answers.{Refusal, noRoom, badCount, cutShort, unknownKind, outOfRange, misplaced, badFilling, clocksDiffer}
-use Rattle.table.specs.Answers.{beyondLimits, notPlain, tooManyTicks, wrongLog, shortTrace, clash, number, Result, good, refused}
-use Rattle.table.specs.Answers.{answer}
+use Rattle.table.specs.Answers.{beyondLimits, notPlain, tooManyTicks, wrongLog, shortTrace, clash, number, Result, good, refused, answer}
 
 -- no refusal has the number 0
 pub no-zero : (why : Refusal) → number why ≡ 0 → ⊥

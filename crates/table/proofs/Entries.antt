@@ -3,7 +3,7 @@ use mathlib.Core.Path.{_≡_, refl, subst, _∙_, ap}
 use mathlib.Core.Bool.{Bool, true, _&&_}
 use mathlib.Core.List.{List, [], _∷_}
 use mathlib.Core.Option.{none, some}
-use Prim.Native.Nat.{ℕ, zero, suc, _+_, _<_, _≤_}
+use Prim.Native.Nat.{ℕ, zero, suc, _+_, _*_, _/_, _%_, _^_, _<_, _≤_}
 use native.Mathlib.Omega.{arith}
 use lib.Dec.{eqb}
 use lib.ListN.{length, getD, getElem?}
@@ -101,32 +101,32 @@ code-lt ticks = omega arith
 code-lt value = omega arith
 code-lt unused = omega arith
 
--- The table by kind: a line a kind.
-abbrev pub fields : List (List ℕ)
+-- The table by kind: the numbers of the three fields as digits to base 8.
+abbrev pub fields : List ℕ
 fields =
-    (3 ∷ 4 ∷ 6 ∷ [])
-    ∷ (5 ∷ 3 ∷ 4 ∷ [])
-    ∷ (0 ∷ 0 ∷ 6 ∷ [])
-    ∷ (0 ∷ 0 ∷ 6 ∷ [])
-    ∷ (0 ∷ 0 ∷ 6 ∷ [])
-    ∷ (0 ∷ 0 ∷ 6 ∷ [])
-    ∷ (0 ∷ 0 ∷ 6 ∷ [])
-    ∷ (5 ∷ 0 ∷ 1 ∷ [])
-    ∷ (0 ∷ 2 ∷ 3 ∷ [])
-    ∷ (0 ∷ 2 ∷ 6 ∷ [])
-    ∷ (0 ∷ 4 ∷ 6 ∷ [])
-    ∷ (0 ∷ 5 ∷ 4 ∷ [])
-    ∷ (0 ∷ 6 ∷ 6 ∷ [])
-    ∷ (0 ∷ 0 ∷ 6 ∷ [])
-    ∷ (0 ∷ 0 ∷ 6 ∷ [])
-    ∷ (0 ∷ 0 ∷ 0 ∷ [])
+    (3 + 8 * 4 + 64 * 6)
+    ∷ (5 + 8 * 3 + 64 * 4)
+    ∷ (0 + 8 * 0 + 64 * 6)
+    ∷ (0 + 8 * 0 + 64 * 6)
+    ∷ (0 + 8 * 0 + 64 * 6)
+    ∷ (0 + 8 * 0 + 64 * 6)
+    ∷ (0 + 8 * 0 + 64 * 6)
+    ∷ (5 + 8 * 0 + 64 * 1)
+    ∷ (0 + 8 * 2 + 64 * 3)
+    ∷ (0 + 8 * 2 + 64 * 6)
+    ∷ (0 + 8 * 4 + 64 * 6)
+    ∷ (0 + 8 * 5 + 64 * 4)
+    ∷ (0 + 8 * 6 + 64 * 6)
+    ∷ (0 + 8 * 0 + 64 * 6)
+    ∷ (0 + 8 * 0 + 64 * 6)
+    ∷ (0 + 8 * 0 + 64 * 0)
     ∷ []
 
 abbrev fieldCode : ℕ → ℕ → ℕ
 fieldCode k place = code (getD (fieldList (kindAt k)) place unused)
 
-abbrev line : ℕ → List ℕ → Bool
-line k fs = eqb (length fs) 3 && every (λ place x. eqb x (fieldCode k place)) 0 fs
+abbrev line : ℕ → ℕ → Bool
+line k x = eqb (x % 8) (fieldCode k 0) && (eqb (x / 8 % 8) (fieldCode k 1) && eqb (x / 64 % 8) (fieldCode k 2))
 
 fields-right : every line 0 fields ≡ true
 unfolding kinds
@@ -137,24 +137,31 @@ unfolding kinds
 kinds-size = refl
 
 -- a field's number in the table, and the field that it is
-module _ (k place : ℕ) (known : k < kindCount) (within : place < 3) where
-  x : ℕ
-  x = getD (getD fields k []) place 0
+digit : ℕ → ℕ → ℕ
+digit k place = getD fields k 0 / 2 ^ (3 * place) % 8
 
-  x-code : x ≡ fieldCode k place
-  unfolding x
-  x-code =
-      let l = at line fields [] fields-right k known in
-      let n : length (getD fields k []) ≡ 3 = eqb-true (length (getD fields k [])) 3 (and-left (eqb (length (getD fields k [])) 3) _ l) in
-      tabled (fieldCode k) (getD fields k []) (and-right (eqb (length (getD fields k [])) 3) _ l) place (omega arith)
+module _ (k : ℕ) (known : k < kindCount) where
+  is-digit : (place : ℕ) → place < 3 → digit k place ≡ fieldCode k place
+  unfolding digit
+  is-digit place within = go place within (at line fields 0 fields-right k known)
+    where
+      x : ℕ
+      x = getD fields k 0
 
-  pub field-lt : getD (getD fields k []) place 0 < 7
-  unfolding x
-  field-lt = rw x-code (code-lt (getD (fieldList (kindAt k)) place unused))
+      go : (place : ℕ) → place < 3 → line k x ≡ true → x / 2 ^ (3 * place) % 8 ≡ fieldCode k place
+      go zero w l = let e : x / 1 ≡ x = omega arith in ap (λ (n : ℕ). n % 8) e ∙ eqb-true _ _ (and-left (eqb (x % 8) (fieldCode k 0)) _ l)
+      go (suc zero) w l = eqb-true _ _ (and-left (eqb (x / 8 % 8) (fieldCode k 1)) _ (and-right (eqb (x % 8) (fieldCode k 0)) _ l))
+      go (suc (suc zero)) w l = eqb-true _ _ (and-right (eqb (x / 8 % 8) (fieldCode k 1)) _ (and-right (eqb (x % 8) (fieldCode k 0)) _ l))
+      go (suc (suc (suc place))) w l = absurd (omega arith)
 
-  pub field-is : coded (getD (getD fields k []) place 0) ≡ getD (fieldList (kindAt k)) place unused
-  unfolding x
-  field-is = ap coded x-code ∙ coded-code (getD (fieldList (kindAt k)) place unused)
+  module _ (place : ℕ) (within : place < 3) where
+    pub field-lt : getD fields k 0 / 2 ^ (3 * place) % 8 < 7
+    unfolding digit
+    field-lt = rw (is-digit place within) (code-lt (getD (fieldList (kindAt k)) place unused))
+
+    pub field-is : coded (getD fields k 0 / 2 ^ (3 * place) % 8) ≡ getD (fieldList (kindAt k)) place unused
+    unfolding digit
+    field-is = ap coded (is-digit place within) ∙ coded-code (getD (fieldList (kindAt k)) place unused)
 
 -- a kind that is known, and one that is not
 pub kind-there : (n : ℕ) → n < kindCount → getElem? kinds n ≡ some (kindAt n)

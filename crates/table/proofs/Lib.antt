@@ -9,7 +9,7 @@ mod Records
 mod Windows
 mod Puts
 mod RowLaws
-mod ReadLaws
+pub mod ReadLaws
 mod StoreLaws
 mod ByteLaws
 mod WriteLaws

@@ -13,12 +13,12 @@ use Rattle.table.specs.declared.Answer.{Answer}
 use Rattle.table.specs.declared.Cursor.{Cursor}
 use Rattle.table.specs.declared.Record.{Record}
 use Rattle.table.specs.declared.Taking.the-variants.{Got, Short}
-use Rattle.table.specs.Answers.{number, Result, good, refused, then, answer, leaves, success, cutShort, badCount, badFilling}
+use Rattle.table.specs.Answers.{number, Result, good, refused, then, answer, leaves, success, numbered, cutShort, badCount, badFilling}
 use Rattle.table.specs.Rows.{Row, Words, rowOf, maxFlows}
-use Rattle.table.specs.Plain.{joined, countFits}
+use Rattle.table.specs.Plain.{joined, countFits, wordsOf}
 use Rattle.table.specs.Bits.{bits, fromBits}
 use Rattle.table.specs.Packed.{takeField, TakenRow, takeRow, takeRows, filling, unpacked, reading, readAnswer, wordsAfter, countWidth}
-use Rattle.table.specs.Private.Codes.{wordsOf, verdict}
+use Rattle.table.specs.Private.Codes.{verdict}
 use Rattle.table.specs.Places.{takeAt, lastPlace}
 use Rattle.table.specs.Private.Laid.{whole}
 use Rattle.table.specs.Private.Steps.{Found, Missing, AllTaken}
@@ -35,7 +35,7 @@ module _ (m f at : ℕ) (bs : List Bool) (below : f < m) where
   more : m - f ≡ suc (m - (f + 1))
   more = omega arith
 
-  pub scan-missing : (n : ℕ) → Missing bs at n → answer (λ ws. m) (takeRows m (m - f) f (drop at bs)) ≡ record { number = n; flow = f; tick = 0; count = 0 }
+  pub scan-missing : (n : ℕ) → Missing bs at n → answer (λ ws. m) (takeRows m (m - f) f (drop at bs)) ≡ numbered n f
   unfolding takeRows
   scan-missing n d = rw (more, d .taken m f, d .is)
 
@@ -52,13 +52,13 @@ module _ (m f at : ℕ) (bs : List Bool) (below : f < m) where
         go x (stopped why) e = absurd (no-zero why e)
 
     pub scan-stop : (n : ℕ) → n ≡ verdict (rowOf m f (wordsOf r)) → (n ≡ 0 → ⊥)
-        → answer (λ ws. m) (takeRows m (m - f) f (drop at bs)) ≡ record { number = n; flow = f; tick = 0; count = 0 }
+        → answer (λ ws. m) (takeRows m (m - f) f (drop at bs)) ≡ numbered n f
     unfolding takeRows
     scan-stop n e h = rw (more, found .taken m f) (go (rowOf m f (wordsOf r)) (row-outcome m f (wordsOf r)) e)
       where
         go : (x : Result Row) → Outcome f x → n ≡ verdict x
             → answer (λ ws. m) (then {B = List Words} (then {B = TakenRow} x λ y. good (record { words = wordsOf r; rest = drop (p .at) bs })) λ t. then (takeRows m (m - (f + 1)) (suc f) (t .rest)) λ ws. good (t .words ∷ ws))
-            ≡ record { number = n; flow = f; tick = 0; count = 0 }
+            ≡ numbered n f
         go x (fine y) e = absurd (h e)
         go x (stopped why) e = rw e
 
@@ -87,7 +87,7 @@ module _ (s : List ℕ) (at w : ℕ) (near : at ≤ lastPlace) (inside : at ≤ 
 
 -- ---- the whole
 
-pub rows-size : (m n f : ℕ) (bs : List Bool) (ws : List Words) → takeRows m n f bs ≡ good ws → length ws ≡ n
+rows-size : (m n f : ℕ) (bs : List Bool) (ws : List Words) → takeRows m n f bs ≡ good ws → length ws ≡ n
 unfolding takeRows
 rows-size m zero f bs ws e = ap length (sym (good-inj (unless-good (filling bs) badFilling 0 (good []) ws e .1)))
 rows-size m (suc n) f bs ws e =
@@ -103,7 +103,7 @@ rows-counted m bs = go (takeRows m m 0 bs) refl
     go (refused why f) e = refl
 
 module _ (s : List ℕ) where
-  pub no-count : takeAt (bits s) 0 countWidth ≡ Short → answer length (unpacked s) ≡ record { number = 12; flow = 0; tick = 0; count = 0 }
+  pub no-count : takeAt (bits s) 0 countWidth ≡ Short → answer length (unpacked s) ≡ numbered 12 0
   unfolding unpacked
   no-count e = rw (too-short (bits s) 0 countWidth (omega arith) (omega arith) (omega arith) e 0)
 
@@ -114,19 +114,15 @@ module _ (s : List ℕ) where
     pub count-there : countWidth ≤ length (bits s)
     count-there = omega (arith, h .within)
 
-    pub no-flows : m < 1 → answer length (unpacked s) ≡ record { number = 11; flow = 0; tick = 0; count = 0 }
+    pub bad-count : countFits m ≡ false → answer length (unpacked s) ≡ numbered 11 0
     unfolding unpacked
-    no-flows l = rw (h .field 0, lt-leb 1 m l)
+    bad-count e = rw (h .field 0, e)
 
-    pub many-flows : 1 ≤ m → maxFlows < m → answer length (unpacked s) ≡ record { number = 11; flow = 0; tick = 0; count = 0 }
+    pub counted : countFits m ≡ true → answer length (unpacked s) ≡ answer (λ ws. m) (takeRows m m 0 (drop countWidth (bits s)))
     unfolding unpacked
-    many-flows g l = rw (h .field 0, le-leb 1 m g, lt-leb m maxFlows l)
-
-    pub counted : 1 ≤ m → m ≤ maxFlows → answer length (unpacked s) ≡ answer (λ ws. m) (takeRows m m 0 (drop countWidth (bits s)))
-    unfolding unpacked
-    counted g l =
+    counted f =
         let e : p .at ≡ countWidth = omega (arith, h .past) in
-        rw (h .field 0, le-leb 1 m g, le-leb m maxFlows l, e) (rows-counted m (drop countWidth (bits s)))
+        rw (h .field 0, f, e) (rows-counted m (drop countWidth (bits s)))
 
 -- What a table that is not refused has.
 pub record Opened (s : List ℕ) (ws : List Words) : Type 0 where
@@ -161,13 +157,13 @@ opened s ws e =
 -- ---- the answer
 
 -- a refusal leaves the words
-pub read-refused : (s old : List ℕ) (n f : ℕ) → answer length (unpacked s) ≡ record { number = n; flow = f; tick = 0; count = 0 }
-    → (record { number = n; flow = f; tick = 0; count = 0 } ≡ readAnswer s (length old)) × (old ≡ wordsAfter s old)
+pub read-refused : (s old : List ℕ) (n f : ℕ) → answer length (unpacked s) ≡ numbered n f
+    → (numbered n f ≡ readAnswer s (length old)) × (old ≡ wordsAfter s old)
 unfolding reading
 read-refused s old n f e = go (unpacked s) refl e
   where
-    go : (r : Result (List Words)) → unpacked s ≡ r → answer length r ≡ record { number = n; flow = f; tick = 0; count = 0 }
-        → (record { number = n; flow = f; tick = 0; count = 0 } ≡ readAnswer s (length old)) × (old ≡ wordsAfter s old)
+    go : (r : Result (List Words)) → unpacked s ≡ r → answer length r ≡ numbered n f
+        → (numbered n f ≡ readAnswer s (length old)) × (old ≡ wordsAfter s old)
     go (good ws) u e = let z : length ws ≡ 0 = ap (λ (a : Answer). a .count) e in absurd (omega (arith, z, opened s ws u .some-flow))
     go (refused why g) u e = rw u (sym e, refl)
 
@@ -194,7 +190,7 @@ whole-taken s m d =
 
 -- too few words
 pub read-full : (s old : List ℕ) (m : ℕ) → Whole s m → length old < 4 * m
-    → (record { number = 10; flow = 0; tick = 0; count = 0 } ≡ readAnswer s (length old)) × (old ≡ wordsAfter s old)
+    → (numbered 10 0 ≡ readAnswer s (length old)) × (old ≡ wordsAfter s old)
 unfolding reading
 read-full s old m d h = rw (d .is, d .size, lt-leb (4 * m) (length old) h) (refl, refl)
 

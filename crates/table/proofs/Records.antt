@@ -11,7 +11,7 @@ use lib.ListN.{length, drop, getElem?, length-append}
 use lib.Seq.{drop-drop}
 use borrow.Author.Tests.{leb-true, ltb-true, ltb-false}
 use Rattle.table.specs.Places.{longestRecord}
-use Rattle.table.specs.Answers.{Refusal, unknownKind, outOfRange, misplaced, number, Result, good, refused, unless, then, answer}
+use Rattle.table.specs.Answers.{Refusal, unknownKind, outOfRange, misplaced, Result, good, refused, unless, then, answer, numbered}
 use Rattle.table.specs.Rows.{Row, width, ranged, placed, Kind, kinds, Words, each, known, fieldsOf, rowOf}
 use Rattle.table.specs.Plain.{four, split, rowsFrom, tableOf}
 use Rattle.table.specs.Packed.{rowBits, rowsBits, kindWidth}
@@ -71,12 +71,12 @@ rows-next m f w ws e = go (rowOf m f w) (row-outcome m f w) e
     go r (stopped why) e = absurd (no-zero why e)
 
 pub rows-stop : (m f n : ℕ) (w : Words) (ws : List Words) → n ≡ verdict (rowOf m f w) → (n ≡ 0 → ⊥)
-    → answer (λ rs. m) (rowsFrom m f (w ∷ ws)) ≡ record { number = n; flow = f; tick = 0; count = 0 }
+    → answer (λ rs. m) (rowsFrom m f (w ∷ ws)) ≡ numbered n f
 unfolding rowsFrom
 rows-stop m f n w ws e h = go (rowOf m f w) (row-outcome m f w) e
   where
     go : (r : Result Row) → Outcome f r → n ≡ verdict r
-        → answer (λ rs. m) (then r λ x. then (rowsFrom m (suc f) ws) λ rs. good (x ∷ rs)) ≡ record { number = n; flow = f; tick = 0; count = 0 }
+        → answer (λ rs. m) (then r λ x. then (rowsFrom m (suc f) ws) λ rs. good (x ∷ rs)) ≡ numbered n f
     go r (fine x) e = absurd (h e)
     go r (stopped why) e = rw e
 
@@ -113,7 +113,7 @@ row-le n h = leb-true _ longestRecord (at short kinds _ all-short n (omega (arit
 -- One row of a survey: row f of m, with the words w.
 module _ (m f : ℕ) (words : List ℕ) (w : Words) (is : w ≡ four (drop (4 * f) words)) (below : f < m) where
   pub survey-stop : (n : ℕ) → n ≡ verdict (rowOf m f w) → (n ≡ 0 → ⊥)
-      → answer (λ rs. m) (rowsFrom m f (split (m - f) (drop (4 * f) words))) ≡ record { number = n; flow = f; tick = 0; count = 0 }
+      → answer (λ rs. m) (rowsFrom m f (split (m - f) (drop (4 * f) words))) ≡ numbered n f
   survey-stop n e h =
       rw (split-next m f words below) (rows-stop m f n (four (drop (4 * f) words)) _ (e ∙ ap (λ (x : Words). verdict (rowOf m f x)) is) h)
 

@@ -175,7 +175,7 @@ unfolding split joined
 split-joined [] = refl
 split-joined (w ∷ ws) = ap (λ (l : List Words). w ∷ l) (split-joined ws)
 
-length-joined : (ws : List Words) → length (joined ws) ≡ 4 * length ws
+pub length-joined : (ws : List Words) → length (joined ws) ≡ 4 * length ws
 unfolding joined
 length-joined [] = refl
 length-joined (w ∷ ws) = omega (arith, length-joined ws)

@@ -12,9 +12,8 @@ use Rattle.table.specs.declared.Cursor.{Cursor}
 use Rattle.table.specs.declared.Record.{Record}
 use Rattle.table.specs.Answers.{good, over, leaves, badFilling}
 use Rattle.table.specs.Rows.{Words, rowOf}
-use Rattle.table.specs.Plain.{joined}
+use Rattle.table.specs.Plain.{joined, wordsOf}
 use Rattle.table.specs.Packed.{TakenRow, takeRow, takeRows, filling, countWidth}
-use Rattle.table.specs.Private.Codes.{wordsOf}
 use Rattle.table.specs.Private.Steps.{Found, Missing, plainWords, AllTaken}
 use Rattle.table.proofs.Tests.{good-inj, not-good, unless-good, then-good}
 

@@ -1,19 +1,18 @@
 -- What a table that is not refused has: its rows, one by one, with their fields in range and in place. Assumes nothing.
-use mathlib.Core.Path.{_≡_, refl, sym, _∙_, ap, subst}
+use mathlib.Core.Path.{_≡_, refl, _∙_, ap, subst}
 use Prim.Native.Nat.{ℕ, zero, suc, _+_, _*_, _≤_, _<_}
-use native.Mathlib.Nat.{mul-suc}
 use native.Mathlib.Omega.{arith}
-use mathlib.Core.Bool.{Bool, true, false, _&&_}
-use mathlib.Core.List.{List, [], _∷_, _++_}
+use mathlib.Core.Bool.{Bool, true, _&&_}
+use mathlib.Core.List.{List, _∷_}
 use mathlib.Core.Option.{Option, none, some}
 use lib.ListN.{length, getD, drop, getElem?}
-use lib.Seq.{drop-drop}
-use lib.Dec.{eqb, leb, ltb}
+use lib.Seq.{drop-drop, getD-drop}
+use lib.Dec.{eqb, leb}
 use borrow.Author.Tests.{leb-true, ltb-true, eqb-true}
-use Rattle.table.specs.Answers.{Result, good, refused, unless, then, outOfRange, misplaced, unknownKind, badCount}
+use Rattle.table.specs.Answers.{good, outOfRange, misplaced, badCount}
 use Rattle.table.specs.Rows.{Row, input, constant, combine, register, faster, slower, later, head, tail, sample, merge, Field}
 use Rattle.table.specs.Rows.{operand, source, copies, period, ticks, value, unused, least, most, ranged, placed, Kind, kinds, Words}
-use Rattle.table.specs.Rows.{each, known, kindOf, fieldsOf, rowOf, maxFlows, maxField, maxCopies, maxValue}
+use Rattle.table.specs.Rows.{each, known, kindOf, fieldsOf, rowOf, maxFlows, maxField, maxCopies}
 use Rattle.table.specs.Plain.{four, split, rowsFrom, countFits, tableOf}
 use Rattle.table.proofs.Lists.{Each, each-entry}
 use Rattle.table.proofs.Tests.{and-left, and-right, good-inj, not-good, unless-good, then-good}
@@ -198,3 +197,9 @@ table-made m words rows e =
       fits = t .fits;
       row-at = λ f l. subst (λ (j : ℕ). Made m j (four (drop (4 * f) words)) (rowAt rows f)) (omega arith) (t .row-at f l);
     }
+
+-- four words that are read one by one
+pub four-read : (l : List ℕ) (i : ℕ) → _≡_ {A = Words} (record { kind = getD l i 0; one = getD l (i + 1) 0; two = getD l (i + 2) 0; three = getD l (i + 3) 0 }) (four (drop i l))
+four-read l i =
+    let e : i ≡ i + 0 = omega arith in
+    rw (getD-drop i l 0 0, getD-drop i l 1 0, getD-drop i l 2 0, getD-drop i l 3 0, ← e)

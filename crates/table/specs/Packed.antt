@@ -6,7 +6,7 @@ use mathlib.Core.Option.{Option, none, some}
 use lib.ListN.{length, take, drop, getElem?}
 use lib.Dec.{leb, ltb, eqb}
 use Rattle.table.specs.declared.Answer.{Answer}
-use Rattle.table.specs.Answers.{Result, good, refused, unless, then, answer, leaves, noRoom, badCount, cutShort, badFilling}
+use Rattle.table.specs.Answers.{Result, good, unless, then, answer, leaves, noRoom, badCount, cutShort, badFilling}
 use Rattle.table.specs.Rows.{Kind, Words, kinds, kindOf, fieldsOf, width}
 use Rattle.table.specs.Plain.{split, joined, countFits, tableOf}
 use Rattle.table.specs.Bits.{toBits, fromBits, bits, bytes}

@@ -1,16 +1,21 @@
 -- The plain form (the paper's word for the unpacked encoding): a count of flows, and four words a row.
 use Prim.Native.Nat.{ℕ, zero, suc, _*_}
 use mathlib.Core.Bool.{Bool, _&&_}
-use mathlib.Core.List.{List, [], _∷_, _++_}
+use mathlib.Core.List.{List, [], _∷_}
 use lib.ListN.{length, getD, drop}
 use lib.Dec.{leb, eqb}
 use Rattle.table.specs.declared.Answer.{Answer}
+use Rattle.table.specs.declared.Record.{Record}
 use Rattle.table.specs.Answers.{Result, good, refused, unless, then, answer, badCount}
 use Rattle.table.specs.Rows.{Row, Words, rowOf, maxFlows}
 
 -- the first four of the words
 abbrev pub four : List ℕ → Words
 four ws = record { kind = getD ws 0 0; one = getD ws 1 0; two = getD ws 2 0; three = getD ws 3 0 }
+
+-- the words that the code holds of a row
+abbrev pub wordsOf : Record → Words
+wordsOf r = record { kind = r .kind; one = r .one; two = r .two; three = r .three }
 
 -- n rows of four words
 unfoldable pub split : ℕ → List ℕ → List Words

@@ -2,9 +2,9 @@
 use super::Cursor;
 use super::Taking;
 ghost use mathlib.Core.Path.{_≡_};
-ghost use Prim.Native.Nat.{_+_, _*_, _<_, _≤_, _^_, _%_};
+ghost use Prim.Native.Nat.{_+_, _*_, _/_, _<_, _≤_, _^_, _%_};
 ghost use lib.ListN.{getD, length};
-ghost use Rattle.table.specs.Bits.{bits, toBits};
+ghost use Rattle.table.specs.Bits.{bits, toBits, byteCount};
 ghost use Rattle.table.specs.Places.{takeAt, lastPlace};
 ghost use Rattle.table.specs.Private.Laid.{window, whole, putAt, Lined};
 
@@ -43,12 +43,28 @@ fn low_bits(x: u64, w: usize) -> u32
     (x & ((1u64 << w) - 1)) as u32
 }
 
+// How many bytes n bits take.
+pub(crate) fn byte_count(n: usize) -> usize
+    requires { ⌜ n < 65536 ⌝ }
+    ensures { λ r. ⌜ r ≡ byteCount n ⌝ }
+{
+    (n + 7) / 8
+}
+
 // A number of bits, filled up to whole bytes.
 pub(crate) fn up(n: usize) -> usize
     requires { ⌜ n < 65536 ⌝ }
     ensures { λ r. ⌜ r ≡ whole n ⌝ }
 {
-    8 * ((n + 7) / 8)
+    8 * byte_count(n)
+}
+
+// Byte k of x, the last byte being 0.
+fn byte_of(x: u64, k: usize) -> u8
+    requires { ⌜ k < 8 ⌝ }
+    ensures { λ r. ⌜ r ≡ x / 2 ^ (8 * k) % 256 ⌝ }
+{
+    ((x >> (8 * k)) % 256) as u8
 }
 
 // The bytes from at / 8 on as one number: the bits before the place at, the w low bits of v, and zero bits up to a whole byte.
@@ -87,7 +103,7 @@ impl Cursor {
         if 32 < w {
             return Taking::Short;
         }
-        if s.len() < (at + w + 7) / 8 {
+        if s.len() < byte_count(at + w) {
             return Taking::Short;
         }
         let past = 40 - at % 8 - w;
@@ -103,10 +119,10 @@ impl Cursor {
         let at = self.at;
         let w = width as usize;
         let x = lined(out, at, w, v);
-        let end = (at + w + 7) / 8;
+        let end = byte_count(at + w);
         let mut i = at / 8;
         while i < end {
-            out[i] = ((x >> (8 * (end - 1 - i))) % 256) as u8;
+            out[i] = byte_of(x, end - 1 - i);
             i += 1;
         }
         Cursor { at: at + w }

@@ -1,8 +1,10 @@
 // A plan's table, in plain form and in packed form.
 ghost use mathlib.Core.Path.{_≡_};
-ghost use lib.ListN.{getD, length};
+ghost use Prim.Native.Nat.{_*_};
+ghost use lib.ListN.{drop, getD, length};
 ghost use Rattle.table.specs.Answers.{numbered, parts, success};
-ghost use Rattle.table.specs.Plain.{plainAnswer};
+ghost use Rattle.table.specs.Plain.{four, wordsOf, plainAnswer};
+ghost use Rattle.table.specs.Private.Codes.{told};
 ghost use Rattle.table.specs.Packed.{readAnswer, wordsAfter, writeAnswer, bytesAfter};
 
 mod rows; // rows.rt: the fields of a row, and its tests
@@ -77,7 +79,7 @@ pub struct Record {
     pub three: u32,
 }
 
-// What the test of a table in plain form finds: how many bits it takes in packed form, or a refusal and the row that it names.
+// What the test of a table in plain form finds: how many bytes it takes in packed form, or a refusal and the row that it names.
 pub enum Survey {
     Fits(usize),
     Refused(u32, u32),
@@ -105,15 +107,34 @@ pub fn word_at(words: &[u32], i: usize) -> u32
     if i < words.len() { words[i] } else { 0 }
 }
 
-// The test of a table in plain form: the count of flows, or the first refusal.
-pub fn examine(count: u32, words: &[u32]) -> Answer
-    ensures { λ r. ⌜ r ≡ plainAnswer count (now (words .entry)) ⌝ }
+// The words of a row, 0 past the end.
+pub fn record_at(words: &[u32], row: u32) -> Record
+    ensures { λ r. ⌜ wordsOf r ≡ four (drop (4 * row) (now (words .entry))) ⌝ }
 {
-    let found = plain::survey(count, words);
+    let i = 4 * (row as usize);
+    Record {
+        kind: word_at(words, i),
+        one: word_at(words, i + 1),
+        two: word_at(words, i + 2),
+        three: word_at(words, i + 3),
+    }
+}
+
+// The answer that a survey of a table of count flows comes to.
+fn told(count: u32, found: Survey) -> Answer
+    ensures { λ r. ⌜ r ≡ told count found ⌝ }
+{
     match found {
         Survey::Fits(_) => Answer::success(count),
         Survey::Refused(number, flow) => Answer::refusal(number, flow),
     }
+}
+
+// The test of a table in plain form: the count of flows, or the first refusal.
+pub fn examine(count: u32, words: &[u32]) -> Answer
+    ensures { λ r. ⌜ r ≡ plainAnswer count (now (words .entry)) ⌝ }
+{
+    told(count, plain::survey(count, words))
 }
 
 // Reads a packed table into plain form: the count of flows, and four words a flow from the first word on.
@@ -148,17 +169,12 @@ pub fn write(count: u32, words: &[u32], packed: &mut [u8]) -> Answer
     ensures stored { λ r. ⌜ now (packed .exit) ≡ bytesAfter count (now (words .entry)) (now (packed .entry)) ⌝ }
 {
     let found = plain::survey(count, words);
-    match found {
-        Survey::Refused(number, flow) => {
-            return Answer::refusal(number, flow);
-        }
-        Survey::Fits(bits) => {
-            let bytes = (bits + 7) / 8;
-            if packed.len() < bytes {
-                return Answer::refusal(10, 0);
-            }
-            pack::put_table(count, words, packed);
-            return Answer::success(bytes as u32);
-        }
+    let Survey::Fits(bytes) = found else {
+        return told(count, found);
+    };
+    if packed.len() < bytes {
+        return Answer::refusal(10, 0);
     }
+    pack::put_table(count, words, packed);
+    Answer::success(bytes as u32)
 }

@@ -1,19 +1,18 @@
 // Writing the packed form: the rows of a table that is not refused, one field after another.
 use super::Cursor;
 use super::Record;
-use super::plain::record_at;
+use super::record_at;
 use super::rows::width_of;
 ghost use mathlib.Core.Path.{_≡_};
 ghost use mathlib.Core.List.{_++_};
 ghost use Prim.Native.Nat.{_+_, _*_, _<_, _≤_};
 ghost use lib.ListN.{length};
-ghost use Rattle.table.specs.Answers.{answer, success};
-ghost use Rattle.table.specs.Plain.{split, rowsFrom};
+ghost use Rattle.table.specs.Plain.{split, wordsOf};
 ghost use Rattle.table.specs.Bits.{bits, toBits};
 ghost use Rattle.table.specs.Packed.{rowBits, rowsBits, countWidth};
 ghost use Rattle.table.specs.Places.{lastPlace, longestRecord};
 ghost use Rattle.table.specs.Private.Laid.{putAt};
-ghost use Rattle.table.specs.Private.Codes.{rowLength, wordsOf, kindCount};
+ghost use Rattle.table.specs.Private.Codes.{rowLength, kindCount, Ready};
 
 impl Cursor {
     // Puts a row of a known kind, and hands back the place after it.
@@ -30,17 +29,14 @@ impl Cursor {
 
 // The packed table of rows that are not refused, from the start of out.
 pub(crate) fn put_table(count: u32, words: &[u32], out: &mut [u8])
-    requires { ⌜ (count ≤ 64) × (length (now words) ≡ 4 * count) × (answer (λ rs. count) (rowsFrom count 0 (split count (now words))) ≡ success count) × (countWidth + length (rowsBits (split count (now words))) ≤ 8 * length (now out)) ⌝ }
+    requires { ⌜ Ready count (now words) × (countWidth + length (rowsBits (split count (now words))) ≤ 8 * length (now out)) ⌝ }
     ensures { λ u. ⌜ bits (now (out .exit)) ≡ putAt (bits (now (out .entry))) 0 (toBits countWidth count ++ rowsBits (split count (now (words .entry)))) ⌝ }
 {
-    let first = Cursor::new().put(out, 8, count);
-    let mut at = first.at;
+    let mut cursor = Cursor::new().put(out, 8, count);
     let mut row: u32 = 0;
     while row < count {
-        let r = record_at(words, 4 * (row as usize));
-        let cursor = Cursor { at };
-        let next = cursor.put_row(out, r);
-        at = next.at;
+        let r = record_at(words, row);
+        cursor = cursor.put_row(out, r);
         row += 1;
     }
 }

@@ -1,27 +1,15 @@
 // The test of a table in plain form.
-use super::Record;
 use super::Survey;
+use super::bits::byte_count;
+use super::record_at;
 use super::rows::judge;
 use super::rows::width_of;
 ghost use mathlib.Core.Path.{_≡_};
 ghost use Prim.Native.Nat.{_+_, _*_, _<_, _≤_};
-ghost use lib.ListN.{length, drop};
+ghost use lib.ListN.{length};
 ghost use Rattle.table.specs.Answers.{answer};
-ghost use Rattle.table.specs.Plain.{four, split, rowsFrom, tableOf};
-ghost use Rattle.table.specs.Private.Codes.{wordsOf, rowLength, told, Sized, kindCount};
-
-// The row whose words start at i.
-pub(crate) fn record_at(words: &[u32], i: usize) -> Record
-    requires { ⌜ (i < 65536) × (i + 4 ≤ length (now words)) ⌝ }
-    ensures { λ r. ⌜ wordsOf r ≡ four (drop i (now (words .entry))) ⌝ }
-{
-    Record {
-        kind: words[i],
-        one: words[i + 1],
-        two: words[i + 2],
-        three: words[i + 3],
-    }
-}
+ghost use Rattle.table.specs.Plain.{split, rowsFrom, countFits, tableOf};
+ghost use Rattle.table.specs.Private.Codes.{rowLength, told, Sized, kindCount};
 
 // The bits of a row of a known kind in packed form.
 fn row_length(kind: u32) -> usize
@@ -39,7 +27,7 @@ fn survey_rows(count: u32, words: &[u32]) -> Survey
     let mut bits: usize = 8;
     let mut row: u32 = 0;
     while row < count {
-        let r = record_at(words, 4 * (row as usize));
+        let r = record_at(words, row);
         let n = judge(r, row, count);
         if n != 0 {
             return Survey::Refused(n, row);
@@ -47,17 +35,24 @@ fn survey_rows(count: u32, words: &[u32]) -> Survey
         bits += row_length(r.kind);
         row += 1;
     }
-    Survey::Fits(bits)
+    Survey::Fits(byte_count(bits))
 }
 
-// A table in plain form: its bits in packed form, or why it is refused.
+// Whether a table may have count flows.
+pub(crate) fn count_fits(count: u32) -> bool
+    ensures { λ r. ⌜ r ≡ countFits count ⌝ }
+{
+    if count < 1 {
+        return false;
+    }
+    count <= 64
+}
+
+// A table in plain form: its bytes in packed form, or why it is refused.
 pub(crate) fn survey(count: u32, words: &[u32]) -> Survey
     ensures { λ r. ⌜ (answer (λ rs. count) (tableOf count (now (words .entry))) ≡ told count r) × Sized (split count (now (words .entry))) r ⌝ }
 {
-    if count < 1 {
-        return Survey::Refused(11, 0);
-    }
-    if 64 < count {
+    if !count_fits(count) {
         return Survey::Refused(11, 0);
     }
     if words.len() != 4 * (count as usize) {

@@ -3,8 +3,9 @@ use super::Record;
 ghost use mathlib.Core.Path.{_≡_};
 ghost use Prim.Native.Nat.{_<_, _≤_};
 ghost use lib.ListN.{getD};
-ghost use Rattle.table.specs.Rows.{Field, unused, width, ranged, placed, each, rowOf};
-ghost use Rattle.table.specs.Private.Codes.{coded, fieldList, kindAt, wordsOf, verdict, kindCount};
+ghost use Rattle.table.specs.Rows.{unused, width, ranged, placed, each, rowOf};
+ghost use Rattle.table.specs.Plain.{wordsOf};
+ghost use Rattle.table.specs.Private.Codes.{coded, fieldList, kindAt, verdict, kindCount};
 
 const OPERAND: u32 = 0;
 
@@ -29,24 +30,24 @@ const WIDTH: [u32; 7] = [6, 6, 6, 12, 12, 32, 0];
 
 pub(crate) const KINDS: u32 = 16;
 
-// By kind: its three fields.
-const FIELDS: [[u32; 3]; 16] = [
-    [PERIOD, TICKS, UNUSED], // input
-    [VALUE, PERIOD, TICKS], // constant
-    [OPERAND, OPERAND, UNUSED], // add
-    [OPERAND, OPERAND, UNUSED], // subtract
-    [OPERAND, OPERAND, UNUSED], // less
-    [OPERAND, OPERAND, UNUSED], // equal
-    [OPERAND, OPERAND, UNUSED], // larger
-    [VALUE, OPERAND, SOURCE], // register
-    [OPERAND, COPIES, PERIOD], // faster
-    [OPERAND, COPIES, UNUSED], // slower
-    [OPERAND, TICKS, UNUSED], // later
-    [OPERAND, VALUE, TICKS], // head
-    [OPERAND, UNUSED, UNUSED], // tail
-    [OPERAND, OPERAND, UNUSED], // when
-    [OPERAND, OPERAND, UNUSED], // when-not
-    [OPERAND, OPERAND, OPERAND], // merge
+// By kind: its three fields as digits to base 8, the first one lowest.
+const FIELDS: [u32; 16] = [
+    PERIOD + 8 * TICKS + 64 * UNUSED, // input
+    VALUE + 8 * PERIOD + 64 * TICKS, // constant
+    OPERAND + 8 * OPERAND + 64 * UNUSED, // add
+    OPERAND + 8 * OPERAND + 64 * UNUSED, // subtract
+    OPERAND + 8 * OPERAND + 64 * UNUSED, // less
+    OPERAND + 8 * OPERAND + 64 * UNUSED, // equal
+    OPERAND + 8 * OPERAND + 64 * UNUSED, // larger
+    VALUE + 8 * OPERAND + 64 * SOURCE, // register
+    OPERAND + 8 * COPIES + 64 * PERIOD, // faster
+    OPERAND + 8 * COPIES + 64 * UNUSED, // slower
+    OPERAND + 8 * TICKS + 64 * UNUSED, // later
+    OPERAND + 8 * VALUE + 64 * TICKS, // head
+    OPERAND + 8 * UNUSED + 64 * UNUSED, // tail
+    OPERAND + 8 * OPERAND + 64 * UNUSED, // when
+    OPERAND + 8 * OPERAND + 64 * UNUSED, // when-not
+    OPERAND + 8 * OPERAND + 64 * OPERAND, // merge
 ];
 
 // The field of a known kind at a place.
@@ -54,8 +55,7 @@ pub(crate) fn field_of(kind: u32, place: usize) -> u32
     requires { ⌜ (kind < kindCount) × (place < 3) ⌝ }
     ensures { λ r. ⌜ (r < 7) × (coded r ≡ getD (fieldList (kindAt kind)) place unused) ⌝ }
 {
-    let fields = FIELDS[kind as usize];
-    fields[place]
+    (FIELDS[kind as usize] >> (3 * place)) % 8
 }
 
 // The bits of a field of a known kind.

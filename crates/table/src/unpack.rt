@@ -5,8 +5,10 @@ use super::Record;
 use super::Scan;
 use super::Step;
 use super::Taking;
+use super::bits::byte_count;
 use super::bits::up;
 use super::held::first_field;
+use super::plain::count_fits;
 use super::rows::KINDS;
 use super::rows::judge;
 use super::rows::width_of;
@@ -59,10 +61,9 @@ fn scan_rows(s: &[u8], count: u32) -> Scan
     requires { ⌜ (count ≤ 64) × (8 ≤ length (bits (now s))) ⌝ }
     ensures { λ r. ⌜ Scanned (bits (now (s .entry))) count r ⌝ }
 {
-    let mut at: usize = 8;
+    let mut cursor = Cursor { at: 8 };
     let mut row: u32 = 0;
     while row < count {
-        let cursor = Cursor { at };
         let step = cursor.row(s);
         match step {
             Step::Row(r, next) => {
@@ -70,7 +71,7 @@ fn scan_rows(s: &[u8], count: u32) -> Scan
                 if n != 0 {
                     return Scan::Stopped(n, row);
                 }
-                at = next.at;
+                cursor = next;
                 row += 1;
             }
             Step::Refused(n) => {
@@ -78,7 +79,7 @@ fn scan_rows(s: &[u8], count: u32) -> Scan
             }
         }
     }
-    Scan::End(Cursor { at })
+    Scan::End(cursor)
 }
 
 // Whether zero bits up to a whole byte, and nothing else, follow the place at.
@@ -86,7 +87,7 @@ fn ends(s: &[u8], at: usize) -> bool
     requires { ⌜ (at ≤ lastPlace) × (at ≤ length (bits (now s))) ⌝ }
     ensures { λ r. ⌜ r ≡ filling (drop at (bits (now (s .entry)))) ⌝ }
 {
-    if (at + 7) / 8 < s.len() {
+    if byte_count(at) < s.len() {
         return false;
     }
     let cursor = Cursor { at };
@@ -103,10 +104,7 @@ pub(crate) fn inspect(s: &[u8]) -> Reading
     let Taking::Got(count, _) = first_field(s, 8) else {
         return Reading::Refused { number: 12, row: 0 };
     };
-    if count < 1 {
-        return Reading::Refused { number: 11, row: 0 };
-    }
-    if 64 < count {
+    if !count_fits(count) {
         return Reading::Refused { number: 11, row: 0 };
     }
     let scan = scan_rows(s, count);
@@ -123,11 +121,12 @@ pub(crate) fn inspect(s: &[u8]) -> Reading
     }
 }
 
-// A row's four words at i.
-fn store_row(words: &mut [u32], i: usize, r: Record)
-    requires { ⌜ (i < 65536) × (i + 4 ≤ length (now words)) ⌝ }
-    ensures { λ u. ⌜ now (words .exit) ≡ take i (now (words .entry)) ++ (plainWords r ++ drop (i + 4) (now (words .entry))) ⌝ }
+// The four words of a row at its place.
+fn store_row(words: &mut [u32], row: u32, r: Record)
+    requires { ⌜ 4 * row + 4 ≤ length (now words) ⌝ }
+    ensures { λ u. ⌜ now (words .exit) ≡ take (4 * row) (now (words .entry)) ++ (plainWords r ++ drop (4 * row + 4) (now (words .entry))) ⌝ }
 {
+    let i = 4 * (row as usize);
     words[i] = r.kind;
     words[i + 1] = r.one;
     words[i + 2] = r.two;
@@ -139,16 +138,14 @@ pub(crate) fn store_rows(s: &[u8], count: u32, words: &mut [u32])
     requires { ⌜ (count ≤ 64) × (4 * count ≤ length (now words)) × AllTaken (bits (now s)) count ⌝ }
     ensures { λ u. ⌜ now (words .exit) ≡ leaves joined (takeRows count count 0 (drop 8 (bits (now (s .entry))))) (now (words .entry)) ⌝ }
 {
-    let mut at: usize = 8;
+    let mut cursor = Cursor { at: 8 };
     let mut row: u32 = 0;
     while row < count {
-        let cursor = Cursor { at };
-        let step = cursor.row(s);
-        let Step::Row(r, next) = step else {
+        let Step::Row(r, next) = cursor.row(s) else {
             return;
         };
-        store_row(words, 4 * (row as usize), r);
-        at = next.at;
+        store_row(words, row, r);
+        cursor = next;
         row += 1;
     }
 }

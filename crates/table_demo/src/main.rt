@@ -2,7 +2,6 @@
 // number, flow, tick, count, a colon, and the cells. Buffers hold 7 everywhere before a call.
 use libc::STDOUT_FILENO;
 use table::Answer;
-use table::Reading;
 
 fn wide(x: u32) -> u64 {
     x as u64

@@ -8,9 +8,7 @@ use denote.Ref.{now}
 use borrow.Author.Needs.{needs}
 use Rattle.table.specs.Rows.{Row}
 use Rattle.table.proofs.Tables.{table-made}
-use Rattle.table.specs.Plain.{tableOf}
-use Rattle.checker.specs.Private.Kept.{rowWords}
-use Rattle.table.specs.Plain.{rowsIn}
+use Rattle.table.specs.Plain.{tableOf, rowsIn, wordsOf}
 use Rattle.checker.proofs.Folds.{Going, start, next, stop, finish}
 use Rattle.checker.proofs.assign.Statement.{statement}
 use Rattle.checker.proofs.assign.Tie as tie
@@ -24,8 +22,8 @@ abbrev μ-loop : tie.MeasureT-loop
 loop-holds : tie.Need-loop-holds Inv-loop μ-loop
 loop-holds c = (search needs, refl, start _ _)
 
-row-at-requires : tie.Need-row-at-requires Inv-loop μ-loop
-row-at-requires c κs = search needs
+record-at-requires : tie.Need-record-at-requires Inv-loop μ-loop
+record-at-requires c κs = search needs
 
 rule-requires : tie.Need-rule-requires Inv-loop μ-loop
 rule-requires c κs = search needs
@@ -50,9 +48,9 @@ returns c = let a = c .before .before .before .before .before .before .before .b
     let l = c .before .before .before .before .before .before .before .before .loop in
     let rows : List Row = rowsIn (tableOf (a .n) (now (a .words))) in
     let t = table-made (a .n) (now (a .words)) rows (c .before .before .before .before .before .before .before .before .before .before .before .pre .2) in
-    let r = c .before .before .before .before .before .before .row-at in
+    let r = c .before .before .before .before .before .before .record-at in
     let g = c .before .before .verdict2 .given in
-    let x = stop (a .n) (now (a .words)) rows (now (a .kept)) (l .f) (l .kept) t (l .inv .2) (c .before .before .before .before .before .before .before .loop-test .taken) (rowWords (r .result)) (r .ensures) (g .0 .0) (sym (g .1) ∙ c .before .before .before .before .rule .ensures) in
+    let x = stop (a .n) (now (a .words)) rows (now (a .kept)) (l .f) (l .kept) t (l .inv .2) (c .before .before .before .before .before .before .before .loop-test .taken) (wordsOf (r .result)) (r .ensures) (g .0 .0) (sym (g .1) ∙ c .before .before .before .before .rule .ensures) in
     (c .refusal .ensures ∙ x .0, λ ks e. absurd (x .1 ks e))
 
 add-f : tie.Need-add-f Inv-loop μ-loop
@@ -66,11 +64,11 @@ loop-again c = let a = c .before .before .before .before .before .before .before
     let l = c .before .before .before .before .before .before .before .before .before .before .before .loop in
     let rows : List Row = rowsIn (tableOf (a .n) (now (a .words))) in
     let t = table-made (a .n) (now (a .words)) rows (c .before .before .before .before .before .before .before .before .before .before .before .before .before .before .pre .2) in
-    let r = c .before .before .before .before .before .before .before .before .before .row-at in
+    let r = c .before .before .before .before .before .before .before .before .before .record-at in
     let g = c .before .before .before .before .before .verdict .given in (
       search needs,
       c .before .before .store .kept .0 ∙ l .inv .1,
-      next (a .n) (now (a .words)) rows (now (a .kept)) (l .f) (l .kept) t (l .inv .2) (c .before .before .before .before .before .before .before .before .before .before .loop-test .taken) (rowWords (r .result)) (r .ensures) (g .0 .0) (c .before .before .store .last .0) (sym (g .1) ∙ c .before .before .before .before .before .before .before .rule .ensures) (search needs) (c .before .before .store .ensures),
+      next (a .n) (now (a .words)) rows (now (a .kept)) (l .f) (l .kept) t (l .inv .2) (c .before .before .before .before .before .before .before .before .before .before .loop-test .taken) (wordsOf (r .result)) (r .ensures) (g .0 .0) (c .before .before .store .last .0) (sym (g .1) ∙ c .before .before .before .before .before .before .before .rule .ensures) (search needs) (c .before .before .store .ensures),
     )
 
 success-requires : tie.Need-success-requires Inv-loop μ-loop
@@ -96,7 +94,7 @@ assign-spec =
     Inv-loop
     μ-loop
     loop-holds
-    row-at-requires
+    record-at-requires
     rule-requires
     enum-known-verdict
     store-requires

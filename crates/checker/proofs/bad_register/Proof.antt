@@ -10,9 +10,8 @@ use borrow.Author.Tests.{not-true, not-false}
 use borrow.Author.Needs.{needs}
 use Rattle.table.proofs.Tables.{table-made, rowAt}
 use Rattle.table.specs.Rows.{Row, badRegister, onRegister}
-use Rattle.table.specs.Plain.{tableOf, four}
+use Rattle.table.specs.Plain.{tableOf, four, rowsIn}
 use Rattle.checker.specs.Private.Kept.{fitsIn}
-use Rattle.table.specs.Plain.{rowsIn}
 use Rattle.checker.proofs.ByKind.{row-register}
 use Rattle.checker.proofs.Folds.{bad-next, bad-here, bad-none}
 use Rattle.checker.proofs.bad_register.Statement.{statement}

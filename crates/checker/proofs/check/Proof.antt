@@ -9,8 +9,7 @@ use Rattle.checker.specs.Rules.{clocksOf}
 use Rattle.table.proofs.Tables.{table-made}
 use Rattle.table.specs.Answers.{good, answer, noRoom}
 use Rattle.table.specs.Rows.{Row}
-use Rattle.table.specs.Plain.{tableOf}
-use Rattle.table.specs.Plain.{rowsIn}
+use Rattle.table.specs.Plain.{tableOf, rowsIn}
 use Rattle.table.proofs.AnswerLaws.{answer-zero, answer-other}
 use Rattle.checker.proofs.Checks.{rows-good, check-table, check-room, check-clocks, whole-refused, whole-copied}
 use Rattle.checker.proofs.check.Statement.{statement}

@@ -11,9 +11,8 @@ use Rattle.table.proofs.Tables.{table-made}
 use Rattle.table.proofs.Tests.{not-good}
 use Rattle.table.specs.Answers.{Result, refused, answer}
 use Rattle.table.specs.Rows.{Row}
-use Rattle.table.specs.Plain.{tableOf}
+use Rattle.table.specs.Plain.{tableOf, rowsIn}
 use Rattle.checker.specs.Private.Kept.{place}
-use Rattle.table.specs.Plain.{rowsIn}
 use Rattle.table.proofs.AnswerLaws.{answer-zero, answer-other}
 use Rattle.checker.proofs.Checks.{clocks-refused, sourced-by}
 use Rattle.checker.proofs.judge.Statement.{statement}

@@ -6,14 +6,13 @@ use mathlib.Core.Bool.{Bool, true, false, cond, _&&_}
 use mathlib.Core.List.{List, [], _∷_, map}
 use lib.ListN.{length, getD, drop}
 use lib.Dec.{eqb, leb}
-use Rattle.table.specs.Answers.{Result, good, refused, over}
+use Rattle.table.specs.Answers.{Result, good, over}
 use Rattle.table.specs.Bits.{bit}
-use Rattle.table.specs.Rows.{Row, Words, maxFlows}
+use Rattle.table.specs.Rows.{Words, maxFlows}
 use Rattle.checker.specs.Answers.{conditionWord, clocksWords}
 use Rattle.checker.specs.Clocks.{Clock, Condition}
 use Rattle.checker.specs.Rules.{withinLimits, clockAt, maxDerived, maxConditions}
 use Rattle.checker.specs.declared.Clock.{Clock as Kept}
-use Rattle.checker.specs.declared.Row.{Row as CodeRow}
 use Rattle.checker.specs.declared.Found.{Found}
 use Rattle.checker.specs.declared.Found.the-variants.{At, Nothing}
 use Rattle.checker.specs.declared.Verdict.{Verdict}
@@ -141,21 +140,18 @@ fitsIn ws b a = same (seven (drop (7 * a) ws)) (seven (drop (7 * b) ws))
 abbrev pub sourceIn : List ℕ → Words → Bool
 sourceIn ws w = cond (eqb (w .kind) 7) (fitsIn ws (w .two) (w .three)) true
 
-abbrev pub rowWords : CodeRow → Words
-rowWords r = record { kind = r .kind; one = r .one; two = r .two; three = r .three }
-
 abbrev pub place : Found → Option ℕ
 place (At f) = some f
 place Nothing = none
 
--- conditions on flows of a table
-abbrev pub Named : List Condition → Type 0
-Named [] = Unit {0}
-Named (c ∷ cs) = (c .flow < maxFlows) × Named cs
+-- every condition is on a flow below f
+abbrev pub Below : ℕ → List Condition → Type 0
+Below f [] = Unit {0}
+Below f (c ∷ cs) = (c .flow < f) × Below f cs
 
--- a clock within the limits
+-- a clock within the limits, with conditions on flows of a table
 abbrev pub Within : Clock → Type 0
-Within k = (withinLimits k ≡ true) × Named (k .conditions)
+Within k = (withinLimits k ≡ true) × Below maxFlows (k .conditions)
 
 abbrev pub Limited : List Clock → Type 0
 Limited ks = (f : ℕ) → f < length ks → Within (clockAt ks f)

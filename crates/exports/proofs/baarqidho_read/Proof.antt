@@ -1,7 +1,7 @@
 -- `exports::baarqidho_read` meets its contract. Assumes nothing.
 use mathlib.Core.Path.{_∙_}
 use borrow.Author.Needs.{needs}
-use Rattle.exports.proofs.GivenLaws.{given}
+use Rattle.exports.proofs.GivenLaws.{given-as}
 use Rattle.exports.proofs.baarqidho_read.Statement.{statement}
 use Rattle.exports.proofs.baarqidho_read.Tie as tie
 
@@ -11,13 +11,16 @@ read-requires c κs = search needs
 parts-requires : tie.Need-parts-requires
 parts-requires c κs = search needs
 
+give-requires : tie.Need-give-requires
+give-requires c κs = search needs
+
 same-length : tie.Need-same-length
 same-length c = search needs
 
 returns : tie.Need-returns
 returns c =
-    let s = c .before .before .before .read in
-    (given _ (c .parts .result) (c .parts .ensures ∙ s .ensures .0), s .ensures .1)
+    let s = c .before .before .before .before .before .before .before .read in
+    (given-as (c .before .before .before .before .parts .ensures ∙ s .ensures .0) (c .give .ensures), s .ensures .1)
 
 pub baarqidho-read-spec : {M : Type 1} → statement M
-baarqidho-read-spec = tie.close (tie.spec read-requires parts-requires same-length returns)
+baarqidho-read-spec = tie.close (tie.spec read-requires parts-requires give-requires same-length returns)

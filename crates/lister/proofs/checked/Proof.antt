@@ -10,7 +10,8 @@ use borrow.Author.Needs.{needs}
 use Rattle.table.specs.Answers.{refused, answer, leaves, parts, refusal}
 use Rattle.lister.specs.Listing.{checked}
 use Rattle.checker.specs.Answers.{clocksWords}
-use Rattle.lister.proofs.Joined.{unpacked-size, reading-whole, read-table, read-refused, checked-refused, checked-words}
+use Rattle.table.proofs.ReadLaws.{opened}
+use Rattle.lister.proofs.Joined.{reading-whole, read-table, read-refused, checked-refused, checked-words}
 use Rattle.lister.proofs.checked.Statement.{statement}
 use Rattle.lister.proofs.checked.Tie as tie
 
@@ -50,13 +51,13 @@ array-share-prefix-words : tie.Need-array-share-prefix-words
 array-share-prefix-words c = let r = c .before .before .before .before .read in
     let g = c .before .reading .given in
     let x = read-table (now (c .before .before .before .before .before .before .before .before .args .packed)) (g .0 .0) (ap parts (sym (g .1)) ∙ r .ensures .0) in
-    omega (arith, r .kept .1 .0, x .2, unpacked-size (now (c .before .before .before .before .before .before .before .before .args .packed)) (x .0) (x .1) .1)
+    omega (arith, r .kept .1 .0, x .2, opened (now (c .before .before .before .before .before .before .before .before .args .packed)) (x .0) (x .1) .few)
 
 slice-aggregate-check : tie.Need-slice-aggregate-check
 slice-aggregate-check c = let r = c .before .before .before .before .before .read in
     let g = c .before .before .reading .given in
     let x = read-table (now (c .before .before .before .before .before .before .before .before .before .args .packed)) (g .0 .0) (ap parts (sym (g .1)) ∙ r .ensures .0) in
-    let h : 4 * g .0 .0 ≤ length (r .last .1 .0) = omega (arith, r .kept .1 .0, x .2, unpacked-size (now (c .before .before .before .before .before .before .before .before .before .args .packed)) (x .0) (x .1) .1) in
+    let h : 4 * g .0 .0 ≤ length (r .last .1 .0) = omega (arith, r .kept .1 .0, x .2, opened (now (c .before .before .before .before .before .before .before .before .before .args .packed)) (x .0) (x .1) .few) in
     sym (length-take-le (4 * g .0 .0) (r .last .1 .0) h)
 
 check-requires : tie.Need-check-requires

@@ -16,49 +16,41 @@ survey-requires c κs = search needs
 enum-known-found : tie.Need-enum-known-found
 enum-known-found c = search needs
 
-refusal-requires : tie.Need-refusal-requires
-refusal-requires c κs = search needs
+enum-told : tie.Need-enum-told
+enum-told c = search needs
+
+told-requires : tie.Need-told-requires
+told-requires c κs = search needs
 
 returns : tie.Need-returns
 returns c =
-    let a = c .before .before .before .before .before .before .before .args in
-    let g = c .before .before .found .given in
-    let d = write-refused (a .count) (g .0 .0) (g .0 .1 .0) (now (a .words)) (now (a .packed)) (c .before .before .before .before .survey .ensures .0 ∙ ap (told (a .count)) (g .1)) in
-    (c .refusal .ensures ∙ d .0, d .1)
-
-enum-known-found-2 : tie.Need-enum-known-found-2
-enum-known-found-2 c = search needs
-
-add-bytes : tie.Need-add-bytes
-add-bytes c =
     let a = c .before .before .before .before .before .before .args in
-    let g = c .before .found2 .given in
-    let z = subst (Sized (split (a .count) (now (a .words)))) (g .1) (c .before .before .before .survey .ensures .1) in
-    omega (arith, z .1)
+    let g = c .before .enum-told .given in
+    let d = write-refused (a .count) (g .0 .0) (g .0 .1 .0) (now (a .words)) (now (a .packed)) (c .before .before .before .survey .ensures .0 ∙ ap (told (a .count)) (g .1)) in
+    (c .told .ensures ∙ ap (told (a .count)) (g .1) ∙ d .0, d .1)
 
-refusal-requires-2 : tie.Need-refusal-requires-2
-refusal-requires-2 c κs = search needs
+refusal-requires : tie.Need-refusal-requires
+refusal-requires c κs = search needs
 
 returns-2 : tie.Need-returns-2
 returns-2 c =
     let a = c .before .before .before .before .before .before .before .before .args in
-    let g = c .before .before .before .found2 .given in
+    let g = c .before .before .before .found .given in
     let z = subst (Sized (split (a .count) (now (a .words)))) (g .1) (c .before .before .before .before .before .survey .ensures .1) in
     let d = write-full (a .count) (g .0 .0) (now (a .words)) (now (a .packed)) (c .before .before .before .before .before .survey .ensures .0 ∙ ap (told (a .count)) (g .1)) (z .0) (c .before .if1 .taken) in
-    (c .refusal2 .ensures ∙ d .0, d .1)
+    (c .refusal .ensures ∙ d .0, d .1)
 
 put-table-requires : tie.Need-put-table-requires
 put-table-requires c κs =
     let a = c .before .before .before .before .before .before .before .before .args in
-    let g = c .before .before .before .found2 .given in
+    let g = c .before .before .before .found .given in
     let z = subst (Sized (split (a .count) (now (a .words)))) (g .1) (c .before .before .before .before .before .survey .ensures .1) in
-    let d = ready (a .count) (now (a .words)) (c .before .before .before .before .before .survey .ensures .0 ∙ ap (told (a .count)) (g .1)) in
-    (d .few, d .words-size, d .accepted, omega (arith, z .0, c .before .if1 .left))
+    (ready (a .count) (now (a .words)) (c .before .before .before .before .before .survey .ensures .0 ∙ ap (told (a .count)) (g .1)), omega (arith, z .0, c .before .if1 .left))
 
 cast-success : tie.Need-cast-success
 cast-success c =
     let a = c .before .before .before .before .before .before .before .before .before .before .before .args in
-    let g = c .before .before .before .before .before .before .found2 .given in
+    let g = c .before .before .before .before .before .before .found .given in
     let z = subst (Sized (split (a .count) (now (a .words)))) (g .1) (c .before .before .before .before .before .before .before .before .survey .ensures .1) in
     omega (arith, z .1)
 
@@ -71,7 +63,7 @@ same-length c = search needs
 returns-3 : tie.Need-returns-3
 returns-3 c =
     let a = c .before .before .before .before .before .before .before .before .before .before .before .before .args in
-    let g = c .before .before .before .before .before .before .before .found2 .given in
+    let g = c .before .before .before .before .before .before .before .found .given in
     let z = subst (Sized (split (a .count) (now (a .words)))) (g .1) (c .before .before .before .before .before .before .before .before .before .survey .ensures .1) in
     let p = c .before .before .before .put-table in
     let d = write-done (a .count) (g .0 .0) (now (a .words)) (now (a .packed)) (c .before .before .before .before .before .before .before .before .before .survey .ensures .0 ∙ ap (told (a .count)) (g .1)) (z .0)
@@ -84,11 +76,10 @@ write-spec =
     (tie.spec
     survey-requires
     enum-known-found
-    refusal-requires
+    enum-told
+    told-requires
     returns
-    enum-known-found-2
-    add-bytes
-    refusal-requires-2
+    refusal-requires
     returns-2
     put-table-requires
     cast-success

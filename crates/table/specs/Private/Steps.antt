@@ -10,10 +10,10 @@ use Rattle.table.specs.declared.Step.{Step}
 use Rattle.table.specs.declared.Step.the-variants as step
 use Rattle.table.specs.declared.Scan.{Scan}
 use Rattle.table.specs.declared.Scan.the-variants.{End, Stopped}
-use Rattle.table.specs.Answers.{Refusal, number, good, refused, then, answer}
+use Rattle.table.specs.Answers.{Refusal, number, good, refused, then, answer, numbered}
 use Rattle.table.specs.Rows.{Words, rowOf}
 use Rattle.table.specs.Packed.{takeRow, takeRows, countWidth}
-use Rattle.table.specs.Private.Codes.{wordsOf}
+use Rattle.table.specs.Plain.{wordsOf}
 use Rattle.table.specs.Places.{lastPlace, longestRecord}
 
 -- a row in plain form
@@ -44,7 +44,7 @@ pub record Ended (bs : List Bool) (m : ℕ) (p : Cursor) : Type 0 where
 
 abbrev pub Scanned : List Bool → ℕ → Scan → Type 0
 Scanned bs m (End p) = Ended bs m p
-Scanned bs m (Stopped n row) = answer (λ ws. m) (takeRows m m 0 (drop countWidth bs)) ≡ record { number = n; flow = row; tick = 0; count = 0 }
+Scanned bs m (Stopped n row) = answer (λ ws. m) (takeRows m m 0 (drop countWidth bs)) ≡ numbered n row
 
 -- the rows of a table of m flows are not refused
 pub record AllTaken (bs : List Bool) (m : ℕ) : Type 0 where

@@ -1,12 +1,12 @@
 -- `table::Cursor::put` meets its contract. Assumes nothing.
 use mathlib.Core.Path.{_≡_, refl, _∙_}
 use mathlib.Core.List.{_++_}
-use Prim.Native.Nat.{_+_, _-_, _*_, _/_, _%_, _^_, _≤_}
+use Prim.Native.Nat.{_+_, _-_, _*_, _≤_}
 use native.Mathlib.Omega.{arith}
 use lib.ListN.{length, take, drop, length-set}
 use lib.Seq.{drop-set-lt}
 use denote.Ref.{now}
-use Rattle.table.specs.Bits.{bits, toBits}
+use Rattle.table.specs.Bits.{bits, toBits, byteCount}
 use Rattle.table.specs.Private.Laid.{fill, Lined}
 use Rattle.table.proofs.Puts.{stored, put-done, drop-more}
 use borrow.Author.Needs.{needs}
@@ -24,30 +24,24 @@ abbrev μ-loop : tie.MeasureT-loop
 lined-requires : tie.Need-lined-requires Inv-loop μ-loop
 lined-requires c κs = search needs
 
-add-end : tie.Need-add-end Inv-loop μ-loop
-add-end c = omega arith
+add-byte-count : tie.Need-add-byte-count Inv-loop μ-loop
+add-byte-count c = omega arith
 
-add-end-2 : tie.Need-add-end-2 Inv-loop μ-loop
-add-end-2 c = omega arith
+byte-count-requires : tie.Need-byte-count-requires Inv-loop μ-loop
+byte-count-requires c κs = search needs
 
 loop-holds : tie.Need-loop-holds Inv-loop μ-loop
 unfolding Lined
-loop-holds c = (search needs, search needs, refl, refl, c .lined .ensures)
+loop-holds c = (search needs, search needs, refl, refl, rw (c .byte-count .ensures) (c .before .lined .ensures))
 
-sub-out : tie.Need-sub-out Inv-loop μ-loop
-sub-out c = omega arith
+sub-byte-of : tie.Need-sub-byte-of Inv-loop μ-loop
+sub-byte-of c = omega arith
 
-sub-out-2 : tie.Need-sub-out-2 Inv-loop μ-loop
-sub-out-2 c = omega arith
+sub-byte-of-2 : tie.Need-sub-byte-of-2 Inv-loop μ-loop
+sub-byte-of-2 c = omega arith
 
-mul-out : tie.Need-mul-out Inv-loop μ-loop
-mul-out c = omega arith
-
-shr-out : tie.Need-shr-out Inv-loop μ-loop
-shr-out c = omega arith
-
-cast-out : tie.Need-cast-out Inv-loop μ-loop
-cast-out c = omega arith
+byte-of-requires : tie.Need-byte-of-requires Inv-loop μ-loop
+byte-of-requires c κs = search needs
 
 slice-write-out : tie.Need-slice-write-out Inv-loop μ-loop
 slice-write-out c = omega arith
@@ -60,19 +54,20 @@ loop-less c = omega arith
 
 loop-again : tie.Need-loop-again Inv-loop μ-loop
 loop-again c =
-    let a = c .before .before .before .before .before .args in
-    let l = c .before .loop in
+    let a = c .before .before .before .before .before .before .before .args in
+    let l = c .before .before .loop in
     let at = a .self .at in
-    let end = (at + a .width + 7) / 8 in
-    let r = 8 * (end - 1 - l .i) in
-    let x = c .before .before .lined .result / 2 ^ r % 256 in (
+    let end = c .before .before .before .byte-count .result in
+    let x = c .before .before .before .before .lined .result in
+    let r = 8 * (end - 1 - l .i) in (
       search needs,
       search needs,
-      length-set (l .out) (l .i) x ∙ l .inv .2,
-      drop-set-lt (l .i + 1) (l .out) (l .i) x (omega arith) ∙ drop-more (l .out) (now (a .out)) (l .i) (l .inv .3),
-      stored (l .out) (l .i) r (8 * (end - (l .i + 1))) (8 * (end - l .i)) (c .before .before .lined .result)
+      length-set (l .out) (l .i) (c .byte-of .result) ∙ l .inv .2,
+      drop-set-lt (l .i + 1) (l .out) (l .i) (c .byte-of .result) (omega arith) ∙ drop-more (l .out) (now (a .out)) (l .i) (l .inv .3),
+      rw (c .byte-of .ensures)
+          (stored (l .out) (l .i) r (8 * (end - (l .i + 1))) (8 * (end - l .i)) x
           (take at (bits (now (a .out))) ++ (toBits (a .width) (a .v) ++ fill (at + a .width)))
-          (omega arith) (omega arith) (omega arith) (l .inv .4),
+          (omega arith) (omega arith) (omega arith) (l .inv .4)),
     )
 
 add-t12 : tie.Need-add-t12 Inv-loop μ-loop
@@ -83,14 +78,14 @@ same-length c = search needs
 
 returns : tie.Need-returns Inv-loop μ-loop
 returns c =
-    let a = c .before .before .before .before .before .args in
+    let a = c .before .before .before .before .before .before .args in
     let l = c .before .loop in
     let at = a .self .at in
-    let end = (at + a .width + 7) / 8 in
-    let e : l .i ≡ end = omega arith in (
+    let end = c .before .before .byte-count in
+    let e : l .i ≡ byteCount (at + a .width) = omega arith in (
       refl,
-      put-done (now (a .out)) (l .out) at (a .width) (a .v) (c .before .before .lined .result) (l .i) (8 * (end - l .i))
-          (c .before .before .before .before .before .pre .2) e (omega arith) (l .inv .4) (l .inv .3),
+      put-done (now (a .out)) (l .out) at (a .width) (a .v) (c .before .before .before .lined .result) (l .i) (8 * (end .result - l .i))
+          (c .before .before .before .before .before .before .pre .2) e (omega arith) (l .inv .4) (l .inv .3),
     )
 
 pub put-spec : {M : Type 1} → statement M
@@ -100,14 +95,12 @@ put-spec =
     Inv-loop
     μ-loop
     lined-requires
-    add-end
-    add-end-2
+    add-byte-count
+    byte-count-requires
     loop-holds
-    sub-out
-    sub-out-2
-    mul-out
-    shr-out
-    cast-out
+    sub-byte-of
+    sub-byte-of-2
+    byte-of-requires
     slice-write-out
     add-i
     loop-less

@@ -19,16 +19,17 @@ returns-2 c =
     let a = c .before .before .before .args in
     take-wide (bits (now (a .s))) (a .self .at) (a .width) (c .before .if1 .left) (c .if2 .taken)
 
-add-if3 : tie.Need-add-if3
-add-if3 c = omega arith
+add-byte-count : tie.Need-add-byte-count
+add-byte-count c = omega arith
 
-add-if3-2 : tie.Need-add-if3-2
-add-if3-2 c = omega arith
+byte-count-requires : tie.Need-byte-count-requires
+byte-count-requires c κs = search needs
 
 returns-3 : tie.Need-returns-3
 returns-3 c =
-    let a = c .before .before .before .before .args in
-    take-short (now (a .s)) (a .self .at) (a .width) (c .before .before .if1 .left) (c .before .if2 .left) (c .if3 .taken)
+    let a = c .before .before .before .before .before .args in
+    take-short (now (a .s)) (a .self .at) (a .width) (c .before .before .before .if1 .left) (c .before .before .if2 .left)
+    (rw (c .before .byte-count .ensures) at (c .if3 .taken))
 
 sub-past : tie.Need-sub-past
 sub-past c = omega arith
@@ -50,10 +51,11 @@ add-t10 c = omega arith
 
 returns-4 : tie.Need-returns-4
 returns-4 c =
-    let a = c .before .before .before .before .before .before .args in
+    let a = c .before .before .before .before .before .before .before .args in
     take-got (now (a .s)) (a .self .at) (a .width) (c .low-bits .result)
-    (λ k. omega (arith, c .before .before .before .before .before .shared-slice-known .given k))
-    (c .before .before .before .before .if1 .left) (c .before .before .before .if2 .left) (c .before .before .if3 .left)
+    (λ k. omega (arith, c .before .before .before .before .before .before .shared-slice-known .given k))
+    (c .before .before .before .before .before .if1 .left) (c .before .before .before .before .if2 .left)
+    (rw (c .before .before .before .byte-count .ensures) at (c .before .before .if3 .left))
     (c .low-bits .ensures .0 ∙ ap (λ (n : ℕ). n / 2 ^ (40 - a .self .at % 8 - a .width) % 2 ^ a .width) (c .before .window-at .ensures))
 
 pub take-spec : {M : Type 1} → statement M
@@ -62,8 +64,8 @@ take-spec =
     (tie.spec
     returns
     returns-2
-    add-if3
-    add-if3-2
+    add-byte-count
+    byte-count-requires
     returns-3
     sub-past
     sub-past-2

@@ -4,10 +4,9 @@ use Prim.Native.Nat.{ℕ, _+_, _-_, _*_, _≤_, _<_}
 use native.Mathlib.Omega.{arith}
 use lib.ListN.{length}
 use denote.Ref.{now}
-use Rattle.table.specs.Plain.{split}
+use Rattle.table.specs.Plain.{split, wordsOf}
 use Rattle.table.specs.Bits.{bits, toBits}
 use Rattle.table.specs.Packed.{countWidth, rowsBits}
-use Rattle.table.specs.Private.Codes.{wordsOf}
 use Rattle.table.specs.Places.{longestRecord}
 use Rattle.table.specs.Private.Laid.{putAt}
 use Rattle.table.proofs.BitLaws.{length-toBits, length-bits}
@@ -19,11 +18,11 @@ use Rattle.table.proofs.pack.put_table.Statement.{statement}
 use Rattle.table.proofs.pack.put_table.Tie as tie
 
 abbrev Inv-loop : tie.InvT-loop
-Inv-loop count words out₀ at₀ row₀ out at row =
-    (row ≤ count) × (at ≤ 8 + longestRecord * row) × (length out ≡ length out₀) × Putting count row at at₀ words out out₀
+Inv-loop count words out₀ cursor₀ row₀ out cursor row =
+    (row ≤ count) × (cursor .at ≤ 8 + longestRecord * row) × (length out ≡ length out₀) × Putting count row (cursor .at) (cursor₀ .at) words out out₀
 
 abbrev μ-loop : tie.MeasureT-loop
-μ-loop count words out₀ at₀ row₀ out at row = count - row
+μ-loop count words out₀ cursor₀ row₀ out cursor row = count - row
 
 new-requires : tie.Need-new-requires Inv-loop μ-loop
 new-requires c κs = search needs
@@ -40,15 +39,9 @@ loop-holds c =
       search needs,
       omega (arith, p .ensures .0, n),
       refl,
-      putting-starts (a .count) (p .result .at) (now (a .words)) (p .last .1 .0) (bits (now (a .out))) (toBits countWidth (a .count)) (c .before .before .before .before .before .before .before .pre .2)
+      putting-starts (a .count) (p .result .at) (now (a .words)) (p .last .1 .0) (bits (now (a .out))) (toBits countWidth (a .count)) (c .before .before .before .before .before .before .before .pre .0 .accepted)
           (p .ensures .1 ∙ ap (λ (x : ℕ). putAt (bits (now (a .out))) x (toBits countWidth (a .count))) n) e,
     )
-
-cast-record-at : tie.Need-cast-record-at Inv-loop μ-loop
-cast-record-at c = omega arith
-
-mul-record-at : tie.Need-mul-record-at Inv-loop μ-loop
-mul-record-at c = omega arith
 
 record-at-requires : tie.Need-record-at-requires Inv-loop μ-loop
 record-at-requires c κs = search needs
@@ -62,11 +55,11 @@ put-row-requires c κs =
     let f : l .row < a .count = c .before .before .loop-test .taken in
     let q = c .before .before .before .before .before .before .put in
     let w = wordsOf (r .result) in
-    let k = known-row (a .count) (l .row) (l .at) (q .result .at) (now (a .words)) (l .out) (q .last .1 .0) (l .inv .3) w (r .ensures) f in
-    let m = room-row (a .count) (l .row) (l .at) (q .result .at) (now (a .words)) (l .out) (q .last .1 .0) (l .inv .3) w (r .ensures) f in (
-      omega (arith, l .inv .1, p .0, f),
+    let k = known-row (a .count) (l .row) (l .cursor .at) (q .result .at) (now (a .words)) (l .out) (q .last .1 .0) (l .inv .3) w (r .ensures) f in
+    let m = room-row (a .count) (l .row) (l .cursor .at) (q .result .at) (now (a .words)) (l .out) (q .last .1 .0) (l .inv .3) w (r .ensures) f in (
+      omega (arith, l .inv .1, p .0 .few, f),
       k,
-      omega (arith, m, p .3, q .kept .1 .0, l .inv .2, q .ensures .0, c .before .before .before .before .before .before .before .before .new .ensures),
+      omega (arith, m, p .1, q .kept .1 .0, l .inv .2, q .ensures .0, c .before .before .before .before .before .before .before .before .new .ensures),
     )
 
 add-row : tie.Need-add-row Inv-loop μ-loop
@@ -85,13 +78,13 @@ loop-again c =
     let q = c .before .before .before .before .before .before .before .before .before .put in
     let t = c .before .before .put-row in
     let w = wordsOf (r .result) in
-    let k = known-row (a .count) (l .row) (l .at) (q .result .at) (now (a .words)) (l .out) (q .last .1 .0) (l .inv .3) w (r .ensures) f in
-    let m = room-row (a .count) (l .row) (l .at) (q .result .at) (now (a .words)) (l .out) (q .last .1 .0) (l .inv .3) w (r .ensures) f in (
+    let k = known-row (a .count) (l .row) (l .cursor .at) (q .result .at) (now (a .words)) (l .out) (q .last .1 .0) (l .inv .3) w (r .ensures) f in
+    let m = room-row (a .count) (l .row) (l .cursor .at) (q .result .at) (now (a .words)) (l .out) (q .last .1 .0) (l .inv .3) w (r .ensures) f in (
       search needs,
       omega (arith, l .inv .1, t .ensures .0, row-le (w .kind) k),
       t .kept .1 .0 ∙ l .inv .2,
-      putting-goes (a .count) (l .row) (l .at) (q .result .at) (now (a .words)) (l .out) (q .last .1 .0) (l .inv .3) w (r .ensures) f (t .result .at) (t .last .1 .0)
-          (omega (arith, length-bits (l .out), m, p .3, q .kept .1 .0, l .inv .2, q .ensures .0, c .before .before .before .before .before .before .before .before .before .before .before .new .ensures)) (t .ensures .0) (t .ensures .1),
+      putting-goes (a .count) (l .row) (l .cursor .at) (q .result .at) (now (a .words)) (l .out) (q .last .1 .0) (l .inv .3) w (r .ensures) f (t .result .at) (t .last .1 .0)
+          (omega (arith, length-bits (l .out), m, p .1, q .kept .1 .0, l .inv .2, q .ensures .0, c .before .before .before .before .before .before .before .before .before .before .before .new .ensures)) (t .ensures .0) (t .ensures .1),
     )
 
 same-length : tie.Need-same-length Inv-loop μ-loop
@@ -105,7 +98,7 @@ returns c =
     let n = c .before .before .before .before .before .before .new .ensures in
     let old = bits (now (a .out)) in
     let f = toBits countWidth (a .count) in
-    putting-ends (a .count) (l .row) (l .at) (q .result .at) (now (a .words)) (l .out) (q .last .1 .0) (l .inv .3) (omega arith)
+    putting-ends (a .count) (l .row) (l .cursor .at) (q .result .at) (now (a .words)) (l .out) (q .last .1 .0) (l .inv .3) (omega arith)
     ∙ put-next old (bits (q .last .1 .0)) f (rowsBits (split (a .count) (now (a .words)))) 0 (q .result .at) (omega arith)
     (q .ensures .1 ∙ ap (λ (x : ℕ). putAt old x f) n) (omega (arith, q .ensures .0, n, length-toBits countWidth (a .count)))
 
@@ -118,8 +111,6 @@ put-table-spec =
     new-requires
     put-requires
     loop-holds
-    cast-record-at
-    mul-record-at
     record-at-requires
     put-row-requires
     add-row

@@ -2,7 +2,7 @@
 use mathlib.Core.List.{[]}
 use Rattle.table.specs.Places.{longestRecord}
 use Rattle.table.specs.Rows.{rowOf}
-use Rattle.table.specs.Private.Codes.{wordsOf, verdict}
+use Rattle.table.specs.Private.Codes.{verdict}
 use mathlib.Core.Path.{_≡_, sym, _∙_}
 use Prim.Native.Nat.{_+_, _-_, _*_, _≤_, _<_}
 use native.Mathlib.Nat.{sub-zero}
@@ -11,7 +11,7 @@ use denote.Ref.{now}
 use lib.ListN.{length, drop}
 use borrow.Author.Needs.{needs}
 use Rattle.table.specs.Answers.{answer}
-use Rattle.table.specs.Plain.{split, rowsFrom}
+use Rattle.table.specs.Plain.{split, rowsFrom, wordsOf}
 use Rattle.table.specs.Packed.{rowsBits}
 use Rattle.table.proofs.Records.{kind-lt, row-le, survey-stop, survey-next, size-next, split-end}
 use Rattle.table.proofs.plain.survey_rows.Statement.{statement}
@@ -28,12 +28,6 @@ abbrev μ-loop : tie.MeasureT-loop
 
 loop-holds : tie.Need-loop-holds Inv-loop μ-loop
 loop-holds c = (search needs, search needs, rw sub-zero, rw sub-zero)
-
-cast-record-at : tie.Need-cast-record-at Inv-loop μ-loop
-cast-record-at c = omega arith
-
-mul-record-at : tie.Need-mul-record-at Inv-loop μ-loop
-mul-record-at c = omega arith
 
 record-at-requires : tie.Need-record-at-requires Inv-loop μ-loop
 record-at-requires c κs = search needs
@@ -83,13 +77,16 @@ loop-again c =
       omega (arith, c .row-length .ensures, size-next (a .count) (l .row) (now (a .words)) (wordsOf (r .result)) (r .ensures) f (accepted c), l .inv .3),
     )
 
+byte-count-requires : tie.Need-byte-count-requires Inv-loop μ-loop
+byte-count-requires c κs = search needs
+
 returns-2 : tie.Need-returns-2 Inv-loop μ-loop
 unfolding rowsFrom rowsBits
 returns-2 c =
-    let a = c .before .before .before .args in
-    let l = c .before .loop in
-    let e : split (a .count - l .row) (drop (4 * l .row) (now (a .words))) ≡ [] = split-end (a .count) (l .row) (now (a .words)) (l .inv .0) (c .loop-test .left) in
-    (sym (rw e at (l .inv .2)), omega (arith, rw e at (l .inv .3)))
+    let a = c .before .before .before .before .args in
+    let l = c .before .before .loop in
+    let e : split (a .count - l .row) (drop (4 * l .row) (now (a .words))) ≡ [] = split-end (a .count) (l .row) (now (a .words)) (l .inv .0) (c .before .loop-test .left) in
+    (sym (rw e at (l .inv .2)), omega (arith, c .byte-count .ensures, rw e at (l .inv .3)))
 
 pub survey-rows-spec : {M : Type 1} → statement M
 survey-rows-spec =
@@ -98,8 +95,6 @@ survey-rows-spec =
     Inv-loop
     μ-loop
     loop-holds
-    cast-record-at
-    mul-record-at
     record-at-requires
     judge-requires
     returns
@@ -108,4 +103,5 @@ survey-rows-spec =
     add-row
     loop-less
     loop-again
+    byte-count-requires
     returns-2)

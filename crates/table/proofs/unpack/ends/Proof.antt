@@ -8,13 +8,13 @@ use borrow.Author.Needs.{needs}
 use Rattle.table.proofs.unpack.ends.Statement.{statement}
 use Rattle.table.proofs.unpack.ends.Tie as tie
 
-add-if1 : tie.Need-add-if1
-add-if1 c = omega arith
+byte-count-requires : tie.Need-byte-count-requires
+byte-count-requires c κs = search needs
 
 returns : tie.Need-returns
 returns c =
-    let a = c .before .before .args in
-    not-ended (now (a .s)) (a .at) (c .before .before .pre .1) (c .if1 .taken)
+    let a = c .before .before .before .args in
+    not-ended (now (a .s)) (a .at) (c .before .before .before .pre .1) (rw (c .before .byte-count .ensures) at (c .if1 .taken))
 
 up-requires : tie.Need-up-requires
 up-requires c κs = search needs
@@ -36,22 +36,22 @@ enum-told c = search needs
 
 returns-2 : tie.Need-returns-2
 returns-2 c =
-    let a = c .before .before .before .before .before .before .args in
-    let p = c .before .before .before .before .before .before .pre in
-    absurd (fill-there (now (a .s)) (a .at) (c .before .before .before .up .result - a .at) (p .0) (p .1) (c .before .before .before .before .if1 .left) (ap (λ n. n - a .at) (c .before .before .before .up .ensures)) (sym (c .before .before .take .ensures) ∙ c .enum-told .given .1))
+    let a = c .before .before .before .before .before .before .before .args in
+    let p = c .before .before .before .before .before .before .before .pre in
+    absurd (fill-there (now (a .s)) (a .at) (c .before .before .before .up .result - a .at) (p .0) (p .1) (rw (c .before .before .before .before .before .byte-count .ensures) at (c .before .before .before .before .if1 .left)) (ap (λ n. n - a .at) (c .before .before .before .up .ensures)) (sym (c .before .before .take .ensures) ∙ c .enum-told .given .1))
 
 returns-3 : tie.Need-returns-3
 returns-3 c =
-    let a = c .before .before .before .before .before .before .before .args in
-    let p = c .before .before .before .before .before .before .before .pre in
+    let a = c .before .before .before .before .before .before .before .before .args in
+    let p = c .before .before .before .before .before .before .before .before .pre in
     let g = c .before .fill .given in
-    ended (now (a .s)) (a .at) (c .before .before .before .before .up .result - a .at) (p .0) (p .1) (c .before .before .before .before .before .if1 .left) (ap (λ n. n - a .at) (c .before .before .before .before .up .ensures)) (g .0 .0) (g .0 .1 .0) (sym (c .before .before .before .take .ensures) ∙ g .1)
+    ended (now (a .s)) (a .at) (c .before .before .before .before .up .result - a .at) (p .0) (p .1) (rw (c .before .before .before .before .before .before .byte-count .ensures) at (c .before .before .before .before .before .if1 .left)) (ap (λ n. n - a .at) (c .before .before .before .before .up .ensures)) (g .0 .0) (g .0 .1 .0) (sym (c .before .before .before .take .ensures) ∙ g .1)
 
 pub ends-spec : {M : Type 1} → statement M
 ends-spec =
     tie.close
     (tie.spec
-    add-if1
+    byte-count-requires
     returns
     up-requires
     sub-take

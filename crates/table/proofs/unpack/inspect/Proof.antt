@@ -1,15 +1,17 @@
 -- `table::unpack::inspect` meets its contract. Assumes nothing.
 use mathlib.Core.Path.{_≡_, sym, ap, _∙_, subst}
-use Prim.Native.Nat.{_-_}
+use lib.Dec.{leb}
+use borrow.Author.Tests.{leb-true, not-true, not-false}
 use denote.Ref.{now}
 use Rattle.table.specs.declared.Taking.the-variants.{Got}
 use Rattle.table.specs.Answers.{unless, good, answer, badFilling}
-use Rattle.table.specs.Rows.{Words}
+use Rattle.table.specs.Rows.{Words, maxFlows}
 use Rattle.table.specs.Bits.{bits}
 use Rattle.table.specs.Packed.{takeRows, countWidth}
 use Rattle.table.specs.Places.{takeAt}
 use Rattle.table.specs.Private.Steps.{Scanned, Ended}
-use Rattle.table.proofs.ReadLaws.{no-count, count-there, no-flows, many-flows, counted}
+use Rattle.table.proofs.Tests.{and-right}
+use Rattle.table.proofs.ReadLaws.{no-count, count-there, bad-count, counted}
 use mathlib.Core.List.{List, []}
 use borrow.Author.Needs.{needs}
 use Rattle.table.proofs.unpack.inspect.Statement.{statement}
@@ -30,23 +32,17 @@ returns c =
     let s = now (a .s) in
     no-count s (sym (c .before .before .first-field .ensures) ∙ c .enum-told .given .1)
 
+count-fits-requires : tie.Need-count-fits-requires
+count-fits-requires c κs = search needs
+
 returns-2 : tie.Need-returns-2
 returns-2 c =
-    let a = c .before .before .before .before .before .before .args in
-    let s = now (a .s) in
-    let g = c .before .before .count .given in
-    let m = g .0 .0 in
-    let e : takeAt (bits s) 0 countWidth ≡ Got m (g .0 .1 .0) = sym (c .before .before .before .before .first-field .ensures) ∙ g .1 in
-    no-flows s m (g .0 .1 .0) e (c .if1 .taken)
-
-returns-3 : tie.Need-returns-3
-returns-3 c =
     let a = c .before .before .before .before .before .before .before .args in
     let s = now (a .s) in
     let g = c .before .before .before .count .given in
     let m = g .0 .0 in
     let e : takeAt (bits s) 0 countWidth ≡ Got m (g .0 .1 .0) = sym (c .before .before .before .before .before .first-field .ensures) ∙ g .1 in
-    many-flows s m (g .0 .1 .0) e (c .before .if1 .left) (c .if2 .taken)
+    bad-count s m (g .0 .1 .0) e (sym (c .before .count-fits .ensures) ∙ not-true (c .before .count-fits .result) (c .if1 .taken))
 
 scan-rows-requires : tie.Need-scan-rows-requires
 scan-rows-requires c κs =
@@ -55,7 +51,7 @@ scan-rows-requires c κs =
     let g = c .before .before .before .count .given in
     let m = g .0 .0 in
     let e : takeAt (bits s) 0 countWidth ≡ Got m (g .0 .1 .0) = sym (c .before .before .before .before .before .first-field .ensures) ∙ g .1 in
-    (c .if2 .left, count-there s m (g .0 .1 .0) e)
+    (leb-true m maxFlows (and-right (leb 1 m) _ (sym (c .before .count-fits .ensures) ∙ not-false (c .before .count-fits .result) (c .if1 .left))), count-there s m (g .0 .1 .0) e)
 
 enum-known-scan : tie.Need-enum-known-scan
 enum-known-scan c = search needs
@@ -65,18 +61,32 @@ enum-known-scan-2 c = search needs
 
 ends-requires : tie.Need-ends-requires
 ends-requires c κs =
-    let d : Ended (bits (now (c .before .before .before .before .before .before .before .before .before .before .before .args .s))) (c .before .before .before .before .before .before .before .count .given .0 .0) (c .before .scan2 .given .0 .0) = subst (Scanned (bits (now (c .before .before .before .before .before .before .before .before .before .before .before .args .s))) (c .before .before .before .before .before .before .before .count .given .0 .0)) (c .before .scan2 .given .1) (c .before .before .before .scan-rows .ensures) in
+    let s = now (c .before .before .before .before .before .before .before .before .before .before .before .args .s) in
+    let m = c .before .before .before .before .before .before .before .count .given .0 .0 in
+    let d : Ended (bits s) m (c .before .scan2 .given .0 .0) = subst (Scanned (bits s) m) (c .before .scan2 .given .1) (c .before .before .before .scan-rows .ensures) in
     (d .near, d .within)
 
-returns-4 : tie.Need-returns-4
-returns-4 c =
+returns-3 : tie.Need-returns-3
+returns-3 c =
     let a = c .before .before .before .before .before .before .before .before .before .before .before .args in
     let s = now (a .s) in
     let g = c .before .before .before .before .before .before .before .count .given in
     let m = g .0 .0 in
     let e : takeAt (bits s) 0 countWidth ≡ Got m (g .0 .1 .0) = sym (c .before .before .before .before .before .before .before .before .before .first-field .ensures) ∙ g .1 in
-    let w = counted s m (g .0 .1 .0) e (c .before .before .before .before .before .if1 .left) (c .before .before .before .before .if2 .left) in
-    w ∙ subst (Scanned (bits s) m) (c .before .scan .given .1) (c .before .before .before .scan-rows .ensures)
+    counted s m (g .0 .1 .0) e (sym (c .before .before .before .before .before .count-fits .ensures) ∙ not-false (c .before .before .before .before .before .count-fits .result) (c .before .before .before .before .if1 .left))
+    ∙ subst (Scanned (bits s) m) (c .before .scan .given .1) (c .before .before .before .scan-rows .ensures)
+
+returns-4 : tie.Need-returns-4
+unfolding takeRows
+returns-4 c =
+    let a = c .before .before .before .before .before .before .before .before .before .before .before .before .before .args in
+    let s = now (a .s) in
+    let g = c .before .before .before .before .before .before .before .before .before .count .given in
+    let m = g .0 .0 in
+    let e : takeAt (bits s) 0 countWidth ≡ Got m (g .0 .1 .0) = sym (c .before .before .before .before .before .before .before .before .before .before .before .first-field .ensures) ∙ g .1 in
+    let d : Ended (bits s) m (c .before .before .before .scan2 .given .0 .0) = subst (Scanned (bits s) m) (c .before .before .before .scan2 .given .1) (c .before .before .before .before .before .scan-rows .ensures) in
+    counted s m (g .0 .1 .0) e (sym (c .before .before .before .before .before .before .before .count-fits .ensures) ∙ not-false (c .before .before .before .before .before .before .before .count-fits .result) (c .before .before .before .before .before .before .if1 .left))
+    ∙ sym (d .left) ∙ ap (λ b. answer (λ (ws : List Words). m) (unless b badFilling 0 (good []))) (sym (c .before .ends .ensures) ∙ c .if2 .taken)
 
 returns-5 : tie.Need-returns-5
 unfolding takeRows
@@ -86,21 +96,9 @@ returns-5 c =
     let g = c .before .before .before .before .before .before .before .before .before .count .given in
     let m = g .0 .0 in
     let e : takeAt (bits s) 0 countWidth ≡ Got m (g .0 .1 .0) = sym (c .before .before .before .before .before .before .before .before .before .before .before .first-field .ensures) ∙ g .1 in
-    let w = counted s m (g .0 .1 .0) e (c .before .before .before .before .before .before .before .if1 .left) (c .before .before .before .before .before .before .if2 .left) in
     let d : Ended (bits s) m (c .before .before .before .scan2 .given .0 .0) = subst (Scanned (bits s) m) (c .before .before .before .scan2 .given .1) (c .before .before .before .before .before .scan-rows .ensures) in
-    w ∙ sym (d .left) ∙ ap (λ b. answer (λ (ws : List Words). m) (unless b badFilling 0 (good []))) (sym (c .before .ends .ensures) ∙ c .if3 .taken)
-
-returns-6 : tie.Need-returns-6
-unfolding takeRows
-returns-6 c =
-    let a = c .before .before .before .before .before .before .before .before .before .before .before .before .before .args in
-    let s = now (a .s) in
-    let g = c .before .before .before .before .before .before .before .before .before .count .given in
-    let m = g .0 .0 in
-    let e : takeAt (bits s) 0 countWidth ≡ Got m (g .0 .1 .0) = sym (c .before .before .before .before .before .before .before .before .before .before .before .first-field .ensures) ∙ g .1 in
-    let w = counted s m (g .0 .1 .0) e (c .before .before .before .before .before .before .before .if1 .left) (c .before .before .before .before .before .before .if2 .left) in
-    let d : Ended (bits s) m (c .before .before .before .scan2 .given .0 .0) = subst (Scanned (bits s) m) (c .before .before .before .scan2 .given .1) (c .before .before .before .before .before .scan-rows .ensures) in
-    w ∙ sym (d .left) ∙ ap (λ b. answer (λ (ws : List Words). m) (unless b badFilling 0 (good []))) (sym (c .before .ends .ensures) ∙ c .if3 .left)
+    counted s m (g .0 .1 .0) e (sym (c .before .before .before .before .before .before .before .count-fits .ensures) ∙ not-false (c .before .before .before .before .before .before .before .count-fits .result) (c .before .before .before .before .before .before .if1 .left))
+    ∙ sym (d .left) ∙ ap (λ b. answer (λ (ws : List Words). m) (unless b badFilling 0 (good []))) (sym (c .before .ends .ensures) ∙ c .if2 .left)
 
 pub inspect-spec : {M : Type 1} → statement M
 inspect-spec =
@@ -110,12 +108,12 @@ inspect-spec =
     enum-known-count
     enum-told
     returns
+    count-fits-requires
     returns-2
-    returns-3
     scan-rows-requires
     enum-known-scan
     enum-known-scan-2
     ends-requires
+    returns-3
     returns-4
-    returns-5
-    returns-6)
+    returns-5)

@@ -16,12 +16,12 @@ use Rattle.table.proofs.unpack.scan_rows.Statement.{statement}
 use Rattle.table.proofs.unpack.scan_rows.Tie as tie
 
 abbrev Inv-loop : tie.InvT-loop
-Inv-loop s count at₀ row₀ at row =
-    (row ≤ count) × (at ≤ 8 + longestRecord * row) × (at ≤ length (bits s))
-    × (answer (λ ws. count) (takeRows count (count - row) row (drop at (bits s))) ≡ answer (λ ws. count) (takeRows count count 0 (drop countWidth (bits s))))
+Inv-loop s count cursor₀ row₀ cursor row =
+    (row ≤ count) × (cursor .at ≤ 8 + longestRecord * row) × (cursor .at ≤ length (bits s))
+    × (answer (λ ws. count) (takeRows count (count - row) row (drop (cursor .at) (bits s))) ≡ answer (λ ws. count) (takeRows count count 0 (drop countWidth (bits s))))
 
 abbrev μ-loop : tie.MeasureT-loop
-μ-loop s count at₀ row₀ at row = count - row
+μ-loop s count cursor₀ row₀ cursor row = count - row
 
 loop-holds : tie.Need-loop-holds Inv-loop μ-loop
 loop-holds c = (search needs, search needs, search needs, rw sub-zero)
@@ -40,9 +40,9 @@ returns c =
     let a = c .before .before .before .before .before .before .before .before .before .args in
     let l = c .before .before .before .before .before .before .before .loop in
     let g = c .before .before .before .step .given in
-    let d = subst (Stepped (bits (now (a .s))) (l .at)) (g .1) (c .before .before .before .before .before .row .ensures) in
+    let d = subst (Stepped (bits (now (a .s))) (l .cursor .at)) (g .1) (c .before .before .before .before .before .row .ensures) in
     sym (l .inv .3)
-    ∙ scan-stop (a .count) (l .row) (l .at) (bits (now (a .s))) (c .before .before .before .before .before .before .loop-test .taken) (g .0 .0) (g .0 .1 .0) d (c .before .judge .result) (c .before .judge .ensures) (c .if1 .taken)
+    ∙ scan-stop (a .count) (l .row) (l .cursor .at) (bits (now (a .s))) (c .before .before .before .before .before .before .loop-test .taken) (g .0 .0) (g .0 .1 .0) d (c .before .judge .result) (c .before .judge .ensures) (c .if1 .taken)
 
 add-row : tie.Need-add-row Inv-loop μ-loop
 add-row c = omega arith
@@ -55,11 +55,11 @@ loop-again c =
     let a = c .before .before .before .before .before .before .before .before .before .args in
     let l = c .before .before .before .before .before .before .before .loop in
     let g = c .before .before .before .step .given in
-    let d : Found (bits (now (a .s))) (l .at) (g .0 .0) (g .0 .1 .0) = subst (Stepped (bits (now (a .s))) (l .at)) (g .1) (c .before .before .before .before .before .row .ensures) in (
+    let d : Found (bits (now (a .s))) (l .cursor .at) (g .0 .0) (g .0 .1 .0) = subst (Stepped (bits (now (a .s))) (l .cursor .at)) (g .1) (c .before .before .before .before .before .row .ensures) in (
       search needs,
       omega (arith, d .near, l .inv .1),
       d .within,
-      scan-next (a .count) (l .row) (l .at) (bits (now (a .s))) (c .before .before .before .before .before .before .loop-test .taken) (g .0 .0) (g .0 .1 .0) d (sym (c .before .judge .ensures) ∙ c .if1 .left) ∙ l .inv .3,
+      scan-next (a .count) (l .row) (l .cursor .at) (bits (now (a .s))) (c .before .before .before .before .before .before .loop-test .taken) (g .0 .0) (g .0 .1 .0) d (sym (c .before .judge .ensures) ∙ c .if1 .left) ∙ l .inv .3,
     )
 
 enum-known-step-2 : tie.Need-enum-known-step-2 Inv-loop μ-loop
@@ -70,8 +70,8 @@ returns-2 c =
     let a = c .before .before .before .before .before .before .before .args in
     let l = c .before .before .before .before .before .loop in
     let g = c .before .step2 .given in
-    let d = subst (Stepped (bits (now (a .s))) (l .at)) (g .1) (c .before .before .before .row .ensures) in
-    sym (l .inv .3) ∙ scan-missing (a .count) (l .row) (l .at) (bits (now (a .s))) (c .before .before .before .before .loop-test .taken) (g .0 .0) d
+    let d = subst (Stepped (bits (now (a .s))) (l .cursor .at)) (g .1) (c .before .before .before .row .ensures) in
+    sym (l .inv .3) ∙ scan-missing (a .count) (l .row) (l .cursor .at) (bits (now (a .s))) (c .before .before .before .before .loop-test .taken) (g .0 .0) d
 
 returns-3 : tie.Need-returns-3 Inv-loop μ-loop
 returns-3 c =

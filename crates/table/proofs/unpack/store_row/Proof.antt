@@ -1,4 +1,5 @@
 -- `table::unpack::store_row` meets its contract. Assumes nothing.
+use Prim.Native.Nat.{_*_}
 use native.Mathlib.Omega.{arith}
 use lib.ListN.{length-set}
 use denote.Ref.{now}
@@ -6,6 +7,9 @@ use Rattle.table.proofs.StoreLaws.{four-set}
 use borrow.Author.Needs.{needs}
 use Rattle.table.proofs.unpack.store_row.Statement.{statement}
 use Rattle.table.proofs.unpack.store_row.Tie as tie
+
+mul-i : tie.Need-mul-i
+mul-i c = omega arith
 
 mul-words : tie.Need-mul-words
 mul-words c = omega arith
@@ -44,12 +48,13 @@ same-length : tie.Need-same-length
 same-length c = search needs
 
 returns : tie.Need-returns
-returns c = four-set (now (c .args .words)) (c .args .i) (c .args .r) (c .pre .1)
+returns c = four-set (now (c .args .words)) (4 * c .args .row) (c .args .r) (c .pre)
 
 pub store-row-spec : {M : Type 1} → statement M
 store-row-spec =
     tie.close
     (tie.spec
+    mul-i
     mul-words
     slice-write-words
     add-words

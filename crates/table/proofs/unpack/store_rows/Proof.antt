@@ -13,11 +13,12 @@ use Rattle.table.proofs.unpack.store_rows.Statement.{statement}
 use Rattle.table.proofs.unpack.store_rows.Tie as tie
 
 abbrev Inv-loop : tie.InvT-loop
-Inv-loop s count words₀ at₀ row₀ words at row =
-    (row ≤ count) × (at ≤ 8 + longestRecord * row) × (at ≤ length (bits s)) × (length words ≡ length words₀) × Storing (bits s) count row at words words₀
+Inv-loop s count words₀ cursor₀ row₀ words cursor row =
+    (row ≤ count) × (cursor .at ≤ 8 + longestRecord * row) × (cursor .at ≤ length (bits s)) × (length words ≡ length words₀)
+    × Storing (bits s) count row (cursor .at) words words₀
 
 abbrev μ-loop : tie.MeasureT-loop
-μ-loop s count words₀ at₀ row₀ words at row = count - row
+μ-loop s count words₀ cursor₀ row₀ words cursor row = count - row
 
 loop-holds : tie.Need-loop-holds Inv-loop μ-loop
 loop-holds c =
@@ -28,8 +29,8 @@ loop-holds c =
 row-requires : tie.Need-row-requires Inv-loop μ-loop
 row-requires c κs = search needs
 
-enum-known-step : tie.Need-enum-known-step Inv-loop μ-loop
-enum-known-step c = search needs
+enum-known-r : tie.Need-enum-known-r Inv-loop μ-loop
+enum-known-r c = search needs
 
 enum-told : tie.Need-enum-told Inv-loop μ-loop
 enum-told c = search needs
@@ -42,13 +43,7 @@ returns c =
     let a = c .before .before .before .before .before .before .before .args in
     let l = c .before .before .before .before .loop in
     let g = c .enum-told .given in
-    absurd (storing-found (bits (now (a .s))) (a .count) (l .row) (l .at) (l .words) (now (a .words)) (l .inv .4) (c .before .before .before .loop-test .taken) (g .0 .0) (subst (Stepped (bits (now (a .s))) (l .at)) (g .1) (c .before .before .row .ensures)))
-
-cast-store-row : tie.Need-cast-store-row Inv-loop μ-loop
-cast-store-row c = omega arith
-
-mul-store-row : tie.Need-mul-store-row Inv-loop μ-loop
-mul-store-row c = omega arith
+    absurd (storing-found (bits (now (a .s))) (a .count) (l .row) (l .cursor .at) (l .words) (now (a .words)) (l .inv .4) (c .before .before .before .loop-test .taken) (g .0 .0) (subst (Stepped (bits (now (a .s))) (l .cursor .at)) (g .1) (c .before .before .row .ensures)))
 
 store-row-requires : tie.Need-store-row-requires Inv-loop μ-loop
 store-row-requires c κs = search needs
@@ -64,14 +59,14 @@ loop-again c =
     let a = c .before .before .before .before .before .before .before .before .before .before .before .before .args in
     let p = c .before .before .before .before .before .before .before .before .before .before .before .before .pre in
     let l = c .before .before .before .before .before .before .before .before .before .loop in
-    let g = c .before .before .before .before .before .step .given in
+    let g = c .before .before .before .before .before .r .given in
     let s = c .before .before .store-row in
-    let d : Found (bits (now (a .s))) (l .at) (g .0 .0) (g .0 .1 .0) = subst (Stepped (bits (now (a .s))) (l .at)) (g .1) (c .before .before .before .before .before .before .before .row .ensures) in (
+    let d : Found (bits (now (a .s))) (l .cursor .at) (g .0 .0) (g .0 .1 .0) = subst (Stepped (bits (now (a .s))) (l .cursor .at)) (g .1) (c .before .before .before .before .before .before .before .row .ensures) in (
       search needs,
       omega (arith, d .near, l .inv .1),
       d .within,
       s .kept .0 ∙ l .inv .3,
-      storing-goes (bits (now (a .s))) (a .count) (l .row) (l .at) (l .words) (now (a .words)) (l .inv .4) (c .before .before .before .before .before .before .before .before .loop-test .taken) (g .0 .0) (g .0 .1 .0) (s .last .0) d (omega (arith, p .1, l .inv .3)) (s .ensures),
+      storing-goes (bits (now (a .s))) (a .count) (l .row) (l .cursor .at) (l .words) (now (a .words)) (l .inv .4) (c .before .before .before .before .before .before .before .before .loop-test .taken) (g .0 .0) (g .0 .1 .0) (s .last .0) d (omega (arith, p .1, l .inv .3)) (s .ensures),
     )
 
 same-length-2 : tie.Need-same-length-2 Inv-loop μ-loop
@@ -81,7 +76,7 @@ returns-2 : tie.Need-returns-2 Inv-loop μ-loop
 returns-2 c =
     let a = c .before .before .before .before .args in
     let l = c .before .loop in
-    storing-ends (bits (now (a .s))) (a .count) (l .row) (l .at) (l .words) (now (a .words)) (l .inv .4) (omega arith)
+    storing-ends (bits (now (a .s))) (a .count) (l .row) (l .cursor .at) (l .words) (now (a .words)) (l .inv .4) (omega arith)
 
 pub store-rows-spec : {M : Type 1} → statement M
 store-rows-spec =
@@ -91,12 +86,10 @@ store-rows-spec =
     μ-loop
     loop-holds
     row-requires
-    enum-known-step
+    enum-known-r
     enum-told
     same-length
     returns
-    cast-store-row
-    mul-store-row
     store-row-requires
     add-row
     loop-less

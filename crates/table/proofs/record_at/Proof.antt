@@ -1,13 +1,13 @@
--- `checker::row_at` meets its contract. Assumes nothing.
+-- `table::record_at` meets its contract. Assumes nothing.
 use Prim.Native.Nat.{_*_}
 use denote.Ref.{now}
 use borrow.Author.Needs.{needs}
-use Rattle.checker.proofs.Laws.{four-read}
-use Rattle.checker.proofs.row_at.Statement.{statement}
-use Rattle.checker.proofs.row_at.Tie as tie
+use Rattle.table.proofs.Tables.{four-read}
+use Rattle.table.proofs.record_at.Statement.{statement}
+use Rattle.table.proofs.record_at.Tie as tie
 
-mul-at : tie.Need-mul-at
-mul-at c = search needs
+mul-i : tie.Need-mul-i
+mul-i c = search needs
 
 word-at-requires : tie.Need-word-at-requires
 word-at-requires c κs = search needs
@@ -32,13 +32,13 @@ word-at-requires-4 c κs = search needs
 
 returns : tie.Need-returns
 returns c = rw (c .word-at4 .ensures, c .before .word-at3 .ensures, c .before .before .word-at2 .ensures, c .before .before .before .word-at .ensures)
-    (four-read (now (c .before .before .before .before .before .args .words)) (4 * c .before .before .before .before .before .args .f))
+    (four-read (now (c .before .before .before .before .before .args .words)) (4 * c .before .before .before .before .before .args .row))
 
-pub row-at-spec : {M : Type 1} → statement M
-row-at-spec =
+pub record-at-spec : {M : Type 1} → statement M
+record-at-spec =
     tie.close
     (tie.spec
-    mul-at
+    mul-i
     word-at-requires
     add-word-at
     word-at-requires-2
