@@ -1,11 +1,11 @@
 -- A plan whose rows and sources have clocks runs to its end on them, for every count of ticks. Assumes nothing.
 use mathlib.Core.Path.{_≡_, refl, sym, _∙_, ap, subst}
-use Prim.Native.Nat.{ℕ, zero, suc, _*_, _<_}
+use Prim.Native.Nat.{ℕ, zero, suc, _<_}
 use native.Mathlib.Omega.{arith}
 use mathlib.Core.Bool.{true}
 use mathlib.Core.List.{List, [], _∷_, append-nil}
 use mathlib.Core.Option.{none}
-use lib.ListN.{length, length-append}
+use lib.ListN.{length}
 use Rattle.table.specs.Rows.{Row, input, constant, combine, register, faster, slower, later, head, tail, sample, merge, onRegister}
 use Rattle.table.specs.Rows.{badRegister}
 use Rattle.table.proofs.Lists.{Each, each-map, each-both}
@@ -15,19 +15,10 @@ use Rattle.checker.specs.Clocks.{Clock}
 use Rattle.checker.specs.Rules.{clockAt, sourceFits}
 use Rattle.checker.proofs.ClockLaws.{beq-same, same-clock}
 use Rattle.checker.proofs.CheckLaws.{Clocked, all-sane}
-use Rattle.runner.specs.Runs.{Tick, Ticks, filled, flowsFrom, sourceMeets, tickOf, done, run, cells}
+use Rattle.runner.specs.Runs.{Tick, Ticks, filled, flowsFrom, sourceMeets, tickOf, done, run}
+use Rattle.runner.specs.Private.Ready.{Regular as Wide}
 use Rattle.calendar.proofs.Dues.{due}
 use Rattle.calendar.proofs.Keeping.{Kept, Front, front-law}
-
--- each tick has m cells
-abbrev pub Wide : ℕ → Ticks → Type 0
-Wide m [] = Unit {0}
-Wide m (now ∷ past) = (length now ≡ m) × Wide m past
-
-pub cells-length : (m : ℕ) (past : Ticks) → Wide m past → length (cells past) ≡ length past * m
-unfolding cells
-cells-length m [] w = omega arith
-cells-length m (now ∷ past) w = length-append (cells past) now ∙ rw (cells-length m past (w .1), w .0) (omega arith)
 
 -- a run that came to its end, each flow on its clock
 pub record Runs (rows : List Row) (log : List ℕ) (clk : ℕ → Clock) (t : ℕ) : Type 0 where

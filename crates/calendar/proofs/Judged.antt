@@ -24,10 +24,11 @@ use Rattle.runner.specs.Cells.{mark, onGrid}
 use Rattle.runner.specs.Operators.{clashes}
 use Rattle.runner.specs.Runs.{Tick, Ticks, cellIn, history, cellOf, filled, flowsFrom, sourceMeets, tickOf, done, run}
 use Rattle.calendar.specs.Calendar.{judgingTicks}
+use Rattle.runner.proofs.Steps.{history-length}
 use Rattle.calendar.proofs.Grid.{Parted, parted}
 use Rattle.calendar.proofs.Flows.{Regular, faster-clash, head-early, head-clash}
 use Rattle.calendar.proofs.Dues.{due-plain, combined-clash}
-use Rattle.calendar.proofs.Keeping.{Kept, history-length, regular}
+use Rattle.calendar.proofs.Keeping.{Kept, regular}
 use Rattle.calendar.proofs.Endings.{not-filled, Last, last, ended-before, tick-parts, front-of, front-kept, front-filled}
 use Rattle.calendar.proofs.Endings.{tick-kept, run-kept}
 

@@ -4,7 +4,7 @@ use Prim.Native.Nat.{ℕ, suc, _+_, _≤_, _<_}
 use native.Mathlib.Omega.{arith}
 use mathlib.Core.Bool.{Bool, true, false, _&&_, and-true}
 use mathlib.Core.List.{List, [], _∷_, _++_}
-use lib.ListN.{length, length-map, length-append, List·getD-append}
+use lib.ListN.{length, length-append, List·getD-append}
 use lib.Seq.{getD-append-seam}
 use Rattle.table.specs.Rows.{Row, input, constant, combine, register, faster, slower, later, head, tail, sample, merge}
 use Rattle.table.proofs.Lists.{below-suc}
@@ -16,6 +16,7 @@ use Rattle.checker.proofs.CheckLaws.{Clocked, AllSane, below-le}
 use Rattle.runner.specs.Cells.{Cell, absent, present, mark, onGrid}
 use Rattle.runner.specs.Operators.{Step, is}
 use Rattle.runner.specs.Runs.{Tick, Ticks, cellIn, history, cellOf, flowsFrom}
+use Rattle.runner.proofs.Steps.{history-length}
 use Rattle.calendar.proofs.Flows.{Makes, cond-mark, Regular, faster-law, slower-law, later-law, tail-law, head-law}
 use Rattle.calendar.proofs.Dues.{holds, due, due-plain, due-under, due-append, made, combined-law, registered-law, sampled-law}
 use Rattle.calendar.proofs.Dues.{merged-law}
@@ -28,10 +29,6 @@ Keeps k (now ∷ past) f = (mark (cellIn now f) ≡ due k now past) × Keeps k p
 -- so do the flows below m
 abbrev pub Kept : (ℕ → Clock) → ℕ → Ticks → Type 0
 Kept clk m past = (f : ℕ) → f < m → Keeps (clk f) past f
-
-pub history-length : (past : Ticks) (f : ℕ) → length (history past f) ≡ length past
-unfolding history
-history-length past f = length-map past (λ (now : Tick). cellIn now f)
 
 -- a flow that keeps a plain clock is regular
 regular-from : (k : Clock) (past : Ticks) (f : ℕ) → plain k ≡ true → Keeps k past f → Regular (k .period) (k .phase) (history past f)

@@ -27,7 +27,9 @@ use Rattle.runner.specs.Cells.{value}
 use Rattle.runner.specs.Runs.{Ticks, inputs, Ran, done, clashed, run, cells}
 use Rattle.runner.specs.Answers.{maxTicks, running, ranAnswer, markByte}
 use Rattle.calendar.specs.Calendar.{Accepts, Asked, Ends, OnCalendar, Free, Judged, judgingTicks, SharedCalendar}
-use Rattle.calendar.proofs.Accepted.{Wide, cells-length, Runs, runs}
+use Rattle.runner.specs.Private.Ready.{Regular as Wide}
+use Rattle.runner.proofs.Collecting.{cells-length}
+use Rattle.calendar.proofs.Accepted.{Runs, runs}
 use Rattle.calendar.proofs.Judged.{FreeRow, AllFree, refused-clashes}
 use Rattle.calendar.proofs.Shown.{AtTick, at-tick, written, due-shown}
 

@@ -26,7 +26,8 @@ use Rattle.calendar.specs.Calendar.{clockWord, cellAt, TrueAt, FalseAt, 
 use Rattle.calendar.proofs.Grid.{On, on-of, of-on}
 use Rattle.calendar.proofs.Dues.{holds, allHold, due, due-is}
 use Rattle.calendar.proofs.Keeping.{Keeps}
-use Rattle.calendar.proofs.Accepted.{Wide, cells-length}
+use Rattle.runner.specs.Private.Ready.{Regular as Wide}
+use Rattle.runner.proofs.Collecting.{cells-length}
 
 -- tick t of the ticks: its cells stand from place t × m on, and each flow keeps its clock there
 pub record AtTick (m : ℕ) (past : Ticks) (t : ℕ) : Type 0 where

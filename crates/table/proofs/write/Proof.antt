@@ -1,6 +1,5 @@
 -- `table::write` meets its contract. Assumes nothing.
 use mathlib.Core.Path.{ap, _∙_, subst}
-use Prim.Native.Nat.{_-_}
 use native.Mathlib.Omega.{arith}
 use denote.Ref.{now}
 use Rattle.table.specs.Plain.{split}

@@ -1,6 +1,5 @@
 -- `table::plain::count_fits` meets its contract. Assumes nothing.
 use borrow.Author.Tests.{le-leb, lt-leb}
-use Rattle.table.specs.Rows.{maxFlows}
 use Rattle.table.proofs.plain.count_fits.Statement.{statement}
 use Rattle.table.proofs.plain.count_fits.Tie as tie
 
