@@ -1,7 +1,7 @@
 -- The proof of the cycle of calls {put_decimal}. The measure is the number. Assumes nothing.
 use Rattle.lister.specs.Listing.{digit, decimal}
 use Rattle.lister.proofs.Decimal.{decimal-one, decimal-more}
-use Prim.Native.Nat.{ℕ, _+_, _/_, _%_, _≤_}
+use Prim.Native.Nat.{ℕ, _+_, _/_, _%_, _-_, _≤_, _<_}
 use lib.ListN.{length}
 use mathlib.Core.List.{List, [], _∷_, _++_}
 use Rattle.lister.proofs.Laying.{begin, and-then, room, finish}
