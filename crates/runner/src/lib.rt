@@ -8,6 +8,7 @@ ghost use Rattle.runner.specs.Runs as runs;
 ghost use Rattle.runner.specs.Called.{Called};
 ghost use Rattle.runner.specs.Private.Ready.{rowsIn, Plain, AllCarry, Ready, Regular, Wrote, Listed, TickAt, RanTo};
 
+mod carried;
 mod operators;
 mod state;
 mod ticks;

@@ -10,6 +10,7 @@ ghost use Rattle.runner.specs.Private.Carried.{cellsIn, heldIn, decode, 
 ghost use Rattle.table.specs.Rows.{badRegister};
 ghost use Rattle.runner.specs.Runs.{Tick, Ticks, flowsFrom, sourceMeets, tickOf};
 ghost use Rattle.runner.specs.Private.Ready.{rowsIn, Plain, Ready, AllFollow, Wrote, FlowsEnd, LatchEnd, TickDone, Listed};
+use crate::carried;
 use crate::operators;
 use crate::operators::CLASH;
 use crate::operators::CLASHED;
@@ -59,14 +60,14 @@ fn outcome(
         15 => operators::merged(marks, values, f, p, q, r),
         14 => operators::sampled(false, marks, values, f, p, q),
         13 => operators::sampled(true, marks, values, f, p, q),
-        12 => operators::tail(marks, values, f, p, state, i),
-        11 => operators::head(t, marks, values, f, p, q, r, state, i),
-        10 => operators::later(q, marks, values, f, p, state, i),
-        9 => operators::slower(marks, values, f, p, q, state, i),
-        8 => operators::faster(t, marks, values, f, p, q, r, state, i),
+        12 => carried::tail(marks, values, f, p, state, i),
+        11 => carried::head(t, marks, values, f, p, q, r, state, i),
+        10 => carried::later(q, marks, values, f, p, state, i),
+        9 => carried::slower(marks, values, f, p, q, state, i),
+        8 => carried::faster(t, marks, values, f, p, q, r, state, i),
         7 => operators::registered(marks, values, f, q, state[i]),
-        1 => operators::constant(t, p, q, state, i),
-        0 => operators::input(t, p, log, at, state, i),
+        1 => carried::constant(t, p, q, state, i),
+        0 => carried::input(t, p, log, at, state, i),
         2..=6 => match code {
             2 => operators::combined(2, marks, values, f, p, q),
             3 => operators::combined(3, marks, values, f, p, q),

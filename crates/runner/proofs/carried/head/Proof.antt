@@ -2,8 +2,8 @@
 use Rattle.runner.proofs.Words.{unchanged}
 use borrow.Author.Tests.{eq-eqb, ne-eqb, le-leb, lt-leb, lt-ltb}
 use borrow.Author.Needs.{needs}
-use Rattle.runner.proofs.operators.head.Statement.{statement}
-use Rattle.runner.proofs.operators.head.Tie as tie
+use Rattle.runner.proofs.carried.head.Statement.{statement}
+use Rattle.runner.proofs.carried.head.Tie as tie
 
 shared-slice-read-if1 : tie.Need-shared-slice-read-if1
 shared-slice-read-if1 c = search needs
@@ -18,10 +18,10 @@ after-requires : tie.Need-after-requires
 after-requires c κs = search needs
 
 returns : tie.Need-returns
-returns c = unchanged (simp (eq-eqb _ _ (c .if2 .taken), eq-eqb _ _ (c .before .if1 .taken), lt-ltb _ _ (c .before .before .before .before .before .before .pre .0))) (simp (eq-eqb _ _ (c .if2 .taken), eq-eqb _ _ (c .before .if1 .taken), lt-ltb _ _ (c .before .before .before .before .before .before .pre .0)))
+returns c = unchanged (simp (eq-eqb _ _ (c .if2 .taken), eq-eqb _ _ (c .before .if1 .taken), lt-ltb _ _ (c .before .before .before .before .before .before .pre .0))) (simp (eq-eqb _ _ (c .before .if1 .taken), lt-ltb _ _ (c .before .before .before .before .before .before .pre .0)))
 
 returns-2 : tie.Need-returns-2
-returns-2 c = unchanged (simp (ne-eqb _ _ (c .if2 .left), eq-eqb _ _ (c .before .if1 .taken), lt-ltb _ _ (c .before .before .before .before .before .before .pre .0))) (simp (ne-eqb _ _ (c .if2 .left), eq-eqb _ _ (c .before .if1 .taken), lt-ltb _ _ (c .before .before .before .before .before .before .pre .0)))
+returns-2 c = unchanged (simp (ne-eqb _ _ (c .if2 .left), eq-eqb _ _ (c .before .if1 .taken), lt-ltb _ _ (c .before .before .before .before .before .before .pre .0))) (simp (eq-eqb _ _ (c .before .if1 .taken), lt-ltb _ _ (c .before .before .before .before .before .before .pre .0)))
 
 returns-3 : tie.Need-returns-3
 returns-3 c = unchanged (simp (le-leb _ _ (c .if3 .taken), ne-eqb _ _ (c .before .if1 .left), lt-ltb _ _ (c .before .before .before .before .before .before .pre .0))) (simp (le-leb _ _ (c .if3 .taken), ne-eqb _ _ (c .before .if1 .left), lt-ltb _ _ (c .before .before .before .before .before .before .pre .0)))

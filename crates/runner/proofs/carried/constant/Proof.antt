@@ -2,8 +2,8 @@
 use Rattle.runner.proofs.Words.{unchanged, first}
 use borrow.Author.Tests.{eq-eqb, ne-eqb}
 use borrow.Author.Needs.{needs}
-use Rattle.runner.proofs.operators.constant.Statement.{statement}
-use Rattle.runner.proofs.operators.constant.Tie as tie
+use Rattle.runner.proofs.carried.constant.Statement.{statement}
+use Rattle.runner.proofs.carried.constant.Tie as tie
 
 mul-if1 : tie.Need-mul-if1
 mul-if1 c = search needs

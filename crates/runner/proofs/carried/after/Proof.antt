@@ -2,8 +2,8 @@
 use Rattle.runner.proofs.Words.{unchanged, first}
 use borrow.Author.Tests.{eq-eqb, ne-eqb}
 use borrow.Author.Needs.{needs}
-use Rattle.runner.proofs.operators.after.Statement.{statement}
-use Rattle.runner.proofs.operators.after.Tie as tie
+use Rattle.runner.proofs.carried.after.Statement.{statement}
+use Rattle.runner.proofs.carried.after.Tie as tie
 
 mul-due : tie.Need-mul-due
 mul-due c = search needs

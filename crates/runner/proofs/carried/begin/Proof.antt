@@ -6,8 +6,8 @@ use mathlib.Core.Path.{refl}
 use native.Mathlib.Omega.{arith}
 use Rattle.runner.proofs.Words.{all}
 use borrow.Author.Needs.{needs}
-use Rattle.runner.proofs.operators.begin.Statement.{statement}
-use Rattle.runner.proofs.operators.begin.Tie as tie
+use Rattle.runner.proofs.carried.begin.Statement.{statement}
+use Rattle.runner.proofs.carried.begin.Tie as tie
 
 mul-state : tie.Need-mul-state
 mul-state c = search needs

@@ -2,8 +2,8 @@
 use Rattle.runner.proofs.Words.{unchanged, first}
 use borrow.Author.Tests.{eq-eqb, ne-eqb, lt-ltb}
 use borrow.Author.Needs.{needs}
-use Rattle.runner.proofs.operators.slower.Statement.{statement}
-use Rattle.runner.proofs.operators.slower.Tie as tie
+use Rattle.runner.proofs.carried.slower.Statement.{statement}
+use Rattle.runner.proofs.carried.slower.Tie as tie
 
 shared-slice-read-if1 : tie.Need-shared-slice-read-if1
 shared-slice-read-if1 c = search needs

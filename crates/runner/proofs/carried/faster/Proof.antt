@@ -2,8 +2,8 @@
 use Rattle.runner.proofs.Words.{unchanged}
 use borrow.Author.Tests.{eq-eqb, ne-eqb, lt-ltb}
 use borrow.Author.Needs.{needs}
-use Rattle.runner.proofs.operators.faster.Statement.{statement}
-use Rattle.runner.proofs.operators.faster.Tie as tie
+use Rattle.runner.proofs.carried.faster.Statement.{statement}
+use Rattle.runner.proofs.carried.faster.Tie as tie
 
 shared-slice-read-if1 : tie.Need-shared-slice-read-if1
 shared-slice-read-if1 c = search needs

@@ -6,8 +6,8 @@ use native.Mathlib.Omega.{arith}
 use Rattle.runner.proofs.Words.{unchanged, second}
 use borrow.Author.Tests.{eq-eqb, ne-eqb, lt-ltb, le-ltb}
 use borrow.Author.Needs.{needs}
-use Rattle.runner.proofs.operators.copied.Statement.{statement}
-use Rattle.runner.proofs.operators.copied.Tie as tie
+use Rattle.runner.proofs.carried.copied.Statement.{statement}
+use Rattle.runner.proofs.carried.copied.Tie as tie
 
 add-next : tie.Need-add-next
 add-next c = search needs

@@ -1,8 +1,8 @@
 -- `same` meets its contract. Assumes nothing.
 use borrow.Author.Tests.{eq-eqb, ne-eqb, lt-ltb}
 use borrow.Author.Needs.{needs}
-use Rattle.runner.proofs.operators.same.Statement.{statement}
-use Rattle.runner.proofs.operators.same.Tie as tie
+use Rattle.runner.proofs.carried.same.Statement.{statement}
+use Rattle.runner.proofs.carried.same.Tie as tie
 
 shared-slice-read-if1 : tie.Need-shared-slice-read-if1
 shared-slice-read-if1 c = search needs

@@ -4,8 +4,8 @@ use native.Mathlib.Omega.{arith}
 use Rattle.runner.proofs.Words.{unchanged, first}
 use borrow.Author.Tests.{eq-eqb, ne-eqb}
 use borrow.Author.Needs.{needs}
-use Rattle.runner.proofs.operators.input.Statement.{statement}
-use Rattle.runner.proofs.operators.input.Tie as tie
+use Rattle.runner.proofs.carried.input.Statement.{statement}
+use Rattle.runner.proofs.carried.input.Tie as tie
 
 mul-if1 : tie.Need-mul-if1
 mul-if1 c = search needs

@@ -1,8 +1,8 @@
 -- `later` meets its contract. Assumes nothing.
 use borrow.Author.Tests.{eq-eqb, ne-eqb}
 use borrow.Author.Needs.{needs}
-use Rattle.runner.proofs.operators.later.Statement.{statement}
-use Rattle.runner.proofs.operators.later.Tie as tie
+use Rattle.runner.proofs.carried.later.Statement.{statement}
+use Rattle.runner.proofs.carried.later.Tie as tie
 
 same-requires : tie.Need-same-requires
 same-requires c κs = search needs

@@ -1,0 +1,284 @@
+// The operators whose rows carry words from tick to tick: what each makes of its operand's cell, which stands below f in marks and values, and
+// of its words, which stand from i on in state.
+ghost use mathlib.Core.Path.{_≡_};
+ghost use Prim.Native.Nat.{ℕ, _+_, _*_, _≤_, _<_, _^_};
+ghost use lib.ListN.{length, getD};
+ghost use Rattle.runner.specs.Private.Carried.{outcomeOf, cellsIn, heldIn, Did, timedStep, timedNext, fasterStep, fasterNext, begun, slowerStep, slowerNext, laterStep, afterStep, afterNext, headStep, headNext, tailStep, tailNext};
+ghost use Rattle.runner.specs.Operators.{is};
+ghost use Rattle.runner.specs.Cells.{absent, present};
+use crate::operators::ABSENT;
+use crate::operators::CLASH;
+use crate::operators::Outcome;
+
+// Input: carries the next tick at which it is present, and its number among the inputs.
+pub(crate) fn input(
+    t: u32,
+    period: u32,
+    log: &[u32],
+    at: usize,
+    state: &mut [u32],
+    i: usize,
+) -> Outcome
+    requires { ⌜ (i + 4 ≤ length (now state)) × (t < 2 ^ 24) × (period < 2 ^ 12) × (at < 2 ^ 40) ⌝ }
+    ensures { λ r. ⌜ Did (timedStep t (getD (now (log .entry)) (at + heldIn (now (state .entry)) i .y) 0) (heldIn (now (state .entry)) i))
+        (timedNext t period (heldIn (now (state .entry)) i)) i (now (state .entry)) (now (state .exit)) r ⌝ }
+{
+    if t == state[i] {
+        let k = state[i + 1] as usize;
+        state[i] = t + period;
+        Outcome {
+            mark: 1,
+            value: table::word_at(log, at + k),
+        }
+    } else {
+        ABSENT
+    }
+}
+
+// Constant: carries the next tick at which it is present.
+pub(crate) fn constant(t: u32, value: u32, period: u32, state: &mut [u32], i: usize) -> Outcome
+    requires { ⌜ (i + 4 ≤ length (now state)) × (t < 2 ^ 24) × (period < 2 ^ 12) ⌝ }
+    ensures { λ r. ⌜ Did (timedStep t value (heldIn (now (state .entry)) i)) (timedNext t period (heldIn (now (state .entry)) i)) i
+        (now (state .entry)) (now (state .exit)) r ⌝ }
+{
+    if t == state[i] {
+        state[i] = t + period;
+        Outcome { mark: 1, value }
+    } else {
+        ABSENT
+    }
+}
+
+// A presence of a faster row's operand: its value, the next copy's tick and the tick of the next presence are carried.
+fn begin(t: u32, v: u32, k: u32, gap: u32, state: &mut [u32], i: usize) -> Outcome
+    requires { ⌜ (i + 4 ≤ length (now state)) × (t < 2 ^ 24) × (k < 2 ^ 6) × (gap < 2 ^ 12) ⌝ }
+    ensures { λ r. ⌜ Did (is (present v)) (begun t v k gap) i (now (state .entry)) (now (state .exit)) r ⌝ }
+{
+    state[i] = v;
+    state[i + 1] = t + gap;
+    state[i + 2] = t + k * gap;
+    Outcome { mark: 1, value: v }
+}
+
+// The copy of a faster row's latest presence, at its tick.
+fn copied(t: u32, gap: u32, state: &mut [u32], i: usize) -> Outcome
+    requires { ⌜ (i + 4 ≤ length (now state)) × (t < 2 ^ 24) × (gap < 2 ^ 12) ⌝ }
+    ensures { λ r. ⌜ ((k : ℕ)
+        → Did (fasterStep t absent (heldIn (now (state .entry)) i)) (fasterNext t absent k gap (heldIn (now (state .entry)) i)) i
+        (now (state .entry)) (now (state .exit)) r) ⌝ }
+{
+    let next = state[i + 1];
+    let end = state[i + 2];
+    if t == next {
+        if next < end {
+            state[i + 1] = t + gap;
+            Outcome {
+                mark: 1,
+                value: state[i],
+            }
+        } else {
+            ABSENT
+        }
+    } else {
+        ABSENT
+    }
+}
+
+// Faster: carries the latest value, the next copy's tick, and the tick at which the next presence is due, 0 before the first.
+pub(crate) fn faster(
+    t: u32,
+    marks: &[u8],
+    values: &[u32],
+    f: usize,
+    a: u32,
+    k: u32,
+    gap: u32,
+    state: &mut [u32],
+    i: usize,
+) -> Outcome
+    requires { ⌜ (a < f)
+        × (f ≤ length (now marks))
+        × (f ≤ length (now values))
+        × (i + 4 ≤ length (now state))
+        × (t < 2 ^ 24)
+        × (k < 2 ^ 6)
+        × (gap < 2 ^ 12) ⌝ }
+    ensures { λ r. ⌜ Did (fasterStep t (cellsIn (now (marks .entry)) (now (values .entry)) f a) (heldIn (now (state .entry)) i))
+        (fasterNext t (cellsIn (now (marks .entry)) (now (values .entry)) f a) k gap (heldIn (now (state .entry)) i)) i
+        (now (state .entry)) (now (state .exit)) r ⌝ }
+{
+    let j = a as usize;
+    if marks[j] == 0 {
+        copied(t, gap, state, i)
+    } else {
+        let end = state[i + 2];
+        if end == 0 {
+            begin(t, values[j], k, gap, state, i)
+        } else {
+            if t == end {
+                begin(t, values[j], k, gap, state, i)
+            } else {
+                CLASH
+            }
+        }
+    }
+}
+
+// Slower: carries how many presences are still to be left out.
+pub(crate) fn slower(
+    marks: &[u8],
+    values: &[u32],
+    f: usize,
+    a: u32,
+    k: u32,
+    state: &mut [u32],
+    i: usize,
+) -> Outcome
+    requires { ⌜ (a < f) × (f ≤ length (now marks)) × (f ≤ length (now values)) × (i + 4 ≤ length (now state)) × (1 ≤ k) ⌝ }
+    ensures { λ r. ⌜ Did (slowerStep (cellsIn (now (marks .entry)) (now (values .entry)) f a) (heldIn (now (state .entry)) i))
+        (slowerNext (cellsIn (now (marks .entry)) (now (values .entry)) f a) k (heldIn (now (state .entry)) i)) i
+        (now (state .entry)) (now (state .exit)) r ⌝ }
+{
+    let j = a as usize;
+    if marks[j] == 0 {
+        return ABSENT;
+    }
+    let left = state[i];
+    if left == 0 {
+        state[i] = k - 1;
+        Outcome {
+            mark: 1,
+            value: values[j],
+        }
+    } else {
+        state[i] = left - 1;
+        ABSENT
+    }
+}
+
+// A cell as it is.
+fn same(marks: &[u8], values: &[u32], f: usize, a: u32) -> Outcome
+    requires { ⌜ (a < f) × (f ≤ length (now marks)) × (f ≤ length (now values)) ⌝ }
+    ensures { λ r. ⌜ r ≡ outcomeOf (is (cellsIn (now (marks .entry)) (now (values .entry)) f a)) ⌝ }
+{
+    let j = a as usize;
+    if marks[j] == 0 {
+        ABSENT
+    } else {
+        Outcome {
+            mark: 1,
+            value: values[j],
+        }
+    }
+}
+
+// Later: the operand itself where d is 0, else what was collected.
+pub(crate) fn later(
+    d: u32,
+    marks: &[u8],
+    values: &[u32],
+    f: usize,
+    a: u32,
+    state: &[u32],
+    i: usize,
+) -> Outcome
+    requires { ⌜ (a < f) × (f ≤ length (now marks)) × (f ≤ length (now values)) × (i + 4 ≤ length (now state)) ⌝ }
+    ensures { λ r. ⌜ r ≡ outcomeOf (laterStep (cellsIn (now (marks .entry)) (now (values .entry)) f a) d (heldIn (now (state .entry)) i)) ⌝ }
+{
+    if d == 0 {
+        return same(marks, values, f, a);
+    }
+    if state[i] == 0 {
+        ABSENT
+    } else {
+        Outcome {
+            mark: 1,
+            value: state[i + 1],
+        }
+    }
+}
+
+// A presence of a head row's operand, after tick s.
+fn after(t: u32, x: u32, s: u32, state: &mut [u32], i: usize) -> Outcome
+    requires { ⌜ (i + 4 ≤ length (now state)) × (t < 2 ^ 24) × (s < t) ⌝ }
+    ensures { λ r. ⌜ Did (afterStep t x (heldIn (now (state .entry)) i)) (afterNext t s (heldIn (now (state .entry)) i)) i (now (state .entry))
+        (now (state .exit)) r ⌝ }
+{
+    let due = state[i];
+    if due == 0 {
+        state[i] = t + (t - s);
+        return Outcome { mark: 1, value: x };
+    }
+    if due == 1 {
+        return Outcome { mark: 1, value: x };
+    }
+    if t == due {
+        state[i] = 1;
+        Outcome { mark: 1, value: x }
+    } else {
+        CLASH
+    }
+}
+
+// Head: carries 0 before the operand's first presence, then the tick at which the second is due, and 1 after that.
+pub(crate) fn head(
+    t: u32,
+    marks: &[u8],
+    values: &[u32],
+    f: usize,
+    a: u32,
+    v: u32,
+    s: u32,
+    state: &mut [u32],
+    i: usize,
+) -> Outcome
+    requires { ⌜ (a < f) × (f ≤ length (now marks)) × (f ≤ length (now values)) × (i + 4 ≤ length (now state)) × (t < 2 ^ 24) ⌝ }
+    ensures { λ r. ⌜ Did (headStep t (cellsIn (now (marks .entry)) (now (values .entry)) f a) v s (heldIn (now (state .entry)) i))
+        (headNext t (cellsIn (now (marks .entry)) (now (values .entry)) f a) s (heldIn (now (state .entry)) i)) i
+        (now (state .entry)) (now (state .exit)) r ⌝ }
+{
+    let j = a as usize;
+    if marks[j] == 0 {
+        if t == s {
+            Outcome { mark: 1, value: v }
+        } else {
+            ABSENT
+        }
+    } else {
+        if t <= s {
+            CLASH
+        } else {
+            after(t, values[j], s, state, i)
+        }
+    }
+}
+
+// Tail: carries 0 before the operand's first presence, then 1.
+pub(crate) fn tail(
+    marks: &[u8],
+    values: &[u32],
+    f: usize,
+    a: u32,
+    state: &mut [u32],
+    i: usize,
+) -> Outcome
+    requires { ⌜ (a < f) × (f ≤ length (now marks)) × (f ≤ length (now values)) × (i + 4 ≤ length (now state)) ⌝ }
+    ensures { λ r. ⌜ Did (tailStep (cellsIn (now (marks .entry)) (now (values .entry)) f a) (heldIn (now (state .entry)) i))
+        (tailNext (cellsIn (now (marks .entry)) (now (values .entry)) f a) (heldIn (now (state .entry)) i)) i
+        (now (state .entry))
+        (now (state .exit)) r ⌝ }
+{
+    let j = a as usize;
+    if marks[j] == 0 {
+        return ABSENT;
+    }
+    if state[i] == 0 {
+        state[i] = 1;
+        ABSENT
+    } else {
+        Outcome {
+            mark: 1,
+            value: values[j],
+        }
+    }
+}
