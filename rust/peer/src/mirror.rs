@@ -2,32 +2,21 @@
 //! decisions in the same order.
 //!
 //! It follows the proved code and not the paper, so it is no oracle and its agreement with the library says nothing
-//! about either. It is for the benchmark alone, which tells from it what the same algorithm takes in safe Rust.
+//! about either. It is for the benchmark alone, which tells from it what the same algorithm takes in safe Rust. Where
+//! Rust can say a step in several ways this has the quickest one that was tried: a row's carried words in an array of
+//! their own, an operand's mark and value read together.
 
 use crate::plan::{runnable, Row};
 use crate::{Answer, MOST_FLOWS};
 
-/// How many kinds there are.
-const KINDS: u32 = 16;
-
 /// The words that a row carries from tick to tick.
 type Held = [u32; 4];
 
-/// The cells of a tick, of which an operator reads what it needs: a mark is 1 where a flow is present, else 0.
+/// A flow at a tick: its mark, 1 present or 0 absent, and its value.
 #[derive(Clone, Copy)]
-struct Cells<'a> {
-    marks: &'a [u8],
-    values: &'a [u32],
-}
-
-impl Cells<'_> {
-    fn absent(&self, flow: u32) -> bool {
-        self.marks[flow as usize] == 0
-    }
-
-    fn value(&self, flow: u32) -> u32 {
-        self.values[flow as usize]
-    }
+struct Signal {
+    mark: u8,
+    value: u32,
 }
 
 /// What a row comes to at a tick: its cell, or the mark of a clash.
@@ -179,27 +168,20 @@ fn outcome(
     marks: &[u8],
     values: &[u32],
 ) -> Outcome {
-    let cells = Cells { marks, values };
-    let code = kind % KINDS;
-    match code {
-        15 => merged(cells, p, q, r),
-        14 => sampled(false, cells, p, q),
-        13 => sampled(true, cells, p, q),
-        12 => tail(cells, p, held),
-        11 => head(t, cells, p, q, r, held),
-        10 => later(q, cells, p, held),
-        9 => slower(cells, p, q, held),
-        8 => faster(t, cells, p, q, r, held),
-        7 => registered(cells, q, held[0]),
-        1 => constant(t, p, q, held),
+    let signal = |flow: u32| Signal { mark: marks[flow as usize], value: values[flow as usize] };
+    match kind {
         0 => input(t, p, log, at, held),
-        2..=6 => match code {
-            2 => combined(2, cells, p, q),
-            3 => combined(3, cells, p, q),
-            4 => combined(4, cells, p, q),
-            5 => combined(5, cells, p, q),
-            _ => combined(6, cells, p, q),
-        },
+        1 => constant(t, p, q, held),
+        2..=6 => combined(kind, signal(p), signal(q)),
+        7 => registered(signal(q), held[0]),
+        8 => faster(t, signal(p), q, r, held),
+        9 => slower(signal(p), q, held),
+        10 => later(q, signal(p), held),
+        11 => head(t, signal(p), q, r, held),
+        12 => tail(signal(p), held),
+        13 => sampled(true, signal(p), signal(q)),
+        14 => sampled(false, signal(p), signal(q)),
+        15 => merged(signal(p), signal(q), signal(r)),
         16..=u32::MAX => CLASH,
     }
 }
@@ -223,14 +205,14 @@ fn constant(t: u32, value: u32, period: u32, held: &mut Held) -> Outcome {
 }
 
 /// Kinds 2 to 6: present when both operands are.
-fn combined(kind: u32, cells: Cells, x: u32, y: u32) -> Outcome {
-    if cells.absent(x) {
-        return if cells.absent(y) { ABSENT } else { CLASH };
+fn combined(kind: u32, x: Signal, y: Signal) -> Outcome {
+    if x.mark == 0 {
+        return if y.mark == 0 { ABSENT } else { CLASH };
     }
-    if cells.absent(y) {
+    if y.mark == 0 {
         return CLASH;
     }
-    let (x, y) = (cells.value(x), cells.value(y));
+    let (x, y) = (x.value, y.value);
     present(match kind {
         2 => x.wrapping_add(y),
         3 => x.wrapping_sub(y),
@@ -241,8 +223,8 @@ fn combined(kind: u32, cells: Cells, x: u32, y: u32) -> Outcome {
 }
 
 /// Register: carries the value of its source's latest presence, at first the initial value.
-fn registered(cells: Cells, beat: u32, held: u32) -> Outcome {
-    if cells.absent(beat) {
+fn registered(beat: Signal, held: u32) -> Outcome {
+    if beat.mark == 0 {
         ABSENT
     } else {
         present(held)
@@ -251,9 +233,9 @@ fn registered(cells: Cells, beat: u32, held: u32) -> Outcome {
 
 /// Faster: carries the latest value, the next copy's tick, and the tick at which the next presence is due, 0 before
 /// the first.
-fn faster(t: u32, cells: Cells, a: u32, k: u32, gap: u32, held: &mut Held) -> Outcome {
+fn faster(t: u32, a: Signal, k: u32, gap: u32, held: &mut Held) -> Outcome {
     let due = held[2];
-    if cells.absent(a) {
+    if a.mark == 0 {
         if t != held[1] || t >= due {
             return ABSENT;
         }
@@ -263,15 +245,15 @@ fn faster(t: u32, cells: Cells, a: u32, k: u32, gap: u32, held: &mut Held) -> Ou
     if due != 0 && due != t {
         return CLASH;
     }
-    held[0] = cells.value(a);
+    held[0] = a.value;
     held[1] = t + gap;
     held[2] = t + k * gap;
-    present(cells.value(a))
+    present(a.value)
 }
 
 /// Slower: carries how many presences are still to be left out.
-fn slower(cells: Cells, a: u32, k: u32, held: &mut Held) -> Outcome {
-    if cells.absent(a) {
+fn slower(a: Signal, k: u32, held: &mut Held) -> Outcome {
+    if a.mark == 0 {
         return ABSENT;
     }
     if held[0] != 0 {
@@ -279,13 +261,13 @@ fn slower(cells: Cells, a: u32, k: u32, held: &mut Held) -> Outcome {
         return ABSENT;
     }
     held[0] = k - 1;
-    present(cells.value(a))
+    present(a.value)
 }
 
 /// Later: the operand itself where d is 0, else what was collected.
-fn later(d: u32, cells: Cells, a: u32, held: &Held) -> Outcome {
+fn later(d: u32, a: Signal, held: &Held) -> Outcome {
     if d == 0 {
-        return if cells.absent(a) { ABSENT } else { present(cells.value(a)) };
+        return if a.mark == 0 { ABSENT } else { present(a.value) };
     }
     if held[0] == 0 {
         ABSENT
@@ -295,8 +277,8 @@ fn later(d: u32, cells: Cells, a: u32, held: &Held) -> Outcome {
 }
 
 /// Head: carries 0 before the operand's first presence, then the tick at which the second is due, and 1 after that.
-fn head(t: u32, cells: Cells, a: u32, value: u32, s: u32, held: &mut Held) -> Outcome {
-    if cells.absent(a) {
+fn head(t: u32, a: Signal, value: u32, s: u32, held: &mut Held) -> Outcome {
+    if a.mark == 0 {
         return if t == s { present(value) } else { ABSENT };
     }
     if t <= s {
@@ -308,44 +290,44 @@ fn head(t: u32, cells: Cells, a: u32, value: u32, s: u32, held: &mut Held) -> Ou
         due if due == t => held[0] = 1,
         _ => return CLASH,
     }
-    present(cells.value(a))
+    present(a.value)
 }
 
 /// Tail: carries 0 before the operand's first presence, then 1.
-fn tail(cells: Cells, a: u32, held: &mut Held) -> Outcome {
-    if cells.absent(a) {
+fn tail(a: Signal, held: &mut Held) -> Outcome {
+    if a.mark == 0 {
         return ABSENT;
     }
     if held[0] == 0 {
         held[0] = 1;
         return ABSENT;
     }
-    present(cells.value(a))
+    present(a.value)
 }
 
 /// When, when-not: present where both are and c has the truth wanted.
-fn sampled(wanted: bool, cells: Cells, a: u32, c: u32) -> Outcome {
-    if cells.absent(a) {
-        return if cells.absent(c) { ABSENT } else { CLASH };
+fn sampled(wanted: bool, a: Signal, c: Signal) -> Outcome {
+    if a.mark == 0 {
+        return if c.mark == 0 { ABSENT } else { CLASH };
     }
-    if cells.absent(c) {
+    if c.mark == 0 {
         return CLASH;
     }
-    if (cells.value(c) != 0) == wanted {
-        present(cells.value(a))
+    if (c.value != 0) == wanted {
+        present(a.value)
     } else {
         ABSENT
     }
 }
 
 /// Merge: the one that the truth of c names, alone.
-fn merged(cells: Cells, c: u32, a: u32, b: u32) -> Outcome {
-    if cells.absent(c) {
-        return if cells.absent(a) && cells.absent(b) { ABSENT } else { CLASH };
+fn merged(c: Signal, a: Signal, b: Signal) -> Outcome {
+    if c.mark == 0 {
+        return if a.mark == 0 && b.mark == 0 { ABSENT } else { CLASH };
     }
-    let (x, y) = if cells.value(c) == 0 { (b, a) } else { (a, b) };
-    if cells.absent(x) || !cells.absent(y) {
+    let (x, y) = if c.value == 0 { (b, a) } else { (a, b) };
+    if x.mark == 0 || y.mark != 0 {
         return CLASH;
     }
-    present(cells.value(x))
+    present(x.value)
 }
