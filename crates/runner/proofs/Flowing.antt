@@ -16,7 +16,7 @@ use Rattle.runner.specs.Cells.{Cell, absent, present, value}
 use Rattle.runner.specs.Operators.{Step, is, clashes}
 use Rattle.runner.specs.Runs.{Tick, Ticks, cellIn, history, inputs, cellOf, TickEnd, filled, stopped, onStep, flowsFrom}
 use Rattle.runner.specs.Answers.{markByte}
-use Rattle.runner.specs.Private.Carried.{outcomeOf, Held, heldIn, cellsIn, decode, stepOf, nextOf, Did}
+use Rattle.runner.specs.Private.Carried.{clashMark, outcomeOf, Held, heldIn, cellsIn, decode, stepOf, nextOf, Did}
 use Rattle.runner.specs.Private.Ready.{Carries, Collected, Follows, AllCarry, AllFollow, Ready, Wrote, FlowsEnd}
 use Rattle.runner.proofs.Cells.{wrote-more, here-is}
 use Rattle.runner.proofs.Tabled.{Row-at, row-of}
@@ -27,7 +27,7 @@ abbrev pub fields : List ℕ → ℕ → Row
 fields words f = decode (getD words (4 * f) 0) (getD words (4 * f + 1) 0) (getD words (4 * f + 2) 0) (getD words (4 * f + 3) 0)
 
 -- what an outcome tells of the step
-clash-told : (x : Step) → outcomeOf x .mark ≡ 2 → x ≡ clashes
+clash-told : (x : Step) → outcomeOf x .mark ≡ clashMark → x ≡ clashes
 clash-told (is absent) e = absurd (omega (arith, e))
 clash-told (is (present v)) e = absurd (omega (arith, e))
 clash-told clashes e = refl
@@ -36,7 +36,7 @@ record Told (x : Step) : Type 0 where
   pub cell : Cell
   pub told : x ≡ is cell
 
-cell-told : (x : Step) → (outcomeOf x .mark ≡ 2 → ⊥) → Told x
+cell-told : (x : Step) → (outcomeOf x .mark ≡ clashMark → ⊥) → Told x
 cell-told (is c) u = record { cell = c; told = refl }
 cell-told clashes u = absurd (u refl)
 
@@ -107,7 +107,7 @@ module _ (n : ℕ) (words log : List ℕ) (rows : List Row) (T : Table n words r
 
       module _ (s′ : List ℕ) (r : Outcome)
           (D : Did (stepOf (fields words f) t log at (cellsIn ms vs f) (heldIn s (4 * f))) (nextOf (fields words f) t (cellsIn ms vs f) (heldIn s (4 * f))) (4 * f) s s′ r) where
-        pub stops : r .mark ≡ 2 → FlowsEnd rows t past (flowsFrom rows log past [] rows) ms₀ vs₀ ms vs s′ (ticked.Stopped f)
+        pub stops : r .mark ≡ clashMark → FlowsEnd rows t past (flowsFrom rows log past [] rows) ms₀ vs₀ ms vs s′ (ticked.Stopped f)
         stops e =
             let c : cellOf rows log past (G .now) (rowAt rows f) ≡ clashes = sym step-is ∙ sym near ∙ clash-told _ (ap (λ (o : Outcome). o .mark) (sym (D .answer)) ∙ e) in
             let q : flowsFrom rows log past [] rows ≡ stopped (length (G .now)) (G .now) =
@@ -148,7 +148,7 @@ module _ (n : ℕ) (words log : List ℕ) (rows : List Row) (T : Table n words r
                 (subst (λ (i : ℕ). Follows rows f (rowAt rows f) i (G .now) past (nextOf (rowAt rows f) (length past) (cellIn (G .now)) (heldIn s (4 * f)))) (R .ticks)
                 (row-follows n f rows log past (G .now) (heldIn s (4 * f)) at (rowAt rows f) c (row .fits) carried (sym near ∙ e)))))
 
-        pub goes-on : (ms′ vs′ : List ℕ) → (r .mark ≡ 2 → ⊥) → f < length ms₀ → f < length vs₀ → ms′ ≡ set ms f (r .mark) → vs′ ≡ set vs f (r .value)
+        pub goes-on : (ms′ vs′ : List ℕ) → (r .mark ≡ clashMark → ⊥) → f < length ms₀ → f < length vs₀ → ms′ ≡ set ms f (r .mark) → vs′ ≡ set vs f (r .value)
             → Going rows log past t s₀ ms₀ vs₀ s′ ms′ vs′ (f + 1)
         goes-on ms′ vs′ u lm lv em ev =
             let k = cell-told _ (λ e. u (ap (λ (o : Outcome). o .mark) (D .answer) ∙ e)) in

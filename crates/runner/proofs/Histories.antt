@@ -20,6 +20,15 @@ use Rattle.runner.proofs.Copies.{never-is}
 beyond : (a i n : ℕ) → a % n ≡ 0 → i < n → (a + i) % n ≡ i
 beyond a i n z l = sym (mod-add-mod a n i) ∙ ap (λ (m : ℕ). (m + i) % n) z ∙ ap (λ (m : ℕ). m % n) (zero-add i) ∙ mod-eq-of-lt l
 
+-- a test that chooses between cells
+either : (b : Bool) (c : Cell) → cond b c c ≡ c
+either true c = refl
+either false c = refl
+
+is-either : (b : Bool) (c d : Cell) → cond b (is c) (is d) ≡ is (cond b c d)
+is-either true c d = refl
+is-either false c d = refl
+
 -- Input, constant.
 module _ (n p t : ℕ) (w : Held) (d : Due n p t (w .x)) where
   pub timed-steps : (v : ℕ) → timedStep t v w ≡ is (timed n p t v)
@@ -84,16 +93,8 @@ module _ (k : ℕ) (h : History) (w : Held) (s : ((count h + w .x) % k ≡ 0) ×
 
   pub slower-steps : (a : Cell) → slowerStep a w ≡ is (slowerOf k a h)
   unfolding slowerOf
-  slower-steps absent = ap is (sym (none (eqb (count h % k) 0)))
-    where
-      none : (b : Bool) → cond b absent absent ≡ absent
-      none true = refl
-      none false = refl
-  slower-steps (present v) = rw (left-out) (which (eqb (count h % k) 0))
-    where
-      which : (b : Bool) → cond b (is (present v)) (is absent) ≡ is (cond b (present v) absent)
-      which true = refl
-      which false = refl
+  slower-steps absent = ap is (sym (either (eqb (count h % k) 0) absent))
+  slower-steps (present v) = rw (left-out) (is-either (eqb (count h % k) 0) (present v) absent)
 
   pub slower-follows : (a : Cell) → ((count (a ∷ h) + slowerNext a k w .x) % k ≡ 0) × (slowerNext a k w .x < k)
   unfolding count
@@ -115,16 +116,8 @@ module _ (k : ℕ) (h : History) (w : Held) (s : ((count h + w .x) % k ≡ 0) ×
 module _ (h : History) (w : Held) (s : eqb (w .x) 0 ≡ eqb (count h) 0) where
   pub tail-steps : (a : Cell) → tailStep a w ≡ is (tailOf a h)
   unfolding tailOf
-  tail-steps absent = ap is (sym (none (eqb (count h) 0)))
-    where
-      none : (b : Bool) → cond b absent absent ≡ absent
-      none true = refl
-      none false = refl
-  tail-steps (present v) = rw (s) (which (eqb (count h) 0))
-    where
-      which : (b : Bool) → cond b (is absent) (is (present v)) ≡ is (cond b absent (present v))
-      which true = refl
-      which false = refl
+  tail-steps absent = ap is (sym (either (eqb (count h) 0) absent))
+  tail-steps (present v) = rw (s) (is-either (eqb (count h) 0) absent (present v))
 
   pub tail-follows : (a : Cell) → eqb (tailNext a w .x) 0 ≡ eqb (count (a ∷ h)) 0
   unfolding count
@@ -155,11 +148,7 @@ module _ (v s : ℕ) (h : History) (w : Held) where
 
   pub head-steps : (a : Cell) → Heads s h (w .x) → headStep (length h) a v s w ≡ headOf v s a h
   unfolding headOf headFits
-  head-steps absent c = same (eqb (length h) s)
-    where
-      same : (b : Bool) → cond b (is (present v)) (is absent) ≡ is (cond b (present v) absent)
-      same true = refl
-      same false = refl
+  head-steps absent c = is-either (eqb (length h) s) (present v) absent
   head-steps (present x) c = go (try (leb (length h) s))
     where
       go : Tried (leb (length h) s) → headStep (length h) (present x) v s w ≡ clashUnless (ltb s (length h) && (not (eqb (count h) 1) || evenly s (length h) (latest h))) (present x)

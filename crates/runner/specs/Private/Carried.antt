@@ -16,10 +16,13 @@ use Rattle.runner.specs.Operators.{Step, is, clashes, combined, sampled,
 abbrev pub cellAt : ℕ → ℕ → Cell
 cellAt m v = cond (eqb m 0) absent (present v)
 
--- a step as an outcome
+-- a step as an outcome: the cell's mark and value, or the mark of a clash
+abbrev pub clashMark : ℕ
+clashMark = 2
+
 abbrev pub outcomeOf : Step → Outcome
 outcomeOf (is c) = record { mark = markByte c; value = value c }
-outcomeOf clashes = record { mark = 2; value = 0 }
+outcomeOf clashes = record { mark = clashMark; value = 0 }
 
 -- the cells of a tick's flows below f
 abbrev pub cellsIn : List ℕ → List ℕ → ℕ → ℕ → Cell
