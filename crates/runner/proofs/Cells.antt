@@ -1,10 +1,10 @@
 -- Cells that stand at the front of marks and values. Assumes nothing.
 use mathlib.Core.Path.{_≡_, refl, sym, _∙_, ap, subst, fun-ext}
-use Prim.Native.Nat.{ℕ, suc, _≤_, _<_}
+use Prim.Native.Nat.{ℕ, suc, _<_}
 use native.Mathlib.Numerals.{add-one}
 use native.Mathlib.Omega.{arith}
 use mathlib.Core.List.{List, [], _∷_, _++_, map}
-use lib.ListN.{length, getD, set, drop, length-append, length-drop, length-map, List·getD-map, List·getD-append, List·getD-eq-default}
+use lib.ListN.{length, getD, set, drop, length-append, length-map, List·getD-map, List·getD-append, List·getD-eq-default}
 use lib.Seq.{drop-cons, set-at, append-snoc}
 use lib.Dec.{ltb}
 use borrow.Author.Tests.{ltb-true, ltb-false}
@@ -19,9 +19,6 @@ use Rattle.runner.specs.Private.Ready.{Wrote}
 map-snoc : (g : Cell → ℕ) (xs : List Cell) (c : Cell) → map g (xs ++ (c ∷ [])) ≡ map g xs ++ (g c ∷ [])
 map-snoc g [] c = refl
 map-snoc g (x ∷ xs) c = ap (λ (l : List ℕ). g x ∷ l) (map-snoc g xs c)
-
-pub length-over : (xs ys : List ℕ) → length xs ≤ length ys → length (over xs ys) ≡ length ys
-length-over xs ys h = simp (length-append, length-drop) (omega arith)
 
 set-over : (xs ys : List ℕ) (f a : ℕ) → length xs ≡ f → f < length ys → set (over xs ys) f a ≡ over (xs ++ (a ∷ [])) ys
 set-over xs ys f a e h =

@@ -265,8 +265,7 @@ pub(crate) fn tail(
     requires { ⌜ (a < f) × (f ≤ length (now marks)) × (f ≤ length (now values)) × (i + 4 ≤ length (now state)) ⌝ }
     ensures { λ r. ⌜ Did (tailStep (cellsIn (now (marks .entry)) (now (values .entry)) f a) (heldIn (now (state .entry)) i))
         (tailNext (cellsIn (now (marks .entry)) (now (values .entry)) f a) (heldIn (now (state .entry)) i)) i
-        (now (state .entry))
-        (now (state .exit)) r ⌝ }
+        (now (state .entry)) (now (state .exit)) r ⌝ }
 {
     let j = a as usize;
     if marks[j] == 0 {

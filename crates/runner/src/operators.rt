@@ -106,9 +106,8 @@ pub(crate) fn sampled(
     c: u32,
 ) -> Outcome
     requires { ⌜ (a < f) × (c < f) × (f ≤ length (now marks)) × (f ≤ length (now values)) ⌝ }
-    ensures { λ r. ⌜ r
-        ≡ outcomeOf
-        (sampled wanted (cellsIn (now (marks .entry)) (now (values .entry)) f a)
+    ensures { λ r. ⌜ r ≡ outcomeOf (sampled wanted
+        (cellsIn (now (marks .entry)) (now (values .entry)) f a)
         (cellsIn (now (marks .entry)) (now (values .entry)) f c)) ⌝ }
 {
     let i = a as usize;
@@ -146,9 +145,8 @@ fn chosen(wanted: bool, x: u32, y: u32) -> Outcome
 // The one of two that is to be present alone.
 fn alone(marks: &[u8], values: &[u32], f: usize, one: u32, other: u32) -> Outcome
     requires { ⌜ (one < f) × (other < f) × (f ≤ length (now marks)) × (f ≤ length (now values)) ⌝ }
-    ensures { λ r. ⌜ r
-        ≡ outcomeOf
-        (alone (cellsIn (now (marks .entry)) (now (values .entry)) f one)
+    ensures { λ r. ⌜ r ≡ outcomeOf (alone
+        (cellsIn (now (marks .entry)) (now (values .entry)) f one)
         (cellsIn (now (marks .entry)) (now (values .entry)) f other)) ⌝ }
 {
     let i = one as usize;
@@ -169,9 +167,8 @@ fn alone(marks: &[u8], values: &[u32], f: usize, one: u32, other: u32) -> Outcom
 // Neither of two.
 fn neither(marks: &[u8], values: &[u32], f: usize, a: u32, b: u32) -> Outcome
     requires { ⌜ (a < f) × (b < f) × (f ≤ length (now marks)) ⌝ }
-    ensures { λ r. ⌜ r
-        ≡ outcomeOf
-        (neither (cellsIn (now (marks .entry)) (now (values .entry)) f a)
+    ensures { λ r. ⌜ r ≡ outcomeOf (neither
+        (cellsIn (now (marks .entry)) (now (values .entry)) f a)
         (cellsIn (now (marks .entry)) (now (values .entry)) f b)) ⌝ }
 {
     if marks[a as usize] == 0 {
@@ -188,10 +185,10 @@ fn neither(marks: &[u8], values: &[u32], f: usize, a: u32, b: u32) -> Outcome
 // Merge: the one that the truth of c names, alone.
 pub(crate) fn merged(marks: &[u8], values: &[u32], f: usize, c: u32, a: u32, b: u32) -> Outcome
     requires { ⌜ (c < f) × (a < f) × (b < f) × (f ≤ length (now marks)) × (f ≤ length (now values)) ⌝ }
-    ensures { λ r. ⌜ r
-        ≡ outcomeOf
-        (merged (cellsIn (now (marks .entry)) (now (values .entry)) f c)
-        (cellsIn (now (marks .entry)) (now (values .entry)) f a) (cellsIn (now (marks .entry)) (now (values .entry)) f b)) ⌝ }
+    ensures { λ r. ⌜ r ≡ outcomeOf (merged
+        (cellsIn (now (marks .entry)) (now (values .entry)) f c)
+        (cellsIn (now (marks .entry)) (now (values .entry)) f a)
+        (cellsIn (now (marks .entry)) (now (values .entry)) f b)) ⌝ }
 {
     let j = c as usize;
     if marks[j] == 0 {

@@ -16,8 +16,6 @@ use crate::operators::CLASH;
 use crate::operators::CLASHED;
 use crate::operators::Outcome;
 
-const KINDS: u32 = 16;
-
 // What a tick comes to: all of it, or a clash that names a flow.
 pub enum Ticked {
     Full,
@@ -55,7 +53,7 @@ fn outcome(
         (4 * f) (now (state .entry)) (now (state .exit)) o ⌝ }
 {
     let i = 4 * f;
-    let code = kind % KINDS;
+    let code = kind % table::KINDS;
     match code {
         15 => operators::merged(marks, values, f, p, q, r),
         14 => operators::sampled(false, marks, values, f, p, q),

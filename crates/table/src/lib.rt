@@ -97,6 +97,9 @@ pub enum Scan {
     Stopped(u32, u32),
 }
 
+// How many kinds of rows there are.
+pub const KINDS: u32 = 16;
+
 // The bytes of the longest packed table.
 pub const LONGEST_TABLE: usize = (Cursor::LAST + 7) / 8;
 

@@ -1,4 +1,5 @@
 // The rows of a table: their fields by kind, and a field's range, width and place.
+use super::KINDS;
 use super::Record;
 ghost use mathlib.Core.Path.{_≡_};
 ghost use Prim.Native.Nat.{_<_, _≤_};
@@ -27,8 +28,6 @@ const LEAST: [u32; 7] = [0, 0, 1, 1, 0, 0, 0];
 const MOST: [u32; 7] = [63, 63, 63, 4095, 4095, 4294967295, 0];
 
 const WIDTH: [u32; 7] = [6, 6, 6, 12, 12, 32, 0];
-
-pub(crate) const KINDS: u32 = 16;
 
 // By kind: its three fields as digits to base 8, the first one lowest.
 const FIELDS: [u32; 16] = [

@@ -1,5 +1,6 @@
 // Reading the packed form: a pass that judges, and a pass that stores.
 use super::Cursor;
+use super::KINDS;
 use super::Reading;
 use super::Record;
 use super::Scan;
@@ -9,7 +10,6 @@ use super::bits::byte_count;
 use super::bits::up;
 use super::held::first_field;
 use super::plain::count_fits;
-use super::rows::KINDS;
 use super::rows::judge;
 use super::rows::width_of;
 ghost use mathlib.Core.Path.{_≡_};
