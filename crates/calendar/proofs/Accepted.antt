@@ -15,8 +15,7 @@ use Rattle.checker.specs.Clocks.{Clock}
 use Rattle.checker.specs.Rules.{clockAt, sourceFits}
 use Rattle.checker.proofs.ClockLaws.{beq-same, same-clock}
 use Rattle.checker.proofs.CheckLaws.{Clocked, all-sane}
-use Rattle.runner.specs.Runs.{Tick, Ticks, filled, flowsFrom, sourceMeets, tickOf, done, run}
-use Rattle.runner.specs.Private.Ready.{Regular as Wide}
+use Rattle.semantics.specs.Runs.{Tick, Ticks, filled, flowsFrom, sourceMeets, tickOf, done, run, Regular as Wide}
 use Rattle.calendar.proofs.Dues.{due}
 use Rattle.calendar.proofs.Keeping.{Kept, Front, front-law}
 

@@ -5,10 +5,10 @@ use Rattle.table.specs.Rows.{kinds, ranged, placed, fieldsOf, rowOf, badRegiste
 use Rattle.table.specs.Plain.{split, joined, rowsFrom, tableOf}
 use Rattle.checker.specs.Rules.{clockOf, clocksFrom, clocksOf}
 use Rattle.checker.specs.Answers.{clocksWords, checking}
-use Rattle.runner.specs.Cells.{latest, onGrid}
-use Rattle.runner.specs.Operators.{combined, registered}
-use Rattle.runner.specs.Runs.{history, inputs, cellOf, flowsFrom, tickOf, run, cells}
-use Rattle.runner.specs.Answers.{running}
+use Rattle.semantics.specs.Cells.{latest, onGrid}
+use Rattle.semantics.specs.Operators.{combined, registered}
+use Rattle.semantics.specs.Runs.{history, inputs, cellOf, flowsFrom, tickOf, run, cells}
+use Rattle.semantics.specs.Answers.{running}
 use Rattle.calendar.specs.Cases.{Case, cases}
 
 pub all-cases : map (λ (c : Case). c .outcome) cases ≡ map (λ (c : Case). c .expected) cases

@@ -8,9 +8,9 @@ use Rattle.table.specs.Rows.{Op}
 use Rattle.checker.specs.Clocks.{Condition, Clock, plain, under}
 use Rattle.checker.proofs.ClockLaws.{plain-empty}
 use Rattle.checker.specs.Private.Kept.{Below}
-use Rattle.runner.specs.Cells.{Cell, absent, present, mark, History, onGrid}
-use Rattle.runner.specs.Operators.{is, clashes, combined, registered, truthOf, sampled, neither, alone, merged}
-use Rattle.runner.specs.Runs.{Tick, Ticks, cellIn}
+use Rattle.semantics.specs.Cells.{Cell, absent, present, mark, History, onGrid}
+use Rattle.semantics.specs.Operators.{is, clashes, combined, registered, truthOf, sampled, neither, alone, merged}
+use Rattle.semantics.specs.Runs.{Tick, Ticks, cellIn}
 use Rattle.calendar.proofs.Flows.{Makes, cond-mark}
 
 -- a condition of truth u, read from its flow's cell

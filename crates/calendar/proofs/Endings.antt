@@ -9,10 +9,10 @@ use Rattle.table.specs.Rows.{Row, badRegister}
 use Rattle.table.proofs.Tables.{AllFit}
 use Rattle.checker.specs.Clocks.{Clock}
 use Rattle.checker.proofs.CheckLaws.{Clocked, AllSane}
-use Rattle.runner.specs.Cells.{Cell}
-use Rattle.runner.specs.Operators.{Step, is, clashes}
-use Rattle.runner.specs.Runs.{Tick, Ticks, cellOf, TickEnd, filled, stopped, onStep, flowsFrom, sourceMeets, sourcedTick, onFlows, tickOf}
-use Rattle.runner.specs.Runs.{Ran, done, clashed, onTick, onRun, run}
+use Rattle.semantics.specs.Cells.{Cell}
+use Rattle.semantics.specs.Operators.{Step, is, clashes}
+use Rattle.semantics.specs.Runs.{Tick, Ticks, cellOf, TickEnd, filled, stopped, onStep, flowsFrom, sourceMeets, sourcedTick, onFlows, tickOf}
+use Rattle.semantics.specs.Runs.{Ran, done, clashed, onTick, onRun, run}
 use Rattle.calendar.proofs.Keeping.{Kept, Front, front-law, kept-append}
 
 pub not-filled : {f : ℕ} {x now : Tick} {A : Type 0} → stopped f x ≡ filled now → A

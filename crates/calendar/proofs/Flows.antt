@@ -11,9 +11,9 @@ use lib.ListN.{length}
 use lib.Dec.{eqb}
 use borrow.Author.Tests.{eqb-true, eqb-false, eq-eqb, ne-eqb, lt-ltb, le-ltb}
 use Rattle.table.proofs.Tests.{and-left, and-right, and-both, same-test, Tried, passed, failed, try}
-use Rattle.runner.specs.Cells.{Cell, absent, present, mark, History, back, count, Presence, latest, onGrid}
-use Rattle.runner.specs.Operators.{Step, is, clashes, copied, exactly, spaced, fasterOf, slowerOf, laterOf, tailOf, evenly}
-use Rattle.runner.specs.Operators.{headFits, headOf}
+use Rattle.semantics.specs.Cells.{Cell, absent, present, mark, History, back, count, Presence, latest, onGrid}
+use Rattle.semantics.specs.Operators.{Step, is, clashes, copied, exactly, spaced, fasterOf, slowerOf, laterOf, tailOf, evenly}
+use Rattle.semantics.specs.Operators.{headFits, headOf}
 use Rattle.calendar.proofs.Grid.{On, on-of, of-on, off-grid, next, at-first, at-second}
 
 -- present exactly at phase p plus whole periods n

@@ -8,7 +8,7 @@ use mathlib.Core.Bool.{true, false, true≢false, false≢true}
 use lib.Dec.{leb}
 use borrow.Author.Tests.{leb-true, eqb-true, le-leb, eq-eqb}
 use Rattle.table.proofs.Tests.{and-left, and-right, and-both, Tried, passed, failed, try}
-use Rattle.runner.specs.Cells.{onGrid}
+use Rattle.semantics.specs.Cells.{onGrid}
 
 -- t is phase plus whole periods
 pub record On (n p t : ℕ) : Type 0 where

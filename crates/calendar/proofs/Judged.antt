@@ -20,11 +20,11 @@ use Rattle.checker.proofs.ClockLaws.{beq-true, plain-differ}
 use Rattle.checker.proofs.RuleLaws.{Rule, by-input, by-constant, by-combine, by-register, by-faster, by-slower, by-later, by-head, by-tail}
 use Rattle.checker.proofs.RuleLaws.{by-sample, by-merge, rule-of}
 use Rattle.checker.proofs.CheckLaws.{Clocked, Sane, AllSane, all-sane, Checked, fine, bad-row, bad-source, checked}
-use Rattle.runner.specs.Cells.{mark, onGrid}
-use Rattle.runner.specs.Operators.{clashes}
-use Rattle.runner.specs.Runs.{Tick, Ticks, cellIn, history, cellOf, filled, flowsFrom, sourceMeets, tickOf, done, run}
+use Rattle.semantics.specs.Cells.{mark, onGrid}
+use Rattle.semantics.specs.Operators.{clashes}
+use Rattle.semantics.specs.Runs.{Tick, Ticks, cellIn, history, cellOf, filled, flowsFrom, sourceMeets, tickOf, done, run}
 use Rattle.calendar.specs.Calendar.{judgingTicks}
-use Rattle.runner.proofs.Steps.{history-length}
+use Rattle.semantics.proofs.Traces.{history-length}
 use Rattle.calendar.proofs.Grid.{Parted, parted}
 use Rattle.calendar.proofs.Flows.{Regular, faster-clash, head-early, head-clash}
 use Rattle.calendar.proofs.Dues.{due-plain, combined-clash}

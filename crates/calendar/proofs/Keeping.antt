@@ -13,10 +13,10 @@ use Rattle.checker.specs.Clocks.{Clock, every, plain, under}
 use Rattle.checker.proofs.RuleLaws.{Rule, by-input, by-constant, by-combine, by-register, by-faster, by-slower, by-later, by-head, by-tail}
 use Rattle.checker.proofs.RuleLaws.{by-sample, by-merge, rule-of}
 use Rattle.checker.proofs.CheckLaws.{Clocked, AllSane, below-le}
-use Rattle.runner.specs.Cells.{Cell, absent, present, mark, onGrid}
-use Rattle.runner.specs.Operators.{Step, is}
-use Rattle.runner.specs.Runs.{Tick, Ticks, cellIn, history, cellOf, flowsFrom}
-use Rattle.runner.proofs.Steps.{history-length}
+use Rattle.semantics.specs.Cells.{Cell, absent, present, mark, onGrid}
+use Rattle.semantics.specs.Operators.{Step, is}
+use Rattle.semantics.specs.Runs.{Tick, Ticks, cellIn, history, cellOf, flowsFrom}
+use Rattle.semantics.proofs.Traces.{history-length}
 use Rattle.calendar.proofs.Flows.{Makes, cond-mark, Regular, faster-law, slower-law, later-law, tail-law, head-law}
 use Rattle.calendar.proofs.Dues.{holds, due, due-plain, due-under, due-append, made, combined-law, registered-law, sampled-law}
 use Rattle.calendar.proofs.Dues.{merged-law}

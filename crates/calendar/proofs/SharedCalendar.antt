@@ -23,12 +23,11 @@ use Rattle.checker.specs.Clocks.{Clock}
 use Rattle.checker.specs.Rules.{clockAt, sourceFits, clocksOf}
 use Rattle.checker.specs.Answers.{clocksWords, checking, checkAnswer}
 use Rattle.checker.proofs.CheckLaws.{Clocked, AllSane, all-sane, Checked, fine, bad-row, bad-source, checked}
-use Rattle.runner.specs.Cells.{value}
-use Rattle.runner.specs.Runs.{Ticks, inputs, Ran, done, clashed, run, cells}
-use Rattle.runner.specs.Answers.{maxTicks, running, ranAnswer, markByte}
+use Rattle.semantics.specs.Cells.{value}
+use Rattle.semantics.specs.Runs.{Ticks, inputs, Ran, done, clashed, run, cells, Regular as Wide}
+use Rattle.semantics.specs.Answers.{maxTicks, running, ranAnswer, markByte}
 use Rattle.calendar.specs.Calendar.{Accepts, Asked, Ends, OnCalendar, Free, Judged, judgingTicks, SharedCalendar}
-use Rattle.runner.specs.Private.Ready.{Regular as Wide}
-use Rattle.runner.proofs.Collecting.{cells-length}
+use Rattle.semantics.proofs.Traces.{cells-length}
 use Rattle.calendar.proofs.Accepted.{Runs, runs}
 use Rattle.calendar.proofs.Judged.{FreeRow, AllFree, refused-clashes}
 use Rattle.calendar.proofs.Shown.{AtTick, at-tick, written, due-shown}

@@ -19,15 +19,14 @@ use Rattle.checker.specs.Answers.{conditionWord, clocksWords}
 use Rattle.checker.specs.Private.Kept.{Below}
 use Rattle.checker.proofs.CheckLaws.{below-le, Sane}
 use Rattle.checker.proofs.WordLaws.{word-at, condition-at}
-use Rattle.runner.specs.Cells.{Cell, absent, present, mark, value, onGrid}
-use Rattle.runner.specs.Runs.{Tick, Ticks, cellIn, cells}
-use Rattle.runner.specs.Answers.{markByte}
+use Rattle.semantics.specs.Cells.{Cell, absent, present, mark, value, onGrid}
+use Rattle.semantics.specs.Runs.{Tick, Ticks, cellIn, cells, Regular as Wide}
+use Rattle.semantics.specs.Answers.{markByte}
 use Rattle.calendar.specs.Calendar.{clockWord, cellAt, TrueAt, FalseAt, ConditionAt, Due}
 use Rattle.calendar.proofs.Grid.{On, on-of, of-on}
 use Rattle.calendar.proofs.Dues.{holds, allHold, due, due-is}
 use Rattle.calendar.proofs.Keeping.{Keeps}
-use Rattle.runner.specs.Private.Ready.{Regular as Wide}
-use Rattle.runner.proofs.Collecting.{cells-length}
+use Rattle.semantics.proofs.Traces.{cells-length}
 
 -- tick t of the ticks: its cells stand from place t × m on, and each flow keeps its clock there
 pub record AtTick (m : ℕ) (past : Ticks) (t : ℕ) : Type 0 where

@@ -9,8 +9,8 @@ use Rattle.table.specs.Answers.{number, clocksDiffer}
 use Rattle.table.specs.Plain.{tableOf, rowsIn}
 use Rattle.checker.specs.Rules.{maxDerived}
 use Rattle.checker.specs.Answers.{checkAnswer, clocksAfter}
-use Rattle.runner.specs.Runs.{inputs}
-use Rattle.runner.specs.Answers.{maxTicks, runAnswer, marksAfter, valuesAfter}
+use Rattle.semantics.specs.Runs.{inputs}
+use Rattle.semantics.specs.Answers.{maxTicks, runAnswer, marksAfter, valuesAfter}
 
 -- word i of the seven that the check wrote for flow f
 abbrev pub clockWord : List ℕ → ℕ → ℕ → ℕ

@@ -9,7 +9,7 @@ use Rattle.table.specs.Rows.{Words}
 use Rattle.table.specs.Plain.{joined}
 use Rattle.checker.specs.Clocks.{Clock, every, under}
 use Rattle.checker.specs.Answers.{clocksWords, checkAnswer, clocksAfter}
-use Rattle.runner.specs.Answers.{runAnswer, marksAfter, valuesAfter}
+use Rattle.semantics.specs.Answers.{runAnswer, marksAfter, valuesAfter}
 
 pub record Case : Type 0 where
   pub outcome : List ℕ

@@ -4,7 +4,7 @@ ghost use mathlib.Core.Path.{_≡_};
 ghost use lib.ListN.{length};
 ghost use Rattle.table.specs.Packed.{readAnswer, wordsAfter, writeAnswer, bytesAfter};
 ghost use Rattle.checker.specs.Answers.{checkAnswer, clocksAfter};
-ghost use Rattle.runner.specs.Answers.{runAnswer, marksAfter, valuesAfter};
+ghost use Rattle.semantics.specs.Answers.{runAnswer, marksAfter, valuesAfter};
 ghost use Rattle.lister.specs.Listing.{textAfter};
 ghost use Rattle.exports.specs.Parts.{Given, listingAnswer};
 use lister::Listed;

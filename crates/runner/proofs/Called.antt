@@ -11,9 +11,9 @@ use Rattle.table.specs.Answers.{Refusal, tooManyTicks, wrongLog, shortTrace, Re
 use Rattle.table.specs.Rows.{Row}
 use Rattle.table.specs.Plain.{tableOf, rowsIn as goodRows, plainAnswer}
 use Rattle.table.proofs.AnswerLaws.{no-zero}
-use Rattle.runner.specs.Cells.{value}
-use Rattle.runner.specs.Runs.{inputs, Ran, run, trace}
-use Rattle.runner.specs.Answers.{maxTicks, running, ranAnswer, markByte}
+use Rattle.semantics.specs.Cells.{value}
+use Rattle.semantics.specs.Runs.{inputs, Ran, run, trace}
+use Rattle.semantics.specs.Answers.{maxTicks, running, ranAnswer, markByte}
 use Rattle.runner.specs.Called.{Called}
 use Rattle.runner.specs.Private.Ready.{rowsIn, Plain, RanTo}
 

@@ -10,9 +10,9 @@ use lib.Dec.{ltb}
 use borrow.Author.Tests.{ltb-true, ltb-false}
 use Rattle.table.specs.Answers.{over}
 use Rattle.table.proofs.Tests.{Tried, passed, failed, try}
-use Rattle.runner.specs.Cells.{Cell, absent, present, value}
-use Rattle.runner.specs.Runs.{cellIn}
-use Rattle.runner.specs.Answers.{markByte}
+use Rattle.semantics.specs.Cells.{Cell, absent, present, value}
+use Rattle.semantics.specs.Runs.{cellIn}
+use Rattle.semantics.specs.Answers.{markByte}
 use Rattle.runner.specs.Private.Carried.{cellAt, cellsIn}
 use Rattle.runner.specs.Private.Ready.{Wrote}
 

@@ -13,19 +13,13 @@ use borrow.Author.Tests.{eqb-true, eqb-false, leb-true, leb-false}
 use Rattle.table.specs.Rows.{Row, later}
 use Rattle.table.proofs.Tests.{Tried, passed, failed, try}
 use Rattle.table.proofs.Tables.{Fits, rowAt, Table}
-use Rattle.runner.specs.Cells.{absent, back}
-use Rattle.runner.specs.Runs.{Ticks, history, inputs, cells}
+use Rattle.semantics.specs.Cells.{absent, back}
+use Rattle.semantics.specs.Runs.{Ticks, history, inputs, cells, Regular}
 use Rattle.runner.specs.Private.Carried.{Held, heldIn, cellAt, decode, Fetched}
-use Rattle.runner.specs.Private.Ready.{Carries, Collected, AllCarry, Ready, Regular, Wrote, Listed}
+use Rattle.runner.specs.Private.Ready.{Carries, Collected, AllCarry, Ready, Wrote, Listed}
 use Rattle.runner.proofs.Cells.{mark-at, value-at, cell-back}
-use Rattle.runner.proofs.Steps.{history-length}
+use Rattle.semantics.proofs.Traces.{history-length, cells-length}
 use Rattle.runner.proofs.Tabled.{row-of}
-
--- the trace has n cells a tick
-pub cells-length : (n : ℕ) (past : Ticks) → Regular n past → length (cells past) ≡ length past * n
-unfolding cells
-cells-length n [] r = sym (zero-mul n)
-cells-length n (now ∷ past) r = length-append (cells past) now ∙ omega (arith, cells-length n past (r .1), r .0, suc-mul (length past) n)
 
 -- a place before tick t
 pub place-low : (n a i t : ℕ) → i < t → a < n → i * n + a < t * n

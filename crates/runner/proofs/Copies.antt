@@ -10,8 +10,8 @@ use lib.ListN.{length}
 use lib.Dec.{eqb, ltb}
 use borrow.Author.Tests.{eq-eqb, ne-eqb, le-ltb, eqb-true, eqb-false, ltb-true, ltb-false}
 use Rattle.table.proofs.Tests.{Tried, passed, failed, try, same-test}
-use Rattle.runner.specs.Cells.{Cell, absent, present, History, back, latest}
-use Rattle.runner.specs.Operators.{Step, is, clashes, clashUnless, copied, fasterOf}
+use Rattle.semantics.specs.Cells.{Cell, absent, present, History, back, latest}
+use Rattle.semantics.specs.Operators.{Step, is, clashes, clashUnless, copied, fasterOf}
 use Rattle.runner.specs.Private.Carried.{Held, held, fasterStep, fasterNext, begun}
 use Rattle.runner.specs.Private.Ready.{Copying, Copies, unseen, copying}
 

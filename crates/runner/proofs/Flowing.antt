@@ -12,10 +12,10 @@ use Rattle.table.specs.Rows.{Row, tail}
 use Rattle.table.proofs.Tables.{rowAt, Table}
 use Rattle.runner.specs.declared.operators.Outcome.{Outcome}
 use Rattle.runner.specs.declared.ticks.Ticked.the-variants as ticked
-use Rattle.runner.specs.Cells.{Cell, absent, present, value}
-use Rattle.runner.specs.Operators.{Step, is, clashes}
-use Rattle.runner.specs.Runs.{Tick, Ticks, cellIn, history, inputs, cellOf, TickEnd, filled, stopped, onStep, flowsFrom}
-use Rattle.runner.specs.Answers.{markByte}
+use Rattle.semantics.specs.Cells.{Cell, absent, present, value}
+use Rattle.semantics.specs.Operators.{Step, is, clashes}
+use Rattle.semantics.specs.Runs.{Tick, Ticks, cellIn, history, inputs, cellOf, TickEnd, filled, stopped, onStep, flowsFrom}
+use Rattle.semantics.specs.Answers.{markByte}
 use Rattle.runner.specs.Private.Carried.{clashMark, outcomeOf, Held, heldIn, cellsIn, decode, stepOf, nextOf, Did}
 use Rattle.runner.specs.Private.Ready.{Carries, Collected, Follows, AllCarry, AllFollow, Ready, Wrote, FlowsEnd}
 use Rattle.runner.proofs.Cells.{wrote-more, here-is}

@@ -10,8 +10,8 @@ use lib.ListN.{length}
 use lib.Dec.{eqb, ltb, leb}
 use borrow.Author.Tests.{eq-eqb, ne-eqb, lt-ltb, le-ltb, le-leb, lt-leb, eqb-true, eqb-false, leb-true, leb-false}
 use Rattle.table.proofs.Tests.{Tried, passed, failed, try, same-test, and-left, and-right, and-both}
-use Rattle.runner.specs.Cells.{Cell, absent, present, History, count, latest, onGrid}
-use Rattle.runner.specs.Operators.{is, clashes, clashUnless, timed, slowerOf, tailOf, evenly, headFits, headOf}
+use Rattle.semantics.specs.Cells.{Cell, absent, present, History, count, latest, onGrid}
+use Rattle.semantics.specs.Operators.{is, clashes, clashUnless, timed, slowerOf, tailOf, evenly, headFits, headOf}
 use Rattle.runner.specs.Private.Carried.{Held, held, timedStep, timedNext, slowerStep, slowerNext, headStep, headNext, afterStep, afterNext, tailStep, tailNext}
 use Rattle.runner.specs.Private.Ready.{Due, Heads, never, once, often}
 use Rattle.runner.proofs.Copies.{never-is}

@@ -14,10 +14,10 @@ use Rattle.table.specs.Rows.{Row, register, onRegister, badRegister}
 use Rattle.table.proofs.Tests.{Tried, passed, failed, try}
 use Rattle.table.proofs.Tables.{Fits, rowAt, Table}
 use Rattle.runner.specs.declared.ticks.Ticked.the-variants as ticked
-use Rattle.runner.specs.Cells.{Cell, absent, present, mark, value, History, latest}
-use Rattle.runner.specs.Operators.{valueOr}
-use Rattle.runner.specs.Runs.{Tick, Ticks, cellIn, history, sourceMeets}
-use Rattle.runner.specs.Answers.{markByte}
+use Rattle.semantics.specs.Cells.{Cell, absent, present, mark, value, History, latest}
+use Rattle.semantics.specs.Operators.{valueOr}
+use Rattle.semantics.specs.Runs.{Tick, Ticks, cellIn, history, sourceMeets}
+use Rattle.semantics.specs.Answers.{markByte}
 use Rattle.runner.specs.Private.Carried.{Held, heldIn, decode}
 use Rattle.runner.specs.Private.Ready.{Carries, Follows, AllCarry, AllFollow, Wrote, LatchEnd, Listed}
 use Rattle.runner.proofs.Words.{stored, stored-other}

@@ -8,9 +8,9 @@ use lib.Seq.{take-all, take-at, drop-at, drop-drop}
 use Rattle.table.specs.Answers.{over}
 use Rattle.table.specs.Rows.{Row}
 use Rattle.runner.specs.declared.ticks.Ticked.{Ticked}
-use Rattle.runner.specs.Cells.{Cell, value}
-use Rattle.runner.specs.Runs.{Ticks, TickEnd, filled, stopped, cells}
-use Rattle.runner.specs.Answers.{markByte}
+use Rattle.semantics.specs.Cells.{Cell, value}
+use Rattle.semantics.specs.Runs.{Ticks, TickEnd, filled, stopped, cells}
+use Rattle.semantics.specs.Answers.{markByte}
 use Rattle.runner.specs.Private.Ready.{Wrote, TickDone, TickAt}
 
 -- the part of s from a on, as it is lent, and as it comes back

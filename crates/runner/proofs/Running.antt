@@ -10,8 +10,8 @@ use Rattle.table.specs.Answers.{over}
 use Rattle.table.specs.Rows.{Row}
 use Rattle.runner.specs.declared.ticks.Ticked.{Ticked}
 use Rattle.runner.specs.declared.ticks.Ticked.the-variants as ticked
-use Rattle.runner.specs.Runs.{Tick, Ticks, TickEnd, filled, stopped, tickOf, Ran, done, clashed, onTick, onRun, run, cells}
-use Rattle.runner.specs.Private.Ready.{AllCarry, Regular, Wrote, TickAt, RanTo}
+use Rattle.semantics.specs.Runs.{Tick, Ticks, TickEnd, filled, stopped, tickOf, Ran, done, clashed, onTick, onRun, run, cells, Regular}
+use Rattle.runner.specs.Private.Ready.{AllCarry, Wrote, TickAt, RanTo}
 use Rattle.runner.proofs.Ticking.{full-or-stopped, same-flow}
 
 pub record Running (n t : ℕ) (rows : List Row) (log ms₀ vs₀ s ms vs : List ℕ) : Type 0 where

@@ -12,8 +12,8 @@ use lib.Seq.{take-all, take-length}
 use lib.Dec.{eqb}
 use Rattle.table.specs.Rows.{Row, input, constant, combine, register, faster, slower, later, head, tail, sample, merge}
 use Rattle.table.proofs.Tables.{Fits, rowAt, Table}
-use Rattle.runner.specs.Cells.{count, latest}
-use Rattle.runner.specs.Runs.{history, inputs, isInput}
+use Rattle.semantics.specs.Cells.{count, latest}
+use Rattle.semantics.specs.Runs.{history, inputs, isInput}
 use Rattle.runner.specs.Private.Carried.{Held, held, heldIn, startOf, Started}
 use Rattle.runner.specs.Private.Ready.{unseen, never, Carries, AllCarry}
 use Rattle.runner.proofs.Tabled.{Row-at, row-of}

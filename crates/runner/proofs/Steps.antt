@@ -3,22 +3,19 @@ use mathlib.Core.Path.{_≡_, refl, sym, _∙_, ap, subst}
 use Prim.Native.Nat.{ℕ, zero, suc, _+_, _*_, _-_, _%_, _<_}
 use native.Mathlib.Omega.{arith}
 use mathlib.Core.List.{List, _∷_}
-use lib.ListN.{length, getD, take, length-map}
+use lib.ListN.{length, getD, take}
 use lib.Dec.{eqb}
 use borrow.Author.Tests.{ne-eqb}
 use Rattle.table.specs.Rows.{Row, input, constant, combine, register, faster, slower, later, head, tail, sample, merge}
 use Rattle.table.proofs.Tables.{Fits}
-use Rattle.runner.specs.Cells.{Cell, absent, present, History, back, count, latest}
-use Rattle.runner.specs.Operators.{is, timed, registered, fasterOf, laterOf, headOf, valueOr}
-use Rattle.runner.specs.Runs.{Tick, Ticks, cellIn, history, inputs, cellOf}
+use Rattle.semantics.specs.Cells.{Cell, absent, present, History, back, count, latest}
+use Rattle.semantics.specs.Operators.{is, timed, registered, fasterOf, laterOf, headOf, valueOr}
+use Rattle.semantics.specs.Runs.{Tick, Ticks, cellIn, history, inputs, cellOf}
+use Rattle.semantics.proofs.Traces.{history-length}
 use Rattle.runner.specs.Private.Carried.{Held, cellAt, registerStep, fasterStep, fasterNext, laterStep, headStep, headNext, stepOf, nextOf}
 use Rattle.runner.specs.Private.Ready.{Copies, Heads, Carries, Collected, Follows}
 use Rattle.runner.proofs.Copies.{faster-steps, faster-follows}
 use Rattle.runner.proofs.Histories.{timed-steps, timed-follows, timed-keeps, slower-steps, slower-follows, tail-steps, tail-follows, head-steps, head-follows}
-
-pub history-length : (past : Ticks) (a : ℕ) → length (history past a) ≡ length past
-unfolding history
-history-length past a = length-map past (λ (now : Tick). cellIn now a)
 
 registers : (v : ℕ) (b : Cell) (h : History) (w : Held) → w .x ≡ valueOr v (latest h) → registerStep b w ≡ is (registered v b h)
 unfolding registered

@@ -13,8 +13,8 @@ use Rattle.table.specs.Rows.{Row, input, constant, combine, register, faster, s
 use Rattle.table.specs.Plain.{four}
 use Rattle.table.proofs.Lists.{Each, each-entry}
 use Rattle.table.proofs.Tables.{Fits, Made, row-fits, rowAt, Table, table-made}
-use Rattle.runner.specs.Cells.{History}
-use Rattle.runner.specs.Runs.{isInput}
+use Rattle.semantics.specs.Cells.{History}
+use Rattle.semantics.specs.Runs.{isInput}
 use Rattle.runner.specs.Private.Carried.{Held, decode}
 use Rattle.runner.specs.Private.Ready.{rowsIn, Plain, Collected}
 

@@ -8,7 +8,7 @@ use lib.ListN.{length}
 use Rattle.table.specs.Rows.{Row, badRegister}
 use Rattle.runner.specs.declared.ticks.Ticked.{Ticked}
 use Rattle.runner.specs.declared.ticks.Ticked.the-variants as ticked
-use Rattle.runner.specs.Runs.{Tick, Ticks, TickEnd, filled, stopped, sourceMeets, sourcedTick, onFlows}
+use Rattle.semantics.specs.Runs.{Tick, Ticks, TickEnd, filled, stopped, sourceMeets, sourcedTick, onFlows}
 use Rattle.runner.specs.Private.Ready.{AllFollow, Wrote, FlowsEnd, LatchEnd, TickDone}
 
 pub full-or-stopped : {A : Type 0} {f : ℕ} → ticked.Full ≡ ticked.Stopped f → A

@@ -4,7 +4,7 @@ use Prim.Native.Nat.{ℕ}
 use mathlib.Core.List.{List}
 use lib.ListN.{length}
 use Rattle.table.specs.declared.Answer.{Answer}
-use Rattle.runner.specs.Answers.{runAnswer, marksAfter, valuesAfter}
+use Rattle.semantics.specs.Answers.{runAnswer, marksAfter, valuesAfter}
 
 pub record Called (m : ℕ) (words log : List ℕ) (ticks : ℕ) (ms vs ms′ vs′ : List ℕ) (r : Answer) : Type 0 where
   pub answer : r ≡ runAnswer m words log ticks (length ms) (length vs)

@@ -1,6 +1,2 @@
-pub mod Cells
-pub mod Operators
-pub mod Runs
-pub mod Answers
 pub mod Called
 pub mod Private

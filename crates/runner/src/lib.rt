@@ -3,10 +3,10 @@ ghost use mathlib.Core.Path.{_≡_};
 ghost use Prim.Native.Nat.{ℕ, _+_, _*_, _≤_, _<_, _^_};
 ghost use mathlib.Core.List.{List, []};
 ghost use lib.ListN.{length};
-ghost use Rattle.runner.specs.Runs.{Ticks, inputs, cells, tickOf};
-ghost use Rattle.runner.specs.Runs as runs;
+ghost use Rattle.semantics.specs.Runs.{Ticks, inputs, cells, tickOf, Regular};
+ghost use Rattle.semantics.specs.Runs as runs;
 ghost use Rattle.runner.specs.Called.{Called};
-ghost use Rattle.runner.specs.Private.Ready.{rowsIn, Plain, AllCarry, Ready, Regular, Wrote, Listed, TickAt, RanTo};
+ghost use Rattle.runner.specs.Private.Ready.{rowsIn, Plain, AllCarry, Ready, Wrote, Listed, TickAt, RanTo};
 
 mod carried;
 mod operators;

@@ -4,9 +4,9 @@ ghost use Prim.Native.Nat.{_≤_, _<_};
 ghost use lib.ListN.{length};
 ghost use Rattle.table.specs.Bits.{bit};
 ghost use Rattle.table.specs.Rows.{larger};
-ghost use Rattle.runner.specs.Operators.{below, apply, combined, sampled, neither, alone, merged};
+ghost use Rattle.semantics.specs.Operators.{below, apply, combined, sampled, neither, alone, merged};
 ghost use Rattle.runner.specs.Private.Carried.{outcomeOf, cellsIn, Held, opOf, registerStep};
-ghost use Rattle.runner.specs.Cells.{present};
+ghost use Rattle.semantics.specs.Cells.{present};
 
 // What a row comes to at a tick: the mark and the value of its cell, or the mark of a clash.
 pub struct Outcome {

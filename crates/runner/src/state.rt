@@ -5,9 +5,9 @@ ghost use mathlib.Core.Bool.{cond};
 ghost use mathlib.Core.List.{List, []};
 ghost use lib.Dec.{eqb};
 ghost use lib.ListN.{length, getD, set, replicate};
-ghost use Rattle.runner.specs.Runs.{Ticks, inputs, cells};
+ghost use Rattle.semantics.specs.Runs.{Ticks, inputs, cells, Regular};
 ghost use Rattle.runner.specs.Private.Carried.{heldIn, decode, Started, startOf, Fetched};
-ghost use Rattle.runner.specs.Private.Ready.{rowsIn, Plain, AllCarry, Ready, Regular, Wrote, Listed};
+ghost use Rattle.runner.specs.Private.Ready.{rowsIn, Plain, AllCarry, Ready, Wrote, Listed};
 
 // Row f is added to the list where it is of the kind.
 fn listed_with(kind: u32, words: &[u32], f: usize, list: &mut [u32], found: usize) -> usize

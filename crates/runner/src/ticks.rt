@@ -8,7 +8,7 @@ ghost use lib.ListN.{length, set};
 ghost use Rattle.table.proofs.Tables.{Fits};
 ghost use Rattle.runner.specs.Private.Carried.{cellsIn, heldIn, decode, stepOf, nextOf, Did};
 ghost use Rattle.table.specs.Rows.{badRegister};
-ghost use Rattle.runner.specs.Runs.{Tick, Ticks, flowsFrom, sourceMeets, tickOf};
+ghost use Rattle.semantics.specs.Runs.{Tick, Ticks, flowsFrom, sourceMeets, tickOf};
 ghost use Rattle.runner.specs.Private.Ready.{rowsIn, Plain, Ready, AllFollow, Wrote, FlowsEnd, LatchEnd, TickDone, Listed};
 use crate::carried;
 use crate::operators;

@@ -1,7 +1,7 @@
 -- `tick_at` meets its contract. Assumes nothing.
 use Rattle.runner.proofs.Lent.{lent, part-length}
 use Rattle.runner.specs.Private.Ready.{rowsIn}
-use Rattle.runner.specs.Runs.{tickOf}
+use Rattle.semantics.specs.Runs.{tickOf}
 use native.Mathlib.Omega.{arith}
 use borrow.Author.Needs.{needs}
 use Rattle.runner.proofs.tick_at.Statement.{statement}

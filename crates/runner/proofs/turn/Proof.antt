@@ -1,6 +1,6 @@
 -- `turn` meets its contract. Assumes nothing.
 use Rattle.runner.specs.Private.Ready.{rowsIn}
-use Rattle.runner.proofs.Collecting.{cells-length}
+use Rattle.semantics.proofs.Traces.{cells-length}
 use Rattle.runner.proofs.Starting.{inputs-all}
 use Rattle.runner.proofs.Words.{place-small}
 use Rattle.runner.proofs.Tabled.{plain-table}

@@ -8,9 +8,9 @@ use lib.ListN.{getD}
 use lib.Dec.{eqb, ltb, leb}
 use Rattle.table.specs.Rows.{Row, Op, add, subtract, less, equal, larger, input, constant, combine, register, faster, slower, later, head, tail, sample, merge}
 use Rattle.runner.specs.declared.operators.Outcome.{Outcome}
-use Rattle.runner.specs.Cells.{Cell, absent, present, value}
-use Rattle.runner.specs.Answers.{markByte}
-use Rattle.runner.specs.Operators.{Step, is, clashes, combined, sampled, merged}
+use Rattle.semantics.specs.Cells.{Cell, absent, present, value}
+use Rattle.semantics.specs.Answers.{markByte}
+use Rattle.semantics.specs.Operators.{Step, is, clashes, combined, sampled, merged}
 
 -- a cell from its mark and its value
 abbrev pub cellAt : ℕ → ℕ → Cell

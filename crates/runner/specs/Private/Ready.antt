@@ -14,10 +14,10 @@ use Rattle.table.specs.Plain.{tableOf, rowsIn as accepted}
 use Rattle.table.proofs.Tables.{rowAt}
 use Rattle.runner.specs.declared.ticks.Ticked.{Ticked}
 use Rattle.runner.specs.declared.ticks.Ticked.the-variants as ticked
-use Rattle.runner.specs.Cells.{Cell, absent, present, value, History, back, count, latest, onGrid}
-use Rattle.runner.specs.Operators.{valueOr}
-use Rattle.runner.specs.Runs.{Tick, Ticks, history, inputs, TickEnd, filled, stopped, Ran, cells, trace}
-use Rattle.runner.specs.Answers.{markByte, ranAnswer}
+use Rattle.semantics.specs.Cells.{Cell, absent, present, value, History, back, count, latest, onGrid}
+use Rattle.semantics.specs.Operators.{valueOr}
+use Rattle.semantics.specs.Runs.{Tick, Ticks, history, inputs, TickEnd, filled, stopped, Ran, cells, trace}
+use Rattle.semantics.specs.Answers.{markByte, ranAnswer}
 use Rattle.runner.specs.Private.Carried.{Held, heldIn, cellAt}
 
 -- the rows of a table in plain form
@@ -134,11 +134,6 @@ pub record Listed (k n : ℕ) (words list : List ℕ) (count : ℕ) : Type 0 whe
   pub kind : (j : ℕ) → j < count → getD words (4 * getD list j 0) 0 ≡ k
   pub rising : (i j : ℕ) → i < j → j < count → getD list i 0 < getD list j 0
   pub all : (f : ℕ) → f < n → getD words (4 * f) 0 ≡ k → (j : ℕ) × (j < count) × (getD list j 0 ≡ f)
-
--- every tick so far has n cells
-abbrev pub Regular : ℕ → Ticks → Type 0
-Regular n [] = Unit {0}
-Regular n (now ∷ past) = (length now ≡ n) × Regular n past
 
 -- how a tick ends in the whole trace
 abbrev pub TickAt : List Row → ℕ → Ticks → TickEnd → List ℕ → List ℕ → List ℕ → List ℕ → List ℕ → Ticked → Type 0

@@ -1,5 +1,5 @@
 -- `alone` meets its contract. Assumes nothing.
-use Rattle.runner.specs.Operators.{alone}
+use Rattle.semantics.specs.Operators.{alone}
 use borrow.Author.Tests.{eq-eqb, ne-eqb, lt-ltb}
 use borrow.Author.Needs.{needs}
 use Rattle.runner.proofs.operators.alone.Statement.{statement}

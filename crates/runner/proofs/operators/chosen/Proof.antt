@@ -1,5 +1,5 @@
 -- `chosen` meets its contract. Assumes nothing.
-use Rattle.runner.specs.Operators.{sampled}
+use Rattle.semantics.specs.Operators.{sampled}
 use borrow.Author.Tests.{eq-eqb, ne-eqb}
 use Rattle.runner.proofs.operators.chosen.Statement.{statement}
 use Rattle.runner.proofs.operators.chosen.Tie as tie

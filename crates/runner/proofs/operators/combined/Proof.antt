@@ -1,5 +1,5 @@
 -- `combined` meets its contract. Assumes nothing.
-use Rattle.runner.specs.Operators.{combined}
+use Rattle.semantics.specs.Operators.{combined}
 use borrow.Author.Tests.{eq-eqb, ne-eqb, lt-ltb}
 use borrow.Author.Needs.{needs}
 use Rattle.runner.proofs.operators.combined.Statement.{statement}

@@ -1,5 +1,5 @@
 -- `merged` meets its contract. Assumes nothing.
-use Rattle.runner.specs.Operators.{neither, alone, merged}
+use Rattle.semantics.specs.Operators.{neither, alone, merged}
 use borrow.Author.Tests.{eq-eqb, ne-eqb, lt-ltb}
 use borrow.Author.Needs.{needs}
 use Rattle.runner.proofs.operators.merged.Statement.{statement}

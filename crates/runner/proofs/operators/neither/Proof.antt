@@ -1,5 +1,5 @@
 -- `neither` meets its contract. Assumes nothing.
-use Rattle.runner.specs.Operators.{neither}
+use Rattle.semantics.specs.Operators.{neither}
 use borrow.Author.Tests.{eq-eqb, ne-eqb, lt-ltb}
 use borrow.Author.Needs.{needs}
 use Rattle.runner.proofs.operators.neither.Statement.{statement}

@@ -1,5 +1,5 @@
 -- `sampled` meets its contract. Assumes nothing.
-use Rattle.runner.specs.Operators.{sampled}
+use Rattle.semantics.specs.Operators.{sampled}
 use borrow.Author.Tests.{eq-eqb, ne-eqb, lt-ltb}
 use borrow.Author.Needs.{needs}
 use Rattle.runner.proofs.operators.sampled.Statement.{statement}

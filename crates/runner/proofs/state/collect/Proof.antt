@@ -1,8 +1,8 @@
 -- `collect` meets its contract. Assumes nothing.
 use Rattle.runner.proofs.Collecting.{Collecting, starts, goes-on, ends, operand-low}
 use Rattle.runner.proofs.Tabled.{plain-table}
-use Rattle.runner.specs.Private.Ready.{rowsIn, Regular, Wrote, AllCarry}
-use Rattle.runner.specs.Runs.{Ticks, inputs, cells}
+use Rattle.runner.specs.Private.Ready.{rowsIn, Wrote, AllCarry}
+use Rattle.semantics.specs.Runs.{Ticks, inputs, cells, Regular}
 use Rattle.table.proofs.Tables.{Table}
 use lib.ListN.{length, getD}
 use mathlib.Core.List.{List}

@@ -5,7 +5,7 @@ use Prim.Native.Nat.{_*_, _-_, _≤_}
 use native.Mathlib.Omega.{arith}
 use lib.ListN.{length}
 use Rattle.table.proofs.Tables.{Fits, Table}
-use Rattle.runner.specs.Runs.{Ticks}
+use Rattle.semantics.specs.Runs.{Ticks}
 use Rattle.runner.specs.Private.Ready.{rowsIn, Ready}
 use Rattle.runner.proofs.Tabled.{plain-table, row-of}
 use Rattle.runner.proofs.Flowing.{Going, starts, ends, stops, goes-on}

@@ -5,7 +5,7 @@ use native.Mathlib.Omega.{arith}
 use mathlib.Core.List.{List}
 use lib.ListN.{length, getD, set, length-set}
 use Rattle.table.proofs.Tables.{Table}
-use Rattle.runner.specs.Runs.{Tick, Ticks}
+use Rattle.semantics.specs.Runs.{Tick, Ticks}
 use Rattle.runner.specs.Private.Ready.{rowsIn, Wrote, AllFollow}
 use Rattle.runner.proofs.Tabled.{plain-table}
 use Rattle.runner.proofs.Latching.{Latching, starts, ends, stops, goes-on, operands-low}

@@ -2,7 +2,7 @@
 use Rattle.runner.proofs.Ticking.{stops, latches}
 use Rattle.runner.proofs.Tabled.{plain-table}
 use Rattle.runner.specs.Private.Ready.{rowsIn}
-use Rattle.runner.specs.Runs.{flowsFrom, tickOf}
+use Rattle.semantics.specs.Runs.{flowsFrom, tickOf}
 use mathlib.Core.List.{[]}
 use borrow.Author.Needs.{needs}
 use Rattle.runner.proofs.ticks.tick.Statement.{statement}

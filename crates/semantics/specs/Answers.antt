@@ -8,8 +8,8 @@ use Rattle.table.specs.declared.Answer.{Answer}
 use Rattle.table.specs.Answers.{Result, good, refused, unless, then, number, success, refusal, leaves, tooManyTicks, wrongLog, shortTrace, clash}
 use Rattle.table.specs.Bits.{bit}
 use Rattle.table.specs.Plain.{tableOf}
-use Rattle.runner.specs.Cells.{Cell, mark, value}
-use Rattle.runner.specs.Runs.{inputs, Ran, done, clashed, run, trace}
+use Rattle.semantics.specs.Cells.{Cell, mark, value}
+use Rattle.semantics.specs.Runs.{inputs, Ran, done, clashed, run, trace}
 
 abbrev pub maxTicks : ℕ
 maxTicks = 65535

@@ -1,12 +1,13 @@
 -- The run, over rows and log alone.
 use Prim.Native.Nat.{ℕ, zero, suc, _+_, _*_}
+use mathlib.Core.Path.{_≡_}
 use mathlib.Core.Bool.{Bool, Bool·beq}
 use mathlib.Core.List.{List, [], _∷_, _++_, map}
 use mathlib.Core.Option.{Option, none, some}
 use lib.ListN.{length, getD, take}
 use Rattle.table.specs.Rows.{Row, input, constant, combine, register, faster, slower, later, head, tail, sample, merge, badRegister}
-use Rattle.runner.specs.Cells.{Cell, absent, present, mark, History}
-use Rattle.runner.specs.Operators.{Step, is, clashes, timed, combined, registered, fasterOf, slowerOf, laterOf, tailOf, headOf, sampled, merged}
+use Rattle.semantics.specs.Cells.{Cell, absent, present, mark, History}
+use Rattle.semantics.specs.Operators.{Step, is, clashes, timed, combined, registered, fasterOf, slowerOf, laterOf, tailOf, headOf, sampled, merged}
 
 -- one tick's cells in order of flows, and the ticks so far, the latest first
 abbrev pub Tick : Type 0
@@ -112,3 +113,8 @@ cells (now ∷ past) = cells past ++ now
 abbrev pub trace : Ran → List Cell
 trace (done past) = cells past
 trace (clashed t f now past) = cells past ++ now
+
+-- every tick so far has n cells
+abbrev pub Regular : ℕ → Ticks → Type 0
+Regular n [] = Unit {0}
+Regular n (now ∷ past) = (length now ≡ n) × Regular n past

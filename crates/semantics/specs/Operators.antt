@@ -7,7 +7,7 @@ use lib.ListN.{length}
 use lib.Dec.{eqb, ltb}
 use Rattle.table.specs.Bits.{bit}
 use Rattle.table.specs.Rows.{Op, add, subtract, less, equal, larger}
-use Rattle.runner.specs.Cells.{Cell, absent, present, mark, History, back, count, Presence, latest, onGrid}
+use Rattle.semantics.specs.Cells.{Cell, absent, present, mark, History, back, count, Presence, latest, onGrid}
 
 -- a cell, or a clash (the paper's word for operands whose presences disagree)
 pub data Step : Type 0 where

@@ -1,0 +1,4 @@
+pub mod Cells
+pub mod Operators
+pub mod Runs
+pub mod Answers

@@ -1,0 +1,1 @@
+// Definitions and laws alone: what a run of a table is.
