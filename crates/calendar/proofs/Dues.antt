@@ -5,9 +5,9 @@ use mathlib.Core.Bool.{Bool, true, false, cond, _&&_, not, Bool·beq, true≢fal
 use mathlib.Core.List.{List, [], _∷_, _++_}
 use lib.ListN.{length, List·getD-append}
 use Rattle.table.specs.Rows.{Op}
+use Rattle.checker.specs.Rules.{Below}
 use Rattle.checker.specs.Clocks.{Condition, Clock, plain, under}
 use Rattle.checker.proofs.ClockLaws.{plain-empty}
-use Rattle.checker.specs.Private.Kept.{Below}
 use Rattle.semantics.specs.Cells.{Cell, absent, present, mark, History, onGrid}
 use Rattle.semantics.specs.Operators.{is, clashes, combined, registered, truthOf, sampled, neither, alone, merged}
 use Rattle.semantics.specs.Runs.{Tick, Ticks, cellIn}

@@ -14,9 +14,8 @@ use borrow.Author.Tests.{eqb-true, eq-eqb, ne-eqb}
 use Rattle.table.specs.Bits.{bit}
 use Rattle.table.proofs.Tests.{and-left, and-right, and-both, Tried, passed, failed, try}
 use Rattle.checker.specs.Clocks.{Condition, Clock}
-use Rattle.checker.specs.Rules.{clockAt}
+use Rattle.checker.specs.Rules.{clockAt, Below}
 use Rattle.checker.specs.Answers.{conditionWord, clocksWords}
-use Rattle.checker.specs.Private.Kept.{Below}
 use Rattle.checker.proofs.CheckLaws.{below-le, Sane}
 use Rattle.checker.proofs.WordLaws.{word-at, condition-at}
 use Rattle.semantics.specs.Cells.{Cell, absent, present, mark, value, onGrid}

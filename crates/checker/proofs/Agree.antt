@@ -12,7 +12,7 @@ use Rattle.table.specs.Bits.{bit}
 use Rattle.table.specs.Rows.{maxFlows}
 use Rattle.table.proofs.Tests.{and-left, and-right, and-both, same-test}
 use Rattle.checker.specs.Clocks.{Condition, Clock, every, isEmpty, sameConditions, sameClock, under}
-use Rattle.checker.specs.Rules.{withinLimits, limited, maxDerived}
+use Rattle.checker.specs.Rules.{withinLimits, limited, maxDerived, Within}
 use Rattle.checker.specs.Answers.{conditionWord}
 use Rattle.checker.specs.declared.Clock.{Clock as Kept}
 use Rattle.checker.specs.declared.Verdict.{Verdict}
@@ -24,7 +24,7 @@ use Rattle.checker.proofs.CheckLaws.{below-snoc}
 
 -- A verdict of row f and the rule's result: the same clock, within the limits, or the same refusal, which names f.
 abbrev pub Agrees : ℕ → Verdict → Result Clock → Type 0
-Agrees f v (good k) = (v ≡ Is (Kept.kept k)) × Kept.Within k
+Agrees f v (good k) = (v ≡ Is (Kept.kept k)) × Within k
 Agrees f v (refused why g) = (v ≡ Refused (number why)) × (g ≡ f)
 
 -- a test on both sides
@@ -35,7 +35,7 @@ agree-guard f true false why v r e h = absurd (false≢true e)
 agree-guard f false true why v r e h = absurd (true≢false e)
 agree-guard f false false why v r e h = (refl, refl)
 
-pub few : (k : Clock) → Kept.Within k → length (k .conditions) ≤ 4
+pub few : (k : Clock) → Within k → length (k .conditions) ≤ 4
 few k w = limits k (w .0) .few
 
 -- ---- clocks without conditions
@@ -147,7 +147,7 @@ under-kept k c u l h =
 one-more : (cs : List Condition) (d : Condition) → length (cs ++ (d ∷ [])) ≡ length cs + 1
 one-more cs d = length-append cs (d ∷ [])
 
-pub agree-under : (f : ℕ) (k : Clock) (c : ℕ) (u : Bool) → Kept.Within k → c < 64
+pub agree-under : (f : ℕ) (k : Clock) (c : ℕ) (u : Bool) → Within k → c < 64
     → Agrees f (Kept.under (Kept.kept k) (Kept.condition c u)) (limited f (under k c u))
 agree-under f k c u w h =
     let l = length (k .conditions) + 1 in

@@ -11,9 +11,8 @@ use Rattle.table.specs.Plain.{tableOf}
 use Rattle.table.proofs.Tests.{unless-good, then-good}
 use Rattle.table.proofs.Tables.{table-made}
 use Rattle.checker.specs.Clocks.{Clock}
-use Rattle.checker.specs.Rules.{clockAt, clocksOf}
+use Rattle.checker.specs.Rules.{clockAt, clocksOf, Within, AllWithin}
 use Rattle.checker.specs.Answers.{checking}
-use Rattle.checker.specs.Private.Kept.{Within, Limited}
 use Rattle.checker.proofs.RuleLaws.{within-limits}
 use Rattle.checker.proofs.CheckLaws.{Sane, below-le, sane-clocks}
 
@@ -24,7 +23,7 @@ sane-within f k l s = (
 )
 
 -- what an accepted table's clocks have: one a flow, within the limits
-pub checked-within : (m : ℕ) (words : List ℕ) (room : ℕ) (ks : List Clock) → checking m words room ≡ good ks → (length ks ≡ m) × (m ≤ maxFlows) × Limited ks
+pub checked-within : (m : ℕ) (words : List ℕ) (room : ℕ) (ks : List Clock) → checking m words room ≡ good ks → (length ks ≡ m) × (m ≤ maxFlows) × AllWithin ks
 unfolding checking
 checked-within m words room ks e =
     let x = then-good (tableOf m words) (λ rows. unless (leb (7 * m) room) noRoom 0 (clocksOf rows)) ks e in

@@ -10,7 +10,7 @@ use Rattle.table.specs.Rows.{Row, Kind, kinds, Words, onRegister}
 use Rattle.table.proofs.Tables.{Made, Fits, row-fits}
 use Rattle.table.proofs.Lists.{Each, each-entry}
 use Rattle.checker.specs.Clocks.{Clock, every, plain, sameClock, under}
-use Rattle.checker.specs.Rules.{clockOf, limited, maxDerived}
+use Rattle.checker.specs.Rules.{clockOf, limited, maxDerived, Within}
 use Rattle.checker.specs.declared.Clock.{Clock as Kept}
 use Rattle.checker.specs.declared.Verdict.{Verdict}
 use Rattle.checker.specs.declared.Verdict.the-variants.{Is}
@@ -19,7 +19,7 @@ use Rattle.checker.proofs.Agree.{Agrees, agree-guard, few, plain-count,
 use Rattle.checker.proofs.RuleLaws.{limits}
 
 -- A rule over a clock k within the limits.
-module _ (f : ℕ) (k : Clock) (w : Kept.Within k) where
+module _ (f : ℕ) (k : Clock) (w : Within k) where
   -- kinds 8 to 12 over a clock that is plain
   over-plain : (v : Verdict) (r : Result Clock) → Agrees f v r → Agrees f (Kept.guard (eqb (Kept.kept k .count) 0) 23 v) (unless (plain k) notPlain f r)
   over-plain v r h = agree-guard f (eqb (Kept.kept k .count) 0) (plain k) notPlain v r (plain-count (k .conditions)) (λ (t : eqb (Kept.kept k .count) 0 ≡ true). h)
@@ -34,13 +34,13 @@ module _ (f : ℕ) (k : Clock) (w : Kept.Within k) where
   beside j v r h = agree-guard f (Kept.same (Kept.kept k) (Kept.kept j)) (sameClock k j) clocksDiffer v r (same-kept k j (few k w)) (λ (t : Kept.same (Kept.kept k) (Kept.kept j) ≡ true). h)
 
 -- two clocks that have to be equal, as one test and as two
-both-guards : (f : ℕ) (a b : Bool) (k : Clock) → Kept.Within k
+both-guards : (f : ℕ) (a b : Bool) (k : Clock) → Within k
     → Agrees f (Kept.guard a 21 (Kept.guard b 21 (Is (Kept.kept k)))) (unless (a && b) clocksDiffer f (good k))
 both-guards f true true k w = (refl, w)
 both-guards f true false k w = (refl, refl)
 both-guards f false b k w = (refl, refl)
 
-agree-merged : (f flow : ℕ) (c a b : Clock) → Kept.Within c → Kept.Within a → Kept.Within b → flow < 64
+agree-merged : (f flow : ℕ) (c a b : Clock) → Within c → Within a → Within b → flow < 64
     → Agrees f (Kept.merged flow (Kept.kept c) (Kept.kept a) (Kept.kept b))
     (unless (sameClock a (under c flow true) && sameClock b (under c flow false)) clocksDiffer f (good c))
 agree-merged f flow c a b wc wa wb l =
@@ -48,7 +48,7 @@ agree-merged f flow c a b wc wa wb l =
     (both-guards f (Kept.extends (Kept.kept a) (Kept.kept c) (Kept.condition flow true)) (Kept.extends (Kept.kept b) (Kept.kept c) (Kept.condition flow false)) c wc)
 
 -- The clocks of the flows before f, and how the check keeps them.
-module _ (m f : ℕ) (small : f < 64) (clk : ℕ → Clock) (h : ℕ → Kept) (held : (g : ℕ) → g < f → h g ≡ Kept.kept (clk g)) (within : (g : ℕ) → g < f → Kept.Within (clk g)) where
+module _ (m f : ℕ) (small : f < 64) (clk : ℕ → Clock) (h : ℕ → Kept) (held : (g : ℕ) → g < f → h g ≡ Kept.kept (clk g)) (within : (g : ℕ) → g < f → Within (clk g)) where
   Rule-agrees : ℕ → Kind → Type 0
   Rule-agrees i k = (x y z : ℕ) → Fits m f (k .make x y z) → Agrees f (Kept.rule h i x y z) (clockOf clk f (k .make x y z))
 

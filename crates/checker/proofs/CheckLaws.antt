@@ -15,8 +15,7 @@ use Rattle.table.proofs.Lists.{Each, below-suc}
 use Rattle.table.proofs.Registers.{Passes, Registers, all-pass, one-fails, registers}
 use Rattle.table.proofs.Tables.{Fits, AllFit}
 use Rattle.checker.specs.Clocks.{Condition, Clock, every}
-use Rattle.checker.specs.Rules.{maxDerived, maxConditions, clockOf, clockAt, clocksFrom, sourced, sourceFits, clocksOf}
-use Rattle.checker.specs.Private.Kept.{Below}
+use Rattle.checker.specs.Rules.{maxDerived, maxConditions, clockOf, clockAt, clocksFrom, sourced, sourceFits, clocksOf, Below}
 use Rattle.checker.proofs.RuleLaws.{Rule, by-input, by-constant, by-combine, by-register, by-faster, by-slower, by-later, by-head}
 use Rattle.checker.proofs.RuleLaws.{by-tail, by-sample, by-merge, rule-of}
 

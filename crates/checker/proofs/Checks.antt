@@ -15,7 +15,7 @@ use Rattle.table.specs.Plain.{tableOf, rowsIn}
 use Rattle.table.proofs.Tests.{not-good, good-inj, then-good}
 use Rattle.table.proofs.Tables.{Table, Fits, AllFit}
 use Rattle.checker.specs.Clocks.{Clock}
-use Rattle.checker.specs.Rules.{clockOf, clockAt, clocksFrom, clocksOf, sourced, sourceFits}
+use Rattle.checker.specs.Rules.{clockOf, clockAt, clocksFrom, clocksOf, sourced, sourceFits, AllWithin}
 use Rattle.checker.specs.Answers.{clocksWords, checking, checkAnswer, clocksAfter}
 use Rattle.checker.specs.Private.Kept as Kept
 use Rattle.checker.proofs.Agree.{few, same-kept}
@@ -50,7 +50,7 @@ clocks-length js (r ∷ rs) ks e =
     let x = then-good (clockOf (clockAt js) (length js) r) (λ k. clocksFrom (js ++ (k ∷ [])) rs) ks e in
     omega (arith, clocks-length (js ++ (x .0 ∷ [])) rs ks (x .2), length-append js (x .0 ∷ []))
 
-module _ (m : ℕ) (words : List ℕ) (rows : List Row) (t : Table m words rows) (ks : List Clock) (e : clocksFrom [] rows ≡ good ks) (old buffer : List ℕ) (held : buffer ≡ over (clocksWords ks) old) (within : Kept.Limited ks) where
+module _ (m : ℕ) (words : List ℕ) (rows : List Row) (t : Table m words rows) (ks : List Clock) (e : clocksFrom [] rows ≡ good ks) (old buffer : List ℕ) (held : buffer ≡ over (clocksWords ks) old) (within : AllWithin ks) where
   fits-same : (b a : ℕ) → b < m → a < m → Kept.fitsIn buffer b a ≡ sourceFits ks b a
   fits-same b a p q =
       let n : length ks ≡ m = omega (arith, clocks-length [] rows ks e, t .size) in

@@ -14,7 +14,7 @@ use Rattle.table.specs.Rows.{Row, tail, Words, badRegister, onRegister}
 use Rattle.table.specs.Plain.{four}
 use Rattle.table.proofs.Tables.{Table, Made, rowAt}
 use Rattle.checker.specs.Clocks.{Clock}
-use Rattle.checker.specs.Rules.{clockOf, clockAt, clocksFrom}
+use Rattle.checker.specs.Rules.{clockOf, clockAt, clocksFrom, Within, AllWithin}
 use Rattle.checker.specs.Answers.{conditionWord, clockWords, clocksWords}
 use Rattle.checker.specs.declared.Clock.{Clock as Kept}
 use Rattle.checker.specs.declared.Verdict.the-variants.{Is, Refused}
@@ -78,7 +78,7 @@ pub record Going (rows : List Row) (old : List ℕ) (f : ℕ) (buffer : List ℕ
   pub clocks : List Clock
   pub size : length clocks ≡ f
   pub held : buffer ≡ clocksWords clocks ++ drop (7 * f) old
-  pub within : Kept.Limited clocks
+  pub within : AllWithin clocks
   pub left : clocksFrom clocks (drop f rows) ≡ clocksFrom [] rows
 
 pub start : (rows : List Row) (old : List ℕ) → Going rows old 0 old
@@ -95,7 +95,7 @@ step-refused : (ks : List Clock) (r : Row) (rs : List Row) (f : ℕ) (why : Refu
 unfolding clocksFrom
 step-refused ks r rs f why g s e = rw (s, e)
 
-within-snoc : (ks : List Clock) (k : Clock) → Kept.Limited ks → Kept.Within k → Kept.Limited (ks ++ (k ∷ []))
+within-snoc : (ks : List Clock) (k : Clock) → AllWithin ks → Within k → AllWithin (ks ++ (k ∷ []))
 within-snoc [] k h w zero l = w
 within-snoc [] k h w (suc f) l = absurd (omega arith)
 within-snoc (j ∷ ks) k h w zero l = h 0 (omega arith)
@@ -114,7 +114,7 @@ module _ (m : ℕ) (words : List ℕ) (rows : List Row) (old : List ℕ) (f : �
   rows-here : drop f rows ≡ rowAt rows f ∷ drop (suc f) rows
   rows-here = drop-cons rows f (tail 0) (omega (arith, t .size))
 
-  pub go-on : (k : Clock) (buffer′ : List ℕ) → clockOf (clockAt (s .clocks)) f (rowAt rows f) ≡ good k → Kept.Within k
+  pub go-on : (k : Clock) (buffer′ : List ℕ) → clockOf (clockAt (s .clocks)) f (rowAt rows f) ≡ good k → Within k
       → 7 * f + 7 ≤ length old → buffer′ ≡ take (7 * f) buffer ++ (Kept.words (Kept.kept k) ++ drop (7 * f + 7) buffer) → Going rows old (f + 1) buffer′
   go-on k buffer′ e w fits b =
       let ks : List Clock = s .clocks in
@@ -189,7 +189,7 @@ finish rows old f buffer e s = (rw (whole, s .size), given)
 
     given : Kept.Assigned (clocksFrom [] rows) old buffer
     given ks x =
-        subst (λ (l : List Clock). (buffer ≡ over (clocksWords l) old) × Kept.Limited l) (good-inj (sym whole ∙ x))
+        subst (λ (l : List Clock). (buffer ≡ over (clocksWords l) old) × AllWithin l) (good-inj (sym whole ∙ x))
         (s .held ∙ ap (λ (i : ℕ). clocksWords (s .clocks) ++ drop i old) n, s .within)
 
 -- ---- the registers' sources

@@ -1,4 +1,4 @@
--- What the check answers, and leaves in its buffer: seven words a flow.
+-- What the check answers, and leaves in its buffer: a clock's words for each flow.
 use Prim.Native.Nat.{ℕ, _+_, _*_}
 use mathlib.Core.List.{List, [], _∷_, _++_, map}
 use lib.ListN.{length, take}
@@ -9,6 +9,10 @@ use Rattle.table.specs.Bits.{bit}
 use Rattle.table.specs.Plain.{tableOf}
 use Rattle.checker.specs.Clocks.{Condition, Clock}
 use Rattle.checker.specs.Rules.{clocksOf}
+
+-- how many words a clock has
+abbrev pub clockSize : ℕ
+clockSize = 7
 
 abbrev pub conditionWord : Condition → ℕ
 conditionWord c = 2 * c .flow + bit (c .truth)
@@ -24,7 +28,7 @@ clocksWords (k ∷ ks) = clockWords k ++ clocksWords ks
 
 -- what the check comes to where there is room for so many words
 unfoldable pub checking : ℕ → List ℕ → ℕ → Result (List Clock)
-checking m words room = then (tableOf m words) λ rows. unless (leb (7 * m) room) noRoom 0 (clocksOf rows)
+checking m words room = then (tableOf m words) λ rows. unless (leb (clockSize * m) room) noRoom 0 (clocksOf rows)
 
 abbrev pub checkAnswer : ℕ → List ℕ → ℕ → Answer
 checkAnswer m words room = answer length (checking m words room)

@@ -1,13 +1,14 @@
 -- The clock of each row, or why it has none.
-use Prim.Native.Nat.{ℕ, _+_, _*_}
+use mathlib.Core.Path.{_≡_}
+use Prim.Native.Nat.{ℕ, _+_, _*_, _<_}
 use mathlib.Core.Bool.{Bool, true, false, _&&_}
 use mathlib.Core.List.{List, [], _∷_, _++_}
 use mathlib.Core.Option.{Option, none, some}
 use lib.ListN.{length, getD}
 use lib.Dec.{eqb, leb}
 use Rattle.table.specs.Answers.{Result, good, refused, unless, then, clocksDiffer, beyondLimits, notPlain}
-use Rattle.table.specs.Rows.{Row, input, constant, combine, register, faster, slower, later, head, tail, sample, merge, badRegister}
-use Rattle.checker.specs.Clocks.{Clock, every, plain, sameClock, under}
+use Rattle.table.specs.Rows.{Row, input, constant, combine, register, faster, slower, later, head, tail, sample, merge, badRegister, maxFlows}
+use Rattle.checker.specs.Clocks.{Condition, Clock, every, plain, sameClock, under}
 
 -- the limits of what a rule derives
 abbrev pub maxDerived : ℕ
@@ -63,3 +64,17 @@ sourceFits ks b a = sameClock (clockAt ks a) (clockAt ks b)
 -- the clocks of a table's rows
 unfoldable pub clocksOf : List Row → Result (List Clock)
 clocksOf rows = then (clocksFrom [] rows) λ ks. sourced ks (badRegister (sourceFits ks) 0 rows)
+
+-- What is known of the clocks of an accepted table, for the crates above (proofs/Bounds).
+-- every condition is on a flow below f
+abbrev pub Below : ℕ → List Condition → Type 0
+Below f [] = Unit {0}
+Below f (c ∷ cs) = (c .flow < f) × Below f cs
+
+-- a clock within the limits, with conditions on flows of a table
+abbrev pub Within : Clock → Type 0
+Within k = (withinLimits k ≡ true) × Below maxFlows (k .conditions)
+
+-- the same of each clock
+abbrev pub AllWithin : List Clock → Type 0
+AllWithin ks = (f : ℕ) → f < length ks → Within (clockAt ks f)

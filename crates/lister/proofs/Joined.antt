@@ -13,9 +13,9 @@ use Rattle.table.specs.Rows.{Words}
 use Rattle.table.specs.Plain.{joined}
 use Rattle.table.specs.Packed.{unpacked, reading, readAnswer, wordsAfter}
 use Rattle.table.proofs.Tests.{then-good}
+use Rattle.checker.specs.Rules.{AllWithin}
 use Rattle.checker.specs.Clocks.{Clock}
 use Rattle.checker.specs.Answers.{checking}
-use Rattle.checker.specs.Private.Kept.{Limited}
 use Rattle.table.proofs.AnswerLaws.{answer-zero}
 use Rattle.table.proofs.ReadLaws.{opened}
 use Rattle.table.proofs.RoundTrip.{length-joined}
@@ -64,7 +64,7 @@ checked-words bs old new ws n room u e l r h =
     ap (take (4 * n)) w ∙ take-at (joined ws) (drop (length (joined ws)) old) (4 * n) (length-joined ws ∙ ap (λ (i : ℕ). 4 * i) (sym e)) in
     ap₂ (λ (i : ℕ) (x : List ℕ). checking i x room) e f ∙ ap (checking (length ws) (joined ws)) r ∙ checked-good bs ws u
 
-pub checked-clocks : (bs : List ℕ) (ks : List Clock) → checked bs ≡ good ks → (length ks ≤ 64) × Limited ks
+pub checked-clocks : (bs : List ℕ) (ks : List Clock) → checked bs ≡ good ks → (length ks ≤ 64) × AllWithin ks
 unfolding checked
 checked-clocks bs ks e =
     let x = then-good (unpacked bs) (λ ws. checking (length ws) (joined ws) 448) ks e in

@@ -1,22 +1,23 @@
 -- The text of the words that the check left is the text of the clocks, and how long it is. Assumes nothing.
-use mathlib.Core.Path.{_≡_, refl, _∙_, ap, ap₂}
+use mathlib.Core.Path.{_≡_, refl, sym, _∙_, ap, ap₂}
 use Prim.Native.Nat.{ℕ, suc, _+_, _*_, _/_, _%_, _≤_, _<_}
 use native.Mathlib.Nat.{zero-add}
 use native.Mathlib.Omega.{arith}
 use mathlib.Core.Bool.{Bool, true, false}
 use mathlib.Core.List.{List, [], _∷_, _++_, map, append-assoc}
-use lib.ListN.{length, getD, drop, length-append}
+use lib.ListN.{length, take, drop, length-append}
+use lib.Seq.{drop-append-seam}
 use lib.Dec.{eqb, leb}
 use borrow.Author.Tests.{le-leb, lt-leb}
 use Rattle.table.specs.Answers.{Refusal, good, refused, number, over, leaves}
 use Rattle.table.specs.Bits.{bit}
 use Rattle.table.specs.Rows.{maxFlows}
+use Rattle.checker.specs.Rules.{Below, Within, AllWithin}
 use Rattle.checker.specs.Clocks.{Condition, Clock}
-use Rattle.checker.specs.Answers.{conditionWord, clocksWords}
-use Rattle.checker.specs.Private.Kept as Kept
+use Rattle.checker.specs.Answers.{conditionWord, clockWords, clocksWords}
 use Rattle.checker.proofs.RuleLaws.{limits}
 use Rattle.checker.proofs.Agree.{few}
-use Rattle.checker.proofs.Folds.{words-cons}
+use Rattle.checker.proofs.WordLaws.{clock-words}
 use Rattle.lister.specs.declared.Listed.the-variants.{Bytes, NoRoom}
 use Rattle.lister.specs.Listing.{lineFeed, space, letterC, sign, decimal, field, okay, conditionText, conditionsFrom, conditionsText, lineText, linesFrom, okText, refusalText, checked, listingOf, longest, listed, textAfter}
 use Rattle.lister.specs.Private.Words.{Wrote, wordText, wordsText, countedText, sevenText, sevensText, tableText}
@@ -42,8 +43,9 @@ unfolding wordsText conditionsFrom
 words-text [] rest = refl
 words-text (c ∷ cs) rest = ap₂ _++_ (word-condition c) (words-text cs rest)
 
+-- the four words of conditions in a clock, and what stands after them
 counted-text : (cs : List Condition) (rest : List ℕ) → length cs ≤ 4
-    → countedText (length cs) (getD (map conditionWord cs) 0 0 ∷ getD (map conditionWord cs) 1 0 ∷ getD (map conditionWord cs) 2 0 ∷ getD (map conditionWord cs) 3 0 ∷ rest) ≡ conditionsText cs
+    → countedText (length cs) (take 4 (map conditionWord cs ++ (0 ∷ 0 ∷ 0 ∷ 0 ∷ [])) ++ rest) ≡ conditionsText cs
 unfolding countedText
 counted-text [] rest l = refl
 counted-text (a ∷ []) rest l = words-text (a ∷ []) (0 ∷ 0 ∷ 0 ∷ rest)
@@ -52,21 +54,23 @@ counted-text (a ∷ b ∷ c ∷ []) rest l = words-text (a ∷ b ∷ c ∷ []) (
 counted-text (a ∷ b ∷ c ∷ d ∷ []) rest l = words-text (a ∷ b ∷ c ∷ d ∷ []) rest
 counted-text (a ∷ b ∷ c ∷ d ∷ e ∷ cs) rest l = absurd (omega arith)
 
-seven-line : (f : ℕ) (k : Clock) (rest : List ℕ) → length (k .conditions) ≤ 4 → sevenText f (Kept.words (Kept.kept k) ++ rest) ≡ lineText f k
+seven-line : (f : ℕ) (k : Clock) (rest : List ℕ) → length (k .conditions) ≤ 4 → sevenText f (clockWords k ++ rest) ≡ lineText f k
 unfolding sevenText lineText
 seven-line f k rest l =
     ap (λ (w : List ℕ). field f ++ (field (k .period) ++ (field (k .phase) ++ (w ++ (lineFeed ∷ []))))) (counted-text (k .conditions) rest l)
 
-sevens-lines : (f : ℕ) (ks : List Clock) (rest : List ℕ) → Kept.Limited ks → sevensText (length ks) f (clocksWords ks ++ rest) ≡ linesFrom f ks
-unfolding sevensText linesFrom
+sevens-lines : (f : ℕ) (ks : List Clock) (rest : List ℕ) → AllWithin ks → sevensText (length ks) f (clocksWords ks ++ rest) ≡ linesFrom f ks
+unfolding sevensText linesFrom clocksWords
 sevens-lines f [] rest h = refl
 sevens-lines f (k ∷ ks) rest h =
-    let e : clocksWords (k ∷ ks) ++ rest ≡ Kept.words (Kept.kept k) ++ (clocksWords ks ++ rest) =
-    ap (λ (w : List ℕ). w ++ rest) (words-cons k ks) ∙ append-assoc (Kept.words (Kept.kept k)) (clocksWords ks) rest in
-    ap (λ (w : List ℕ). sevenText f w ++ sevensText (length ks) (suc f) (drop 7 w)) e
-    ∙ ap₂ _++_ (seven-line f k (clocksWords ks ++ rest) (few k (h 0 (omega arith)))) (sevens-lines (suc f) ks rest (λ (g : ℕ). λ (l : g < length ks). h (suc g) (omega arith)))
+    ap (λ (w : List ℕ). sevenText f w ++ sevensText (length ks) (suc f) (drop 7 w)) (append-assoc (clockWords k) (clocksWords ks) rest)
+    ∙ ap₂ _++_ (seven-line f k (clocksWords ks ++ rest) (few k (h 0 (omega arith))))
+    (ap (sevensText (length ks) (suc f)) (after k (clocksWords ks ++ rest)) ∙ sevens-lines (suc f) ks rest (λ (g : ℕ). λ (l : g < length ks). h (suc g) (omega arith)))
+  where
+    after : (k : Clock) (rest : List ℕ) → drop 7 (clockWords k ++ rest) ≡ rest
+    after k rest = ap (λ (n : ℕ). drop n (clockWords k ++ rest)) (sym (clock-words k)) ∙ drop-append-seam (clockWords k) rest
 
-table-text : (ks : List Clock) (rest : List ℕ) → Kept.Limited ks → tableText (length ks) (clocksWords ks ++ rest) ≡ okText ks
+table-text : (ks : List Clock) (rest : List ℕ) → AllWithin ks → tableText (length ks) (clocksWords ks ++ rest) ≡ okText ks
 unfolding tableText okText
 table-text ks rest h = ap (λ (w : List ℕ). okay ++ (decimal (length ks) ++ (lineFeed ∷ w))) (sevens-lines 0 ks rest h)
 
@@ -76,19 +80,19 @@ condition-length : (c : Condition) → c .flow < 64 → length (conditionText c)
 unfolding conditionText
 condition-length c l = omega (arith, two (c .flow) (omega arith), length-append (decimal (c .flow)) (sign (c .truth) ∷ []))
 
-conditions-length : (cs : List Condition) → Kept.Below maxFlows cs → length (conditionsFrom cs) ≤ 4 * length cs
+conditions-length : (cs : List Condition) → Below maxFlows cs → length (conditionsFrom cs) ≤ 4 * length cs
 unfolding conditionsFrom
 conditions-length [] h = omega arith
 conditions-length (c ∷ cs) h = omega (arith, condition-length c (h .0), conditions-length cs (h .1), length-append (conditionText c) (conditionsFrom cs))
 
-conditions-short : (cs : List Condition) → length cs ≤ 4 → Kept.Below maxFlows cs → length (conditionsText cs) ≤ 16
+conditions-short : (cs : List Condition) → length cs ≤ 4 → Below maxFlows cs → length (conditionsText cs) ≤ 16
 conditions-short [] l h = omega arith
 conditions-short (c ∷ cs) l h = omega (arith, conditions-length (c ∷ cs) h)
 
 field-length : (n j : ℕ) → length (decimal n) ≤ j → length (field n) ≤ j + 1
 field-length n j h = omega (arith, length-append (decimal n) (space ∷ []))
 
-line-length : (f : ℕ) (k : Clock) → f < 64 → Kept.Within k → length (lineText f k) ≤ 30
+line-length : (f : ℕ) (k : Clock) → f < 64 → Within k → length (lineText f k) ≤ 30
 unfolding lineText
 line-length f k l w =
     let fit = limits k (w .0) in
@@ -105,7 +109,7 @@ line-length f k l w =
       length-append (conditionsText (k .conditions)) (lineFeed ∷ []),
     )
 
-lines-length : (f : ℕ) (ks : List Clock) → f + length ks ≤ 64 → Kept.Limited ks → length (linesFrom f ks) ≤ 30 * length ks
+lines-length : (f : ℕ) (ks : List Clock) → f + length ks ≤ 64 → AllWithin ks → length (linesFrom f ks) ≤ 30 * length ks
 unfolding linesFrom
 lines-length f [] l h = omega arith
 lines-length f (k ∷ ks) l h =
@@ -116,7 +120,7 @@ lines-length f (k ∷ ks) l h =
       length-append (lineText f k) (linesFrom (suc f) ks),
     )
 
-ok-length : (ks : List Clock) → length ks ≤ 64 → Kept.Limited ks → length (okText ks) ≤ longest
+ok-length : (ks : List Clock) → length ks ≤ 64 → AllWithin ks → length (okText ks) ≤ longest
 unfolding okText
 ok-length ks l h =
     omega (arith, two (length ks) (omega arith), lines-length 0 ks (omega arith) h, length-append (decimal (length ks)) (lineFeed ∷ linesFrom 0 ks))

@@ -1,5 +1,5 @@
 -- A clock as the check keeps it, and each row's rule over such clocks. The laws of proofs/ join them to the paper's clocks and rules.
-use Prim.Native.Nat.{ℕ, _+_, _*_, _%_, _<_}
+use Prim.Native.Nat.{ℕ, _+_, _*_, _%_}
 use mathlib.Core.Path.{_≡_}
 use mathlib.Core.Option.{Option, none, some}
 use mathlib.Core.Bool.{Bool, true, false, cond, _&&_}
@@ -8,10 +8,10 @@ use lib.ListN.{length, getD, drop}
 use lib.Dec.{eqb, leb}
 use Rattle.table.specs.Answers.{Result, good, over}
 use Rattle.table.specs.Bits.{bit}
-use Rattle.table.specs.Rows.{Words, maxFlows}
+use Rattle.table.specs.Rows.{Words}
 use Rattle.checker.specs.Answers.{conditionWord, clocksWords}
-use Rattle.checker.specs.Clocks.{Clock, Condition}
-use Rattle.checker.specs.Rules.{withinLimits, clockAt, maxDerived, maxConditions}
+use Rattle.checker.specs.Clocks.{Clock}
+use Rattle.checker.specs.Rules.{AllWithin, maxDerived, maxConditions}
 use Rattle.checker.specs.declared.Clock.{Clock as Kept}
 use Rattle.checker.specs.declared.Found.{Found}
 use Rattle.checker.specs.declared.Found.the-variants.{At, Nothing}
@@ -144,18 +144,6 @@ abbrev pub place : Found → Option ℕ
 place (At f) = some f
 place Nothing = none
 
--- every condition is on a flow below f
-abbrev pub Below : ℕ → List Condition → Type 0
-Below f [] = Unit {0}
-Below f (c ∷ cs) = (c .flow < f) × Below f cs
-
--- a clock within the limits, with conditions on flows of a table
-abbrev pub Within : Clock → Type 0
-Within k = (withinLimits k ≡ true) × Below maxFlows (k .conditions)
-
-abbrev pub Limited : List Clock → Type 0
-Limited ks = (f : ℕ) → f < length ks → Within (clockAt ks f)
-
 -- clocks that were found stand in the buffer from the first word on, and are within the limits
 abbrev pub Assigned : Result (List Clock) → List ℕ → List ℕ → Type 0
-Assigned r old new = (ks : List Clock) → r ≡ good ks → (new ≡ over (clocksWords ks) old) × Limited ks
+Assigned r old new = (ks : List Clock) → r ≡ good ks → (new ≡ over (clocksWords ks) old) × AllWithin ks
