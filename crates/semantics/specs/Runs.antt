@@ -1,10 +1,11 @@
 -- The run, over rows and log alone.
 use Prim.Native.Nat.{ℕ, zero, suc, _+_, _*_}
 use mathlib.Core.Path.{_≡_}
-use mathlib.Core.Bool.{Bool, Bool·beq}
+use mathlib.Core.Bool.{Bool, true, false, Bool·beq}
 use mathlib.Core.List.{List, [], _∷_, _++_, map}
 use mathlib.Core.Option.{Option, none, some}
 use lib.ListN.{length, getD, take}
+use Rattle.table.specs.Bits.{bit}
 use Rattle.table.specs.Rows.{Row, input, constant, combine, register, faster, slower, later, head, tail, sample, merge, badRegister}
 use Rattle.semantics.specs.Cells.{Cell, absent, present, mark, History}
 use Rattle.semantics.specs.Operators.{Step, is, clashes, timed, combined, registered, fasterOf, slowerOf, laterOf, tailOf, headOf, sampled, merged}
@@ -22,23 +23,23 @@ cellIn now f = getD now f absent
 unfoldable pub history : Ticks → ℕ → History
 history past f = map (λ (now : Tick). cellIn now f) past
 
--- how many rows are inputs
-abbrev pub isInput : Row → ℕ
-isInput (input n p) = 1
-isInput (constant v n p) = 0
-isInput (combine op a b) = 0
-isInput (register v b a) = 0
-isInput (faster a k g) = 0
-isInput (slower a k) = 0
-isInput (later a d) = 0
-isInput (head a v s) = 0
-isInput (tail a) = 0
-isInput (sample u a c) = 0
-isInput (merge c a b) = 0
+abbrev pub isInput : Row → Bool
+isInput (input n p) = true
+isInput (constant v n p) = false
+isInput (combine op a b) = false
+isInput (register v b a) = false
+isInput (faster a k g) = false
+isInput (slower a k) = false
+isInput (later a d) = false
+isInput (head a v s) = false
+isInput (tail a) = false
+isInput (sample u a c) = false
+isInput (merge c a b) = false
 
+-- how many rows are inputs
 unfoldable pub inputs : List Row → ℕ
 inputs [] = 0
-inputs (r ∷ rs) = isInput r + inputs rs
+inputs (r ∷ rs) = bit (isInput r) + inputs rs
 
 -- the log's word of tick t for the input row that is flow f
 abbrev pub word : List Row → List ℕ → ℕ → ℕ → ℕ

@@ -1,15 +1,16 @@
 -- A rule of a table, proved at all of its entries by one test that antt computes. Assumes nothing.
-use mathlib.Core.Path.{_≡_, refl, subst, _∙_, ap}
+use mathlib.Core.Path.{_≡_, refl, sym, subst, _∙_, ap}
 use mathlib.Core.Bool.{Bool, true, _&&_}
 use mathlib.Core.List.{List, [], _∷_}
-use mathlib.Core.Option.{none, some}
+use mathlib.Core.Option.{none, some, Option·none-ne-some, Option·some-injective}
 use Prim.Native.Nat.{ℕ, zero, suc, _+_, _*_, _/_, _%_, _^_, _<_, _≤_}
+use native.Mathlib.Decide.{decLt}
 use native.Mathlib.Omega.{arith}
 use lib.Dec.{eqb}
 use lib.ListN.{length, getD, getElem?}
 use borrow.Author.Tests.{eqb-true}
-use Rattle.table.specs.Rows.{Field, operand, source, copies, period, ticks, value, unused, least, most, width, kinds, placed}
-use Rattle.table.specs.Private.Codes.{coded, kindAt, fieldList, kindCount}
+use Rattle.table.specs.Rows.{Field, operand, source, copies, period, ticks, value, unused, least, most, width, Kind, kinds, kindCount, kindAt, placed}
+use Rattle.table.specs.Private.Codes.{coded, fieldList}
 use Rattle.table.proofs.Tests.{and-left, and-right}
 
 module _ {A : Type 0} where
@@ -169,6 +170,17 @@ kind-there n h = there kinds _ n (omega (arith, kinds-size))
 
 pub kind-gone : (n : ℕ) → kindCount ≤ n → getElem? kinds n ≡ none
 kind-gone n h = gone kinds n (omega (arith, kinds-size))
+
+pub kind-known : (n : ℕ) (k : Kind) → getElem? kinds n ≡ some k → (n < kindCount) × (kindAt n ≡ k)
+kind-known n k e =
+    elim (decLt n kindCount) [
+      | yes h ↦ (h, Option·some-injective (kindAt n) k (sym (kind-there n h) ∙ e))
+      | no h ↦ absurd (Option·none-ne-some k (sym (kind-gone n (omega arith)) ∙ e))
+    ]
+
+-- a test of each kind and its number, computed over the whole list
+pub kind-test : (test : ℕ → Kind → Bool) → every test 0 kinds ≡ true → (n : ℕ) → n < kindCount → test n (kindAt n) ≡ true
+kind-test test t n h = at test kinds _ t n (omega (arith, kinds-size))
 
 -- a field that is neither operand nor source may hold any flow
 pub placed-else : (m f n x : ℕ) → (n ≡ 0 → ⊥) → (n ≡ 1 → ⊥) → placed m f (coded n) x ≡ true

@@ -1,9 +1,10 @@
 pub mod Tests
 pub mod Lists
+pub mod Entries
 pub mod Registers
 pub mod Tables
+pub mod Linked
 pub mod AnswerLaws
-mod Entries
 mod BitLaws
 mod Records
 mod Windows

@@ -14,7 +14,7 @@ use Rattle.table.specs.declared.Cursor.{Cursor}
 use Rattle.table.specs.declared.Record.{Record}
 use Rattle.table.specs.declared.Taking.the-variants.{Got, Short}
 use Rattle.table.specs.Answers.{number, Result, good, refused, then, answer, leaves, success, numbered, cutShort, badCount, badFilling}
-use Rattle.table.specs.Rows.{Row, Words, rowOf, maxFlows}
+use Rattle.table.specs.Rows.{Row, Words, rowOf, maxFlows, rowSize}
 use Rattle.table.specs.Plain.{joined, countFits, wordsOf}
 use Rattle.table.specs.Bits.{bits, fromBits}
 use Rattle.table.specs.Packed.{takeField, TakenRow, takeRow, takeRows, filling, unpacked, reading, readAnswer, wordsAfter, countWidth}
@@ -189,15 +189,15 @@ whole-taken s m d =
     record { rows = d .ws; all = subst (λ (n : ℕ). takeRows n n 0 (drop countWidth (bits s)) ≡ good (d .ws)) (d .size) (o .rows); within = o .within }
 
 -- too few words
-pub read-full : (s old : List ℕ) (m : ℕ) → Whole s m → length old < 4 * m
+pub read-full : (s old : List ℕ) (m : ℕ) → Whole s m → length old < rowSize * m
     → (numbered 10 0 ≡ readAnswer s (length old)) × (old ≡ wordsAfter s old)
 unfolding reading
-read-full s old m d h = rw (d .is, d .size, lt-leb (4 * m) (length old) h) (refl, refl)
+read-full s old m d h = rw (d .is, d .size, lt-leb (rowSize * m) (length old) h) (refl, refl)
 
 -- room for all words
-pub read-done : (s old new : List ℕ) (m : ℕ) → Whole s m → 4 * m ≤ length old → new ≡ leaves joined (takeRows m m 0 (drop countWidth (bits s))) old
+pub read-done : (s old new : List ℕ) (m : ℕ) → Whole s m → rowSize * m ≤ length old → new ≡ leaves joined (takeRows m m 0 (drop countWidth (bits s))) old
     → (success m ≡ readAnswer s (length old)) × (new ≡ wordsAfter s old)
 unfolding reading whole-taken
 read-done s old new m d h e =
     let t = whole-taken s m d in
-    rw (d .is, d .size, le-leb (4 * m) (length old) h) (ap success (sym (d .size)), e ∙ ap (λ (r : Result (List Words)). leaves joined r old) (t .all))
+    rw (d .is, d .size, le-leb (rowSize * m) (length old) h) (ap success (sym (d .size)), e ∙ ap (λ (r : Result (List Words)). leaves joined r old) (t .all))

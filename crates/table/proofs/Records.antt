@@ -12,10 +12,10 @@ use lib.Seq.{drop-drop}
 use borrow.Author.Tests.{leb-true, ltb-true, ltb-false}
 use Rattle.table.specs.Places.{longestRecord}
 use Rattle.table.specs.Answers.{Refusal, unknownKind, outOfRange, misplaced, Result, good, refused, unless, then, answer, numbered}
-use Rattle.table.specs.Rows.{Row, width, ranged, placed, Kind, kinds, Words, each, known, fieldsOf, rowOf}
-use Rattle.table.specs.Plain.{four, split, rowsFrom, tableOf}
+use Rattle.table.specs.Rows.{Row, width, ranged, placed, Kind, kinds, Words, each, known, fieldsOf, rowOf, rowSize, kindAt, kindCount}
+use Rattle.table.specs.Plain.{split, rowsFrom, tableOf, rowWords}
 use Rattle.table.specs.Packed.{rowBits, rowsBits, kindWidth}
-use Rattle.table.specs.Private.Codes.{kindAt, rowLength, verdict, kindCount}
+use Rattle.table.specs.Private.Codes.{rowLength, verdict}
 use Rattle.table.proofs.AnswerLaws.{no-zero}
 use Rattle.table.proofs.Tests.{Tried, passed, failed, try}
 use Rattle.table.proofs.Tables.{table-made}
@@ -82,13 +82,13 @@ rows-stop m f n w ws e h = go (rowOf m f w) (row-outcome m f w) e
 
 -- the rows from f on are row f and those after it
 pub split-next : (m f : ℕ) (words : List ℕ) → f < m
-    → split (m - f) (drop (4 * f) words) ≡ four (drop (4 * f) words) ∷ split (m - suc f) (drop (4 * suc f) words)
+    → split (m - f) (drop (rowSize * f) words) ≡ rowWords words f ∷ split (m - suc f) (drop (rowSize * suc f) words)
 unfolding split
 split-next m f words h =
     let p : m - f ≡ suc (m - suc f) = omega arith in
-    let q : 4 * f + 4 ≡ 4 * suc f = omega arith in
-    ap (λ (n : ℕ). split n (drop (4 * f) words)) p
-    ∙ ap (λ (l : List ℕ). four (drop (4 * f) words) ∷ split (m - suc f) l) (drop-drop 4 (4 * f) words ∙ ap (λ (n : ℕ). drop n words) q)
+    let q : rowSize * f + rowSize ≡ rowSize * suc f = omega arith in
+    ap (λ (n : ℕ). split n (drop (rowSize * f) words)) p
+    ∙ ap (λ (l : List ℕ). rowWords words f ∷ split (m - suc f) l) (drop-drop rowSize (rowSize * f) words ∙ ap (λ (n : ℕ). drop n words) q)
 
 -- the size of a packed row
 pub row-size : (w : Words) → w .kind < kindCount → length (rowBits w) ≡ rowLength (w .kind)
@@ -111,27 +111,27 @@ unfolding short rowLength
 row-le n h = leb-true _ longestRecord (at short kinds _ all-short n (omega (arith, kinds-size)))
 
 -- One row of a survey: row f of m, with the words w.
-module _ (m f : ℕ) (words : List ℕ) (w : Words) (is : w ≡ four (drop (4 * f) words)) (below : f < m) where
+module _ (m f : ℕ) (words : List ℕ) (w : Words) (is : w ≡ rowWords words f) (below : f < m) where
   pub survey-stop : (n : ℕ) → n ≡ verdict (rowOf m f w) → (n ≡ 0 → ⊥)
-      → answer (λ rs. m) (rowsFrom m f (split (m - f) (drop (4 * f) words))) ≡ numbered n f
+      → answer (λ rs. m) (rowsFrom m f (split (m - f) (drop (rowSize * f) words))) ≡ numbered n f
   survey-stop n e h =
-      rw (split-next m f words below) (rows-stop m f n (four (drop (4 * f) words)) _ (e ∙ ap (λ (x : Words). verdict (rowOf m f x)) is) h)
+      rw (split-next m f words below) (rows-stop m f n (rowWords words f) _ (e ∙ ap (λ (x : Words). verdict (rowOf m f x)) is) h)
 
   pub survey-next : verdict (rowOf m f w) ≡ 0
-      → answer (λ rs. m) (rowsFrom m (f + 1) (split (m - (f + 1)) (drop (4 * (f + 1)) words)))
-      ≡ answer (λ rs. m) (rowsFrom m f (split (m - f) (drop (4 * f) words)))
+      → answer (λ rs. m) (rowsFrom m (f + 1) (split (m - (f + 1)) (drop (rowSize * (f + 1)) words)))
+      ≡ answer (λ rs. m) (rowsFrom m f (split (m - f) (drop (rowSize * f) words)))
   survey-next e =
       rw (add-one, split-next m f words below)
-      (sym (rows-next m f (four (drop (4 * f) words)) _ (ap (λ (x : Words). verdict (rowOf m f x)) (sym is) ∙ e)))
+      (sym (rows-next m f (rowWords words f) _ (ap (λ (x : Words). verdict (rowOf m f x)) (sym is) ∙ e)))
 
   pub size-next : verdict (rowOf m f w) ≡ 0
-      → length (rowsBits (split (m - f) (drop (4 * f) words))) ≡ rowLength (w .kind) + length (rowsBits (split (m - (f + 1)) (drop (4 * (f + 1)) words)))
+      → length (rowsBits (split (m - f) (drop (rowSize * f) words))) ≡ rowLength (w .kind) + length (rowsBits (split (m - (f + 1)) (drop (rowSize * (f + 1)) words)))
   unfolding rowsBits
   size-next e =
       rw (add-one, split-next m f words below, ← is, length-append, row-size w (kind-lt m f w e))
 
 -- after the last row nothing is left
-pub split-end : (m f : ℕ) (words : List ℕ) → f ≤ m → m ≤ f → split (m - f) (drop (4 * f) words) ≡ []
+pub split-end : (m f : ℕ) (words : List ℕ) → f ≤ m → m ≤ f → split (m - f) (drop (rowSize * f) words) ≡ []
 unfolding split
 split-end m f words p q = let e : m - f ≡ 0 = omega arith in rw e
 

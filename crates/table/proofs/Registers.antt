@@ -1,12 +1,50 @@
--- The lowest register that fails a test: none if and only if every register passes. Assumes nothing.
-use mathlib.Core.Path.{_≡_, refl, ap}
-use Prim.Native.Nat.{ℕ, suc}
-use mathlib.Core.Bool.{Bool, true, false}
+-- Registers and all other rows; the lowest register that fails a test: none if and only if every register passes. Assumes nothing.
+use mathlib.Core.Path.{_≡_, refl, _∙_, ap}
+use Prim.Native.Nat.{ℕ, suc, _<_}
+use mathlib.Core.Bool.{Bool, true, false, cond, _||_}
 use mathlib.Core.List.{List, [], _∷_, _++_}
 use mathlib.Core.Option.{Option, none, some}
-use Rattle.table.specs.Rows.{Row, onRegister, badRegister}
+use lib.Dec.{eqb}
+use borrow.Author.Tests.{eqb-true}
+use Rattle.table.specs.Rows.{Row, input, constant, combine, register, faster, slower, later, head, tail, sample, merge}
+use Rattle.table.specs.Rows.{onRegister, badRegister, kinds, kindCount, decode}
 use Rattle.table.proofs.Tests.{Tried, passed, failed, try}
 use Rattle.table.proofs.Lists.{Each}
+use Rattle.table.proofs.Entries.{every, kind-test}
+
+-- a row is a register, or passes every test of registers
+pub data Kept : Row → Type 0 where
+  is-register : {v b a : ℕ} → Kept (register v b a)
+  other : {r : Row} → ((test : ℕ → ℕ → Bool) → onRegister test r ≡ true) → Kept r
+
+pub kept : (r : Row) → Kept r
+kept (input n p) = other (λ test. refl)
+kept (constant v n p) = other (λ test. refl)
+kept (combine op a b) = other (λ test. refl)
+kept (register v b a) = is-register
+kept (faster a k g) = other (λ test. refl)
+kept (slower a k) = other (λ test. refl)
+kept (later a d) = other (λ test. refl)
+kept (head a v s) = other (λ test. refl)
+kept (tail a) = other (λ test. refl)
+kept (sample u a c) = other (λ test. refl)
+kept (merge c a b) = other (λ test. refl)
+
+-- registers are of kind 7 alone: beat and source are the second field and the third
+no-register : (test : ℕ → ℕ → Bool) (x y z : ℕ) → every (λ n k. eqb n 7 || onRegister test (k .make x y z)) 0 kinds ≡ true
+unfolding kinds
+no-register test x y z = refl
+
+is-seventh : (test : ℕ → ℕ → Bool) (x y z : ℕ) → onRegister test (decode 7 x y z) ≡ test y z
+unfolding kinds
+is-seventh test x y z = refl
+
+pub register-by : (test : ℕ → ℕ → Bool) (n x y z : ℕ) → n < kindCount → onRegister test (decode n x y z) ≡ cond (eqb n 7) (test y z) true
+register-by test n x y z l = go (try (eqb n 7)) (kind-test (λ n k. eqb n 7 || onRegister test (k .make x y z)) (no-register test x y z) n l)
+  where
+    go : Tried (eqb n 7) → (eqb n 7 || onRegister test (decode n x y z)) ≡ true → onRegister test (decode n x y z) ≡ cond (eqb n 7) (test y z) true
+    go (passed e) h = rw e (ap (λ (i : ℕ). onRegister test (decode i x y z)) (eqb-true n 7 e) ∙ is-seventh test x y z)
+    go (failed e) h = rw e (rw e at h)
 
 module _ (test : ℕ → ℕ → Bool) where
   abbrev pub Passes : ℕ → Row → Type 0

@@ -10,19 +10,19 @@ use mathlib.Core.Option.{some}
 use lib.ListN.{length, getD, take, drop, replicate, length-append, length-replicate, take-append-drop, getElem?}
 use lib.Seq.{take-at, drop-at, length-take-le}
 use borrow.Author.Tests.{le-leb, leb-true, lt-ltb, ltb-true, eq-eqb, eqb-true}
-use Rattle.table.specs.Private.Codes.{kindCount}
 use Rattle.table.specs.Answers.{Result, good, refused, then, answer, leaves, over, success, cutShort, badCount, badFilling, noRoom}
-use Rattle.table.specs.Rows.{Row, Field, operand, source, copies, period, ticks, value, unused, width, ranged, Kind, kinds, Words, kindOf, fieldsOf, rowOf, maxFlows}
+use Rattle.table.specs.Rows.{Row, Field, operand, source, copies, period, ticks, value, unused, width, ranged, Kind, kinds, kindAt, Words, rowSize, kindOf, fieldsOf, rowOf, maxFlows}
 use Rattle.table.specs.Plain.{split, joined, rowsFrom, countFits, tableOf}
 use Rattle.table.specs.Bits.{toBits, fromBits, bits, bytesFrom, byteCount}
 use Rattle.table.specs.Packed.{Taken, takeField, TakenRow, takeFields, takeRow, takeRows, filling, unpacked, rowBits, rowsBits, packed, reading, writing, readAnswer, wordsAfter, writeAnswer, bytesAfter, countWidth, kindWidth}
+use Rattle.table.specs.RoundTrip.{bytesGiven, wordsGiven, RoundTrip}
 use Rattle.table.specs.Private.Laid.{fill, whole}
 use Rattle.table.proofs.Tests.{and-left, and-right, and-both, good-inj, unless-good, then-good}
 use Rattle.table.proofs.Tables.{ranges, known-good, Made, made, each-one, each-two, each-three, table-made}
 use Rattle.table.proofs.BitLaws.{length-toBits, from-to, to-from, to-from-at, zeros, length-bits}
 use Rattle.table.proofs.ByteLaws.{bytes-pad, bytes-bits, bits-packed}
 use Rattle.table.proofs.AnswerLaws.{no-zero}
-use Rattle.table.proofs.Records.{kind-lt}
+use Rattle.table.proofs.Entries.{kind-there}
 use Rattle.table.proofs.ReadLaws.{Opened, opened}
 use Rattle.table.proofs.WriteLaws.{tableBits, packed-split, length-split}
 
@@ -65,18 +65,18 @@ row-taken : (m f : ℕ) (w : Words) (r : Row) (rest : List Bool) → rowOf m f w
 unfolding takeRow takeFields rowBits fieldsOf
 row-taken m f w r rest e =
     let d : Made m f w r = made m f w r e in
-    let k : Kind = d .kind in
-    let h : w .kind < kindCount = kind-lt m f w (rw e) in
+    let k : Kind = kindAt (w .kind) in
+    let e0 = kind-there (w .kind) (d .known) in
     let f0 = toBits kindWidth (w .kind) in
     let f1 = toBits (width (k .one)) (w .one) in
     let f2 = toBits (width (k .two)) (w .two) in
     let f3 = toBits (width (k .three)) (w .three) in
     let g : (f0 ++ (f1 ++ (f2 ++ f3))) ++ rest ≡ f0 ++ (f1 ++ (f2 ++ (f3 ++ rest))) = simp append-assoc in
-    let t0 = take-put f kindWidth (w .kind) (f1 ++ (f2 ++ (f3 ++ rest))) (omega arith) in
+    let t0 = take-put f kindWidth (w .kind) (f1 ++ (f2 ++ (f3 ++ rest))) (omega (arith, d .known)) in
     let t1 = take-put f (width (k .one)) (w .one) (f2 ++ (f3 ++ rest)) (fits-width (k .one) (w .one) (each-one ranged k w (d .in-range))) in
     let t2 = take-put f (width (k .two)) (w .two) (f3 ++ rest) (fits-width (k .two) (w .two) (each-two ranged k w (d .in-range))) in
     let t3 = take-put f (width (k .three)) (w .three) rest (fits-width (k .three) (w .three) (each-three ranged k w (d .in-range))) in
-    rw (d .at, g, t0, d .at, t1, t2, t3, d .in-range, d .in-place)
+    rw (e0, g, t0, e0, t1, t2, t3, d .in-range, d .in-place)
 
 -- a row that was taken is put back, and is a row of the plain form
 record Back (m f : ℕ) (bs : List Bool) (t : TakenRow) : Type 0 where
@@ -175,12 +175,12 @@ unfolding split joined
 split-joined [] = refl
 split-joined (w ∷ ws) = ap (λ (l : List Words). w ∷ l) (split-joined ws)
 
-pub length-joined : (ws : List Words) → length (joined ws) ≡ 4 * length ws
+pub length-joined : (ws : List Words) → length (joined ws) ≡ rowSize * length ws
 unfolding joined
 length-joined [] = refl
 length-joined (w ∷ ws) = omega (arith, length-joined ws)
 
-joined-split : (n : ℕ) (words : List ℕ) → length words ≡ 4 * n → joined (split n words) ≡ words
+joined-split : (n : ℕ) (words : List ℕ) → length words ≡ rowSize * n → joined (split n words) ≡ words
 unfolding split joined
 joined-split zero [] h = refl
 joined-split zero (a ∷ l) h = absurd (omega arith)
@@ -199,7 +199,7 @@ unpacked-packed m words rows e =
     let ws = split m words in
     let table = tableBits m words in
     let d = table-made m words rows e in
-    let u = unless-good (countFits m && eqb (length words) (4 * m)) badCount 0 (rowsFrom m 0 ws) rows e in
+    let u = unless-good (countFits m && eqb (length words) (rowSize * m)) badCount 0 (rowsFrom m 0 ws) rows e in
     let end = fill (length table) in
     let g : bits (packed ws) ≡ toBits countWidth m ++ (rowsBits ws ++ end) =
     ap bits (packed-split m words) ∙ bits-packed table ∙ append-assoc (toBits countWidth m) (rowsBits ws) end in
@@ -222,7 +222,7 @@ module _ (bs : List ℕ) (ws : List Words) (e : unpacked bs ≡ good ws) where
       rw (
         le-leb 1 (length ws) (o .some-flow),
         le-leb (length ws) maxFlows (o .few),
-        eq-eqb (length (joined ws)) (4 * length ws) (length-joined ws),
+        eq-eqb (length (joined ws)) (rowSize * length ws) (length-joined ws),
         split-joined ws,
         back .made-rows,
       )
@@ -246,12 +246,10 @@ module _ (bs : List ℕ) (ws : List Words) (e : unpacked bs ≡ good ws) where
 
 -- ---- what callers see
 
--- A table that write accepts: the bytes that it counts, read into any words with room, give the count and the same words.
-pub read-written : (m : ℕ) (words old buf : List ℕ) → writeAnswer m words (length old) .number ≡ 0 → 4 * m ≤ length buf
-    → (readAnswer (take (writeAnswer m words (length old) .count) (bytesAfter m words old)) (length buf) ≡ success m)
-    × (wordsAfter (take (writeAnswer m words (length old) .count) (bytesAfter m words old)) buf ≡ over words buf)
+read-back : (m : ℕ) (words old buf : List ℕ) → writeAnswer m words (length old) .number ≡ 0 → rowSize * m ≤ length buf
+    → (readAnswer (bytesGiven m words old) (length buf) ≡ success m) × (wordsAfter (bytesGiven m words old) buf ≡ over words buf)
 unfolding writing reading
-read-written m words old buf ok room = go (writing m words (length old)) refl ok
+read-back m words old buf ok room = go (writing m words (length old)) refl ok
   where
     go : (r : Result (List ℕ)) → writing m words (length old) ≡ r → answer length r .number ≡ 0
         → (readAnswer (take (answer length r .count) (leaves (λ bs. bs) r old)) (length buf) ≡ success m)
@@ -262,23 +260,25 @@ read-written m words old buf ok room = go (writing m words (length old)) refl ok
         let u = unless-good (leb (length (packed (split m words))) (length old)) noRoom 0 (good (packed (split m words))) bs (t .2) in
         let d = table-made m words (t .0) (t .1) in
         let p : take (length bs) (bs ++ drop (length bs) old) ≡ packed (split m words) = take-at bs (drop (length bs) old) (length bs) refl ∙ sym (good-inj (u .1)) in
-        rw (p, unpacked-packed m words (t .0) (t .1), length-split m words, le-leb (4 * m) (length buf) room)
+        rw (p, unpacked-packed m words (t .0) (t .1), length-split m words, le-leb (rowSize * m) (length buf) room)
         (ap success (length-split m words), ap (λ (l : List ℕ). over l buf) (joined-split m words (d .words-size)))
 
--- Bytes that read accepts: the words that it counts, written into any bytes with room, give the count of bytes and the same bytes.
-pub write-read : (bs old buf : List ℕ) → ((k : ℕ) → getD bs k 0 < 256) → readAnswer bs (length old) .number ≡ 0 → length bs ≤ length buf
-    → (writeAnswer (readAnswer bs (length old) .count) (take (4 * readAnswer bs (length old) .count) (wordsAfter bs old)) (length buf) ≡ success (length bs))
-    × (bytesAfter (readAnswer bs (length old) .count) (take (4 * readAnswer bs (length old) .count) (wordsAfter bs old)) buf ≡ over bs buf)
+written-back : (bs old buf : List ℕ) → ((k : ℕ) → getD bs k 0 < 256) → readAnswer bs (length old) .number ≡ 0 → length bs ≤ length buf
+    → (writeAnswer (readAnswer bs (length old) .count) (wordsGiven bs old) (length buf) ≡ success (length bs))
+    × (bytesAfter (readAnswer bs (length old) .count) (wordsGiven bs old) buf ≡ over bs buf)
 unfolding writing reading
-write-read bs old buf below ok room = go (reading bs (length old)) refl ok
+written-back bs old buf below ok room = go (reading bs (length old)) refl ok
   where
     go : (r : Result (List Words)) → reading bs (length old) ≡ r → answer length r .number ≡ 0
-        → (writeAnswer (answer length r .count) (take (4 * answer length r .count) (leaves joined r old)) (length buf) ≡ success (length bs))
-        × (bytesAfter (answer length r .count) (take (4 * answer length r .count) (leaves joined r old)) buf ≡ over bs buf)
+        → (writeAnswer (answer length r .count) (take (rowSize * answer length r .count) (leaves joined r old)) (length buf) ≡ success (length bs))
+        × (bytesAfter (answer length r .count) (take (rowSize * answer length r .count) (leaves joined r old)) buf ≡ over bs buf)
     go (refused why f) e z = absurd (no-zero why z)
     go (good ws) e z =
         let t = then-good (unpacked bs) _ ws e in
-        let u = unless-good (leb (4 * length (t .0)) (length old)) noRoom 0 (good (t .0)) ws (t .2) in
+        let u = unless-good (leb (rowSize * length (t .0)) (length old)) noRoom 0 (good (t .0)) ws (t .2) in
         let q : unpacked bs ≡ good ws = t .1 ∙ u .1 in
-        let p : take (4 * length ws) (joined ws ++ drop (length (joined ws)) old) ≡ joined ws = take-at (joined ws) (drop (length (joined ws)) old) (4 * length ws) (length-joined ws) in
+        let p : take (rowSize * length ws) (joined ws ++ drop (length (joined ws)) old) ≡ joined ws = take-at (joined ws) (drop (length (joined ws)) old) (rowSize * length ws) (length-joined ws) in
         rw (p, table-unpacked bs ws q, split-joined ws, packed-unpacked bs ws q below, le-leb (length bs) (length buf) room) (refl, refl)
+
+pub round-trip : RoundTrip
+round-trip = record { read-written = read-back; write-read = written-back }

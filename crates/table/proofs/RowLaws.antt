@@ -8,9 +8,9 @@ use lib.ListN.{length}
 use Rattle.table.specs.declared.Cursor.{Cursor}
 use Rattle.table.specs.declared.Taking.the-variants.{Got, Short}
 use Rattle.table.specs.Answers.{cutShort, unknownKind}
-use Rattle.table.specs.Rows.{width, rowOf}
+use Rattle.table.specs.Rows.{width, rowOf, kindAt, kindCount}
 use Rattle.table.specs.Packed.{takeFields, takeRow, kindWidth}
-use Rattle.table.specs.Private.Codes.{kindAt, rowLength, kindCount}
+use Rattle.table.specs.Private.Codes.{rowLength}
 use Rattle.table.specs.Places.{takeAt, lastPlace, longestRecord}
 use Rattle.table.specs.Private.Steps.{Found, Missing}
 use Rattle.table.proofs.Entries.{kind-there, kind-gone, width-le}

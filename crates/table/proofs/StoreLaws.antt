@@ -11,26 +11,26 @@ use lib.Seq.{take-at, drop-at, drop-drop, sets-eq, length-take-le}
 use Rattle.table.specs.declared.Cursor.{Cursor}
 use Rattle.table.specs.declared.Record.{Record}
 use Rattle.table.specs.Answers.{good, over, leaves, badFilling}
-use Rattle.table.specs.Rows.{Words, rowOf}
+use Rattle.table.specs.Rows.{Words, rowOf, rowSize}
 use Rattle.table.specs.Plain.{joined, wordsOf}
 use Rattle.table.specs.Packed.{TakenRow, takeRow, takeRows, filling, countWidth}
 use Rattle.table.specs.Private.Steps.{Found, Missing, plainWords, AllTaken}
 use Rattle.table.proofs.Tests.{good-inj, not-good, unless-good, then-good}
 
 -- four words that are set one after the other
-pub four-set : (words : List ℕ) (i : ℕ) (r : Record) → i + 4 ≤ length words
-    → set (set (set (set words i (r .kind)) (i + 1) (r .one)) (i + 2) (r .two)) (i + 3) (r .three) ≡ take i words ++ (plainWords r ++ drop (i + 4) words)
+pub four-set : (words : List ℕ) (i : ℕ) (r : Record) → i + rowSize ≤ length words
+    → set (set (set (set words i (r .kind)) (i + 1) (r .one)) (i + 2) (r .two)) (i + 3) (r .three) ≡ take i words ++ (plainWords r ++ drop (i + rowSize) words)
 four-set words i r h =
     let e1 : i + 1 ≡ suc i = omega arith in
     let e2 : i + 2 ≡ suc (suc i) = omega arith in
     let e3 : i + 3 ≡ suc (suc (suc i)) = omega arith in
-    rw (e1, e2, e3) (sets-eq (plainWords r) words i h ∙ append-assoc (take i words) (plainWords r) (drop (i + 4) words))
+    rw (e1, e2, e3) (sets-eq (plainWords r) words i h ∙ append-assoc (take i words) (plainWords r) (drop (i + rowSize) words))
 
 -- the rows from row on are still to be stored
 pub record Storing (bs : List Bool) (m row at : ℕ) (words old : List ℕ) : Type 0 where
   pub rows : List Words
   pub left : takeRows m (m - row) row (drop at bs) ≡ good rows
-  pub whole : take (4 * row) words ++ over (joined rows) (drop (4 * row) words) ≡ leaves joined (takeRows m m 0 (drop countWidth bs)) old
+  pub whole : take (rowSize * row) words ++ over (joined rows) (drop (rowSize * row) words) ≡ leaves joined (takeRows m m 0 (drop countWidth bs)) old
 
 pub storing-starts : (bs : List Bool) (m : ℕ) (old : List ℕ) → AllTaken bs m → Storing bs m 0 countWidth old old
 storing-starts bs m old t = record { rows = t .rows; left = rw sub-zero (t .all); whole = rw (t .all) }
@@ -41,7 +41,7 @@ module _ (bs : List Bool) (m row at : ℕ) (words old : List ℕ) (st : Storing 
   storing-ends e =
       let z : m - row ≡ 0 = omega arith in
       let n : [] ≡ st .rows = good-inj (unless-good (filling (drop at bs)) badFilling 0 (good []) (st .rows) (rw z at (st .left)) .1) in
-      sym (take-append-drop (4 * row) words) ∙ ap (λ (ws : List Words). take (4 * row) words ++ over (joined ws) (drop (4 * row) words)) n ∙ st .whole
+      sym (take-append-drop (rowSize * row) words) ∙ ap (λ (ws : List Words). take (rowSize * row) words ++ over (joined ws) (drop (rowSize * row) words)) n ∙ st .whole
 
   module _ (below : row < m) where
     more : m - row ≡ suc (m - (row + 1))
@@ -74,19 +74,19 @@ module _ (bs : List Bool) (m row at : ℕ) (words old : List ℕ) (st : Storing 
           rows = ap (λ (w : Words). w ∷ b .0) ew ∙ good-inj (b .2);
         }
 
-    pub storing-goes : (r : Record) (p : Cursor) (new : List ℕ) → Found bs at r p → 4 * m ≤ length words
-        → new ≡ take (4 * row) words ++ (plainWords r ++ drop (4 * row + 4) words) → Storing bs m (row + 1) (p .at) new old
+    pub storing-goes : (r : Record) (p : Cursor) (new : List ℕ) → Found bs at r p → rowSize * m ≤ length words
+        → new ≡ take (rowSize * row) words ++ (plainWords r ++ drop (rowSize * row + rowSize) words) → Storing bs m (row + 1) (p .at) new old
     unfolding joined
     storing-goes r p new d fits e =
         let n : Next r p = next r p d in
-        let i : ℕ = 4 * row in
-        let j : 4 * (row + 1) ≡ i + 4 = omega arith in
+        let i : ℕ = rowSize * row in
+        let j : rowSize * (row + 1) ≡ i + rowSize = omega arith in
         let head : List ℕ = take i words ++ plainWords r in
-        let len : length head ≡ i + 4 = length-append (take i words) (plainWords r) ∙ ap (λ (k : ℕ). k + 4) (length-take-le i words (omega arith)) in
-        let e′ : new ≡ head ++ drop (i + 4) words = e ∙ sym (append-assoc (take i words) (plainWords r) (drop (i + 4) words)) in
-        let t : take (4 * (row + 1)) new ≡ head = ap (λ (k : ℕ). take k new) j ∙ ap (take (i + 4)) e′ ∙ take-at head (drop (i + 4) words) (i + 4) len in
-        let u : drop (4 * (row + 1)) new ≡ drop (i + 4) words = ap (λ (k : ℕ). drop k new) j ∙ ap (drop (i + 4)) e′ ∙ drop-at head (drop (i + 4) words) (i + 4) len in
-        let w : over (joined (n .later)) (drop (i + 4) words) ≡ over (joined (n .later)) (drop 4 (drop i words)) = ap (over (joined (n .later))) (sym (drop-drop 4 i words)) in
+        let len : length head ≡ i + rowSize = length-append (take i words) (plainWords r) ∙ ap (λ (k : ℕ). k + rowSize) (length-take-le i words (omega arith)) in
+        let e′ : new ≡ head ++ drop (i + rowSize) words = e ∙ sym (append-assoc (take i words) (plainWords r) (drop (i + rowSize) words)) in
+        let t : take (rowSize * (row + 1)) new ≡ head = ap (λ (k : ℕ). take k new) j ∙ ap (take (i + rowSize)) e′ ∙ take-at head (drop (i + rowSize) words) (i + rowSize) len in
+        let u : drop (rowSize * (row + 1)) new ≡ drop (i + rowSize) words = ap (λ (k : ℕ). drop k new) j ∙ ap (drop (i + rowSize)) e′ ∙ drop-at head (drop (i + rowSize) words) (i + rowSize) len in
+        let w : over (joined (n .later)) (drop (i + rowSize) words) ≡ over (joined (n .later)) (drop rowSize (drop i words)) = ap (over (joined (n .later))) (sym (drop-drop rowSize i words)) in
         let k : ℕ = length (joined (n .later)) in
         let four : 4 + k ≡ suc (suc (suc (suc k))) = omega arith in
         record {
@@ -94,8 +94,8 @@ module _ (bs : List Bool) (m row at : ℕ) (words old : List ℕ) (st : Storing 
           left = n .left;
           whole =
               rw (t, u, w)
-              (append-assoc (take i words) (plainWords r) (over (joined (n .later)) (drop 4 (drop i words)))
-              ∙ ap (λ (l : List ℕ). take i words ++ (plainWords r ++ (joined (n .later) ++ l))) (drop-drop k 4 (drop i words) ∙ ap (λ (h : ℕ). drop h (drop i words)) four)
+              (append-assoc (take i words) (plainWords r) (over (joined (n .later)) (drop rowSize (drop i words)))
+              ∙ ap (λ (l : List ℕ). take i words ++ (plainWords r ++ (joined (n .later) ++ l))) (drop-drop k rowSize (drop i words) ∙ ap (λ (h : ℕ). drop h (drop i words)) four)
               ∙ ap (λ (ws : List Words). take i words ++ over (joined ws) (drop i words)) (n .rows)
               ∙ st .whole);
         }

@@ -11,11 +11,11 @@ use lib.ListN.{length, getD, drop, length-append}
 use borrow.Author.Tests.{le-leb, lt-leb}
 use Rattle.table.specs.declared.Answer.{Answer}
 use Rattle.table.specs.Answers.{Result, good, refused, then, answer, success, numbered, badCount}
-use Rattle.table.specs.Rows.{Row, width, Words, rowOf}
-use Rattle.table.specs.Plain.{four, split, rowsFrom, countFits, tableOf}
+use Rattle.table.specs.Rows.{Row, width, Words, rowOf, rowSize, kindAt, kindCount}
+use Rattle.table.specs.Plain.{split, rowsFrom, countFits, tableOf, rowWords}
 use Rattle.table.specs.Bits.{toBits, bits, byteCount, bytes}
 use Rattle.table.specs.Packed.{countWidth, kindWidth, rowBits, rowsBits, packed, writing, writeAnswer, bytesAfter}
-use Rattle.table.specs.Private.Codes.{kindAt, rowLength, verdict, kindCount, Ready}
+use Rattle.table.specs.Private.Codes.{rowLength, verdict, Ready}
 use Rattle.table.specs.Private.Laid.{putAt}
 use Rattle.table.proofs.Tests.{unless-good}
 use Rattle.table.proofs.Tables.{table-made}
@@ -53,10 +53,10 @@ row-went m f w ws e = go (rowOf m f w) (row-outcome m f w) e
 
 -- the rows from row on are still to be put
 pub record Putting (m row at start : ℕ) (words out old : List ℕ) : Type 0 where
-  pub accepted : answer (λ rs. m) (rowsFrom m row (split (m - row) (drop (4 * row) words))) ≡ success m
-  pub size : at + length (rowsBits (split (m - row) (drop (4 * row) words))) ≡ start + length (rowsBits (split m words))
+  pub accepted : answer (λ rs. m) (rowsFrom m row (split (m - row) (drop (rowSize * row) words))) ≡ success m
+  pub size : at + length (rowsBits (split (m - row) (drop (rowSize * row) words))) ≡ start + length (rowsBits (split m words))
   pub filled : putAt (bits out) at [] ≡ bits out
-  pub whole : putAt (bits out) at (rowsBits (split (m - row) (drop (4 * row) words))) ≡ putAt (bits old) start (rowsBits (split m words))
+  pub whole : putAt (bits out) at (rowsBits (split (m - row) (drop (rowSize * row) words))) ≡ putAt (bits old) start (rowsBits (split m words))
 
 -- bits that were put are filled up
 put-filled : (old new f : List Bool) (at q : ℕ) → at ≤ length old → new ≡ putAt old at f → q ≡ at + length f → putAt new q [] ≡ new
@@ -71,12 +71,12 @@ module _ (m row at start : ℕ) (words out old : List ℕ) (pt : Putting m row a
   pub putting-ends : row ≡ m → bits out ≡ putAt (bits old) start (rowsBits (split m words))
   unfolding rowsBits
   putting-ends e =
-      let n : split (m - row) (drop (4 * row) words) ≡ [] = split-end m row words (omega arith) (omega arith) in
+      let n : split (m - row) (drop (rowSize * row) words) ≡ [] = split-end m row words (omega arith) (omega arith) in
       sym (pt .filled) ∙ (rw n at (pt .whole))
 
-  module _ (w : Words) (is : w ≡ four (drop (4 * row) words)) (below : row < m) where
+  module _ (w : Words) (is : w ≡ rowWords words row) (below : row < m) where
     pub fine-row : verdict (rowOf m row w) ≡ 0
-    fine-row = rw is (row-went m row (four (drop (4 * row) words)) _ (rw (split-next m row words below) at (pt .accepted)))
+    fine-row = rw is (row-went m row (rowWords words row) _ (rw (split-next m row words below) at (pt .accepted)))
 
     pub known-row : w .kind < kindCount
     known-row = kind-lt m row w fine-row
@@ -89,8 +89,8 @@ module _ (m row at start : ℕ) (words out old : List ℕ) (pt : Putting m row a
     unfolding rowsBits
     putting-goes q new i eq e =
         let p : q ≡ at + length (rowBits w) = eq ∙ ap (λ (n : ℕ). at + n) (sym (row-size w known-row)) in
-        let rest = split (m - (row + 1)) (drop (4 * (row + 1)) words) in
-        let n : w ∷ rest ≡ split (m - row) (drop (4 * row) words) = rw (add-one row, is) (sym (split-next m row words below)) in
+        let rest = split (m - (row + 1)) (drop (rowSize * (row + 1)) words) in
+        let n : w ∷ rest ≡ split (m - row) (drop (rowSize * row) words) = rw (add-one row, is) (sym (split-next m row words below)) in
         record {
           accepted = survey-next m row words w is below fine-row ∙ pt .accepted;
           size = omega (arith, eq, pt .size, size-next m row words w is below fine-row);
@@ -103,7 +103,7 @@ module _ (m row at start : ℕ) (words out old : List ℕ) (pt : Putting m row a
 pub length-split : (n : ℕ) (words : List ℕ) → length (split n words) ≡ n
 unfolding split
 length-split zero words = refl
-length-split (suc n) words = ap suc (length-split n (drop 4 words))
+length-split (suc n) words = ap suc (length-split n (drop rowSize words))
 
 abbrev pub tableBits : ℕ → List ℕ → List Bool
 tableBits m words = toBits countWidth m ++ rowsBits (split m words)
@@ -166,5 +166,5 @@ unfolding tableOf
 ready m words ok =
     let t = table-good m words ok in
     let d = table-made m words (t .0) (t .1) in
-    let r = unless-good (countFits m && eqb (length words) (4 * m)) badCount 0 (rowsFrom m 0 (split m words)) (t .0) (t .1) in
+    let r = unless-good (countFits m && eqb (length words) (rowSize * m)) badCount 0 (rowsFrom m 0 (split m words)) (t .0) (t .1) in
     record { few = d .few; words-size = d .words-size; accepted = rw (r .1) }

@@ -1,7 +1,10 @@
 pub mod Answers
 pub mod Rows
 pub mod Plain
+pub mod Tables
+pub mod Links
 pub mod Bits
 pub mod Packed
 pub mod Places
+pub mod RoundTrip
 pub mod Private

@@ -7,7 +7,7 @@ use lib.ListN.{length, take, drop, getElem?}
 use lib.Dec.{leb, ltb, eqb}
 use Rattle.table.specs.declared.Answer.{Answer}
 use Rattle.table.specs.Answers.{Result, good, unless, then, answer, leaves, noRoom, badCount, cutShort, badFilling}
-use Rattle.table.specs.Rows.{Kind, Words, kinds, kindOf, fieldsOf, width}
+use Rattle.table.specs.Rows.{Kind, Words, rowSize, kinds, kindOf, fieldsOf, width}
 use Rattle.table.specs.Plain.{split, joined, countFits, tableOf}
 use Rattle.table.specs.Bits.{toBits, fromBits, bits, bytes}
 
@@ -79,7 +79,7 @@ packed ws = bytes (toBits countWidth (length ws) ++ rowsBits ws)
 
 -- What reading comes to where there is room for so many words, and writing where there is room for so many bytes.
 unfoldable pub reading : List ℕ → ℕ → Result (List Words)
-reading bs room = then (unpacked bs) λ ws. unless (leb (4 * length ws) room) noRoom 0 (good ws)
+reading bs room = then (unpacked bs) λ ws. unless (leb (rowSize * length ws) room) noRoom 0 (good ws)
 
 unfoldable pub writing : ℕ → List ℕ → ℕ → Result (List ℕ)
 writing m words room =

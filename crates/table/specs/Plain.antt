@@ -7,9 +7,9 @@ use lib.Dec.{leb, eqb}
 use Rattle.table.specs.declared.Answer.{Answer}
 use Rattle.table.specs.declared.Record.{Record}
 use Rattle.table.specs.Answers.{Result, good, refused, unless, then, answer, badCount}
-use Rattle.table.specs.Rows.{Row, Words, rowOf, maxFlows}
+use Rattle.table.specs.Rows.{Row, Words, rowSize, rowOf, maxFlows}
 
--- the first four of the words
+-- the first row of the words
 abbrev pub four : List ℕ → Words
 four ws = record { kind = getD ws 0 0; one = getD ws 1 0; two = getD ws 2 0; three = getD ws 3 0 }
 
@@ -17,10 +17,14 @@ four ws = record { kind = getD ws 0 0; one = getD ws 1 0; two = getD ws 2 0; thr
 abbrev pub wordsOf : Record → Words
 wordsOf r = record { kind = r .kind; one = r .one; two = r .two; three = r .three }
 
--- n rows of four words
+-- n rows
 unfoldable pub split : ℕ → List ℕ → List Words
 split zero ws = []
-split (suc n) ws = four ws ∷ split n (drop 4 ws)
+split (suc n) ws = four ws ∷ split n (drop rowSize ws)
+
+-- row f by its words
+abbrev pub rowWords : List ℕ → ℕ → Words
+rowWords words f = four (drop (rowSize * f) words)
 
 -- the words of the rows, one after the other
 unfoldable pub joined : List Words → List ℕ
@@ -37,7 +41,7 @@ countFits m = leb 1 m && leb m maxFlows
 
 -- a table in plain form: its rows, or the first refusal
 unfoldable pub tableOf : ℕ → List ℕ → Result (List Row)
-tableOf m words = unless (countFits m && eqb (length words) (4 * m)) badCount 0 (rowsFrom m 0 (split m words))
+tableOf m words = unless (countFits m && eqb (length words) (rowSize * m)) badCount 0 (rowsFrom m 0 (split m words))
 
 -- the rows of a table that is not refused
 abbrev pub rowsIn : Result (List Row) → List Row

@@ -3,7 +3,7 @@ use Prim.Native.Nat.{ℕ, suc, _-_}
 use mathlib.Core.Bool.{Bool, true, false, cond, _&&_}
 use mathlib.Core.List.{List, [], _∷_}
 use mathlib.Core.Option.{Option, none, some}
-use lib.ListN.{getElem?}
+use lib.ListN.{getD, getElem?}
 use lib.Dec.{leb, ltb}
 use Rattle.table.specs.Answers.{Result, good, refused, unless, then, unknownKind, outOfRange, misplaced}
 
@@ -116,7 +116,21 @@ kinds =
     ∷ kind operand operand operand (λ c a b. merge c a b)
     ∷ []
 
--- the four words of a row: its kind's number, and its fields
+-- how many there are
+abbrev pub kindCount : ℕ
+kindCount = 16
+
+-- the kind with a number, and the row that it makes of three fields; a number from kindCount on is no kind
+abbrev pub kindAt : ℕ → Kind
+kindAt n = getD kinds n (kind unused unused unused (λ x y z. tail x))
+
+abbrev pub decode : ℕ → ℕ → ℕ → ℕ → Row
+decode n x y z = kindAt n .make x y z
+
+-- how many words a row has: its kind's number, and its fields
+abbrev pub rowSize : ℕ
+rowSize = 4
+
 pub record Words : Type 0 where
   pub kind : ℕ
   pub one : ℕ

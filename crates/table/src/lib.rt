@@ -1,9 +1,8 @@
 // A plan's table, in plain form and in packed form.
 ghost use mathlib.Core.Path.{_≡_};
-ghost use Prim.Native.Nat.{_*_};
-ghost use lib.ListN.{drop, getD, length};
+ghost use lib.ListN.{getD, length};
 ghost use Rattle.table.specs.Answers.{numbered, parts, success};
-ghost use Rattle.table.specs.Plain.{four, wordsOf, plainAnswer};
+ghost use Rattle.table.specs.Plain.{rowWords, wordsOf, plainAnswer};
 ghost use Rattle.table.specs.Private.Codes.{told};
 ghost use Rattle.table.specs.Packed.{readAnswer, wordsAfter, writeAnswer, bytesAfter};
 
@@ -97,8 +96,41 @@ pub enum Scan {
     Stopped(u32, u32),
 }
 
-// How many kinds of rows there are.
+// How many kinds of rows there are, how many words a row has, and how many flows a table has at most.
 pub const KINDS: u32 = 16;
+
+pub const ROW_SIZE: usize = 4;
+
+pub const MAX_FLOWS: u32 = 64;
+
+// The numbers of the refusals.
+pub const NO_ROOM: u32 = 10;
+
+pub const BAD_COUNT: u32 = 11;
+
+pub const CUT_SHORT: u32 = 12;
+
+pub const UNKNOWN_KIND: u32 = 13;
+
+pub const OUT_OF_RANGE: u32 = 14;
+
+pub const MISPLACED: u32 = 15;
+
+pub const BAD_FILLING: u32 = 16;
+
+pub const CLOCKS_DIFFER: u32 = 21;
+
+pub const BEYOND_LIMITS: u32 = 22;
+
+pub const NOT_PLAIN: u32 = 23;
+
+pub const TOO_MANY_TICKS: u32 = 31;
+
+pub const WRONG_LOG: u32 = 32;
+
+pub const SHORT_TRACE: u32 = 33;
+
+pub const CLASH: u32 = 34;
 
 // The bytes of the longest packed table.
 pub const LONGEST_TABLE: usize = (Cursor::LAST + 7) / 8;
@@ -112,9 +144,9 @@ pub fn word_at(words: &[u32], i: usize) -> u32
 
 // The words of a row, 0 past the end.
 pub fn record_at(words: &[u32], row: u32) -> Record
-    ensures { λ r. ⌜ wordsOf r ≡ four (drop (4 * row) (now (words .entry))) ⌝ }
+    ensures { λ r. ⌜ wordsOf r ≡ rowWords (now (words .entry)) row ⌝ }
 {
-    let i = 4 * (row as usize);
+    let i = ROW_SIZE * (row as usize);
     Record {
         kind: word_at(words, i),
         one: word_at(words, i + 1),
@@ -149,8 +181,11 @@ pub fn read(packed: &[u8], words: &mut [u32]) -> Reading
     let Reading::Table { count } = found else {
         return found;
     };
-    if words.len() < 4 * (count as usize) {
-        return Reading::Refused { number: 10, row: 0 };
+    if words.len() < ROW_SIZE * (count as usize) {
+        return Reading::Refused {
+            number: NO_ROOM,
+            row: 0,
+        };
     }
     unpack::store_rows(packed, count, words);
     Reading::Table { count }
@@ -176,7 +211,7 @@ pub fn write(count: u32, words: &[u32], packed: &mut [u8]) -> Answer
         return told(count, found);
     };
     if packed.len() < bytes {
-        return Answer::refusal(10, 0);
+        return Answer::refusal(NO_ROOM, 0);
     }
     pack::put_table(count, words, packed);
     Answer::success(bytes as u32)

@@ -7,12 +7,13 @@ ghost use mathlib.Core.Path.{_≡_};
 ghost use mathlib.Core.List.{_++_};
 ghost use Prim.Native.Nat.{_+_, _*_, _<_, _≤_};
 ghost use lib.ListN.{length};
+ghost use Rattle.table.specs.Rows.{kindCount};
 ghost use Rattle.table.specs.Plain.{split, wordsOf};
 ghost use Rattle.table.specs.Bits.{bits, toBits};
 ghost use Rattle.table.specs.Packed.{rowBits, rowsBits, countWidth};
 ghost use Rattle.table.specs.Places.{lastPlace, longestRecord};
 ghost use Rattle.table.specs.Private.Laid.{putAt};
-ghost use Rattle.table.specs.Private.Codes.{rowLength, kindCount, Ready};
+ghost use Rattle.table.specs.Private.Codes.{rowLength, Ready};
 
 impl Cursor {
     // Puts a row of a known kind, and hands back the place after it.

@@ -1,4 +1,7 @@
 // The test of a table in plain form.
+use super::BAD_COUNT;
+use super::MAX_FLOWS;
+use super::ROW_SIZE;
 use super::Survey;
 use super::bits::byte_count;
 use super::record_at;
@@ -7,9 +10,10 @@ use super::rows::width_of;
 ghost use mathlib.Core.Path.{_≡_};
 ghost use Prim.Native.Nat.{_+_, _*_, _<_, _≤_};
 ghost use lib.ListN.{length};
+ghost use Rattle.table.specs.Rows.{kindCount, maxFlows, rowSize};
 ghost use Rattle.table.specs.Answers.{answer};
 ghost use Rattle.table.specs.Plain.{split, rowsFrom, countFits, tableOf};
-ghost use Rattle.table.specs.Private.Codes.{rowLength, told, Sized, kindCount};
+ghost use Rattle.table.specs.Private.Codes.{rowLength, told, Sized};
 
 // The bits of a row of a known kind in packed form.
 fn row_length(kind: u32) -> usize
@@ -21,7 +25,7 @@ fn row_length(kind: u32) -> usize
 
 // The rows of a table of count flows, from the first on.
 fn survey_rows(count: u32, words: &[u32]) -> Survey
-    requires { ⌜ (count ≤ 64) × (length (now words) ≡ 4 * count) ⌝ }
+    requires { ⌜ (count ≤ maxFlows) × (length (now words) ≡ rowSize * count) ⌝ }
     ensures { λ r. ⌜ (answer (λ rs. count) (rowsFrom count 0 (split count (now (words .entry)))) ≡ told count r) × Sized (split count (now (words .entry))) r ⌝ }
 {
     let mut bits: usize = 8;
@@ -45,7 +49,7 @@ pub(crate) fn count_fits(count: u32) -> bool
     if count < 1 {
         return false;
     }
-    count <= 64
+    count <= MAX_FLOWS
 }
 
 // A table in plain form: its bytes in packed form, or why it is refused.
@@ -53,10 +57,10 @@ pub(crate) fn survey(count: u32, words: &[u32]) -> Survey
     ensures { λ r. ⌜ (answer (λ rs. count) (tableOf count (now (words .entry))) ≡ told count r) × Sized (split count (now (words .entry))) r ⌝ }
 {
     if !count_fits(count) {
-        return Survey::Refused(11, 0);
+        return Survey::Refused(BAD_COUNT, 0);
     }
-    if words.len() != 4 * (count as usize) {
-        return Survey::Refused(11, 0);
+    if words.len() != ROW_SIZE * (count as usize) {
+        return Survey::Refused(BAD_COUNT, 0);
     }
     survey_rows(count, words)
 }

@@ -1,12 +1,15 @@
 // The rows of a table: their fields by kind, and a field's range, width and place.
 use super::KINDS;
+use super::MISPLACED;
+use super::OUT_OF_RANGE;
 use super::Record;
+use super::UNKNOWN_KIND;
 ghost use mathlib.Core.Path.{_≡_};
 ghost use Prim.Native.Nat.{_<_, _≤_};
 ghost use lib.ListN.{getD};
-ghost use Rattle.table.specs.Rows.{unused, width, ranged, placed, each, rowOf};
+ghost use Rattle.table.specs.Rows.{unused, width, ranged, placed, each, rowOf, kindAt, kindCount};
 ghost use Rattle.table.specs.Plain.{wordsOf};
-ghost use Rattle.table.specs.Private.Codes.{coded, fieldList, kindAt, verdict, kindCount};
+ghost use Rattle.table.specs.Private.Codes.{coded, fieldList, verdict};
 
 const OPERAND: u32 = 0;
 
@@ -30,7 +33,7 @@ const MOST: [u32; 7] = [63, 63, 63, 4095, 4095, 4294967295, 0];
 const WIDTH: [u32; 7] = [6, 6, 6, 12, 12, 32, 0];
 
 // By kind: its three fields as digits to base 8, the first one lowest.
-const FIELDS: [u32; 16] = [
+const FIELDS: [u32; KINDS as usize] = [
     PERIOD + 8 * TICKS + 64 * UNUSED, // input
     VALUE + 8 * PERIOD + 64 * TICKS, // constant
     OPERAND + 8 * OPERAND + 64 * UNUSED, // add
@@ -121,13 +124,13 @@ pub(crate) fn judge(r: Record, row: u32, count: u32) -> u32
     ensures { λ n. ⌜ n ≡ verdict (rowOf count row (wordsOf r)) ⌝ }
 {
     if KINDS <= r.kind {
-        return 13;
+        return UNKNOWN_KIND;
     }
     if all_in_range(r) {
         if all_in_place(r, row, count) {
             return 0;
         }
-        return 15;
+        return MISPLACED;
     }
-    14
+    OUT_OF_RANGE
 }

@@ -1,11 +1,16 @@
 // Reading the packed form: a pass that judges, and a pass that stores.
+use super::BAD_COUNT;
+use super::BAD_FILLING;
+use super::CUT_SHORT;
 use super::Cursor;
 use super::KINDS;
+use super::ROW_SIZE;
 use super::Reading;
 use super::Record;
 use super::Scan;
 use super::Step;
 use super::Taking;
+use super::UNKNOWN_KIND;
 use super::bits::byte_count;
 use super::bits::up;
 use super::held::first_field;
@@ -19,7 +24,8 @@ ghost use lib.ListN.{length, take, drop};
 ghost use Rattle.table.specs.Answers.{answer, parts, leaves};
 ghost use Rattle.table.specs.Plain.{joined};
 ghost use Rattle.table.specs.Bits.{bits};
-ghost use Rattle.table.specs.Packed.{filling, takeRows, unpacked};
+ghost use Rattle.table.specs.Rows.{maxFlows, rowSize};
+ghost use Rattle.table.specs.Packed.{filling, takeRows, unpacked, countWidth};
 ghost use Rattle.table.specs.Places.{lastPlace, longestRecord};
 ghost use Rattle.table.specs.Private.Steps.{Stepped, Scanned, plainWords, AllTaken};
 
@@ -30,19 +36,19 @@ impl Cursor {
         ensures { λ r. ⌜ Stepped (bits (now (s .entry))) (self .at) r ⌝ }
     {
         let Taking::Got(kind, first) = self.take(s, 5) else {
-            return Step::Refused(12);
+            return Step::Refused(CUT_SHORT);
         };
         if KINDS <= kind {
-            return Step::Refused(13);
+            return Step::Refused(UNKNOWN_KIND);
         }
         let Taking::Got(one, second) = first.take(s, width_of(kind, 0)) else {
-            return Step::Refused(12);
+            return Step::Refused(CUT_SHORT);
         };
         let Taking::Got(two, third) = second.take(s, width_of(kind, 1)) else {
-            return Step::Refused(12);
+            return Step::Refused(CUT_SHORT);
         };
         let Taking::Got(three, next) = third.take(s, width_of(kind, 2)) else {
-            return Step::Refused(12);
+            return Step::Refused(CUT_SHORT);
         };
         Step::Row(
             Record {
@@ -58,7 +64,7 @@ impl Cursor {
 
 // The rows of a table of count flows: the place after them, or the first refusal with its row.
 fn scan_rows(s: &[u8], count: u32) -> Scan
-    requires { ⌜ (count ≤ 64) × (8 ≤ length (bits (now s))) ⌝ }
+    requires { ⌜ (count ≤ maxFlows) × (countWidth ≤ length (bits (now s))) ⌝ }
     ensures { λ r. ⌜ Scanned (bits (now (s .entry))) count r ⌝ }
 {
     let mut cursor = Cursor { at: 8 };
@@ -102,10 +108,16 @@ pub(crate) fn inspect(s: &[u8]) -> Reading
     ensures { λ r. ⌜ answer length (unpacked (now (s .entry))) ≡ parts r ⌝ }
 {
     let Taking::Got(count, _) = first_field(s, 8) else {
-        return Reading::Refused { number: 12, row: 0 };
+        return Reading::Refused {
+            number: CUT_SHORT,
+            row: 0,
+        };
     };
     if !count_fits(count) {
-        return Reading::Refused { number: 11, row: 0 };
+        return Reading::Refused {
+            number: BAD_COUNT,
+            row: 0,
+        };
     }
     let scan = scan_rows(s, count);
     match scan {
@@ -115,7 +127,10 @@ pub(crate) fn inspect(s: &[u8]) -> Reading
             if ends(s, at) {
                 Reading::Table { count }
             } else {
-                Reading::Refused { number: 16, row: 0 }
+                Reading::Refused {
+                    number: BAD_FILLING,
+                    row: 0,
+                }
             }
         }
     }
@@ -123,10 +138,10 @@ pub(crate) fn inspect(s: &[u8]) -> Reading
 
 // The four words of a row at its place.
 fn store_row(words: &mut [u32], row: u32, r: Record)
-    requires { ⌜ 4 * row + 4 ≤ length (now words) ⌝ }
-    ensures { λ u. ⌜ now (words .exit) ≡ take (4 * row) (now (words .entry)) ++ (plainWords r ++ drop (4 * row + 4) (now (words .entry))) ⌝ }
+    requires { ⌜ rowSize * row + rowSize ≤ length (now words) ⌝ }
+    ensures { λ u. ⌜ now (words .exit) ≡ take (rowSize * row) (now (words .entry)) ++ (plainWords r ++ drop (rowSize * row + rowSize) (now (words .entry))) ⌝ }
 {
-    let i = 4 * (row as usize);
+    let i = ROW_SIZE * (row as usize);
     words[i] = r.kind;
     words[i + 1] = r.one;
     words[i + 2] = r.two;
@@ -135,8 +150,8 @@ fn store_row(words: &mut [u32], row: u32, r: Record)
 
 // The words of the rows of a table that is not refused.
 pub(crate) fn store_rows(s: &[u8], count: u32, words: &mut [u32])
-    requires { ⌜ (count ≤ 64) × (4 * count ≤ length (now words)) × AllTaken (bits (now s)) count ⌝ }
-    ensures { λ u. ⌜ now (words .exit) ≡ leaves joined (takeRows count count 0 (drop 8 (bits (now (s .entry))))) (now (words .entry)) ⌝ }
+    requires { ⌜ (count ≤ maxFlows) × (rowSize * count ≤ length (now words)) × AllTaken (bits (now s)) count ⌝ }
+    ensures { λ u. ⌜ now (words .exit) ≡ leaves joined (takeRows count count 0 (drop countWidth (bits (now (s .entry))))) (now (words .entry)) ⌝ }
 {
     let mut cursor = Cursor { at: 8 };
     let mut row: u32 = 0;

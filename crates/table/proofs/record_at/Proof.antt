@@ -2,6 +2,7 @@
 use Prim.Native.Nat.{_*_}
 use denote.Ref.{now}
 use borrow.Author.Needs.{needs}
+use Rattle.table.specs.Rows.{rowSize}
 use Rattle.table.proofs.Tables.{four-read}
 use Rattle.table.proofs.record_at.Statement.{statement}
 use Rattle.table.proofs.record_at.Tie as tie
@@ -32,7 +33,7 @@ word-at-requires-4 c κs = search needs
 
 returns : tie.Need-returns
 returns c = rw (c .word-at4 .ensures, c .before .word-at3 .ensures, c .before .before .word-at2 .ensures, c .before .before .before .word-at .ensures)
-    (four-read (now (c .before .before .before .before .before .args .words)) (4 * c .before .before .before .before .before .args .row))
+    (four-read (now (c .before .before .before .before .before .args .words)) (rowSize * c .before .before .before .before .before .args .row))
 
 pub record-at-spec : {M : Type 1} → statement M
 record-at-spec =

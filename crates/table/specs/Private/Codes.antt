@@ -7,7 +7,7 @@ use Rattle.table.specs.declared.Answer.{Answer}
 use Rattle.table.specs.declared.Survey.{Survey}
 use Rattle.table.specs.declared.Survey.the-variants.{Fits, Refused}
 use Rattle.table.specs.Answers.{Result, good, refused, number, answer, success, numbered}
-use Rattle.table.specs.Rows.{Field, operand, source, copies, period, ticks, value, unused, width, Kind, kind, kinds, Words, tail, maxFlows}
+use Rattle.table.specs.Rows.{Field, operand, source, copies, period, ticks, value, unused, width, Kind, kindAt, Words, rowSize, maxFlows}
 use Rattle.table.specs.Plain.{split, rowsFrom}
 use Rattle.table.specs.Bits.{byteCount}
 use Rattle.table.specs.Places.{lastPlace}
@@ -16,14 +16,6 @@ use Rattle.table.specs.Packed.{kindWidth, countWidth, rowsBits}
 -- the fields in the order of their numbers
 abbrev pub coded : ℕ → Field
 coded n = getD (operand ∷ source ∷ copies ∷ period ∷ ticks ∷ value ∷ unused ∷ []) n unused
-
--- how many kinds there are
-abbrev pub kindCount : ℕ
-kindCount = 16
-
--- the kind with a number
-abbrev pub kindAt : ℕ → Kind
-kindAt n = getD kinds n (kind unused unused unused (λ x y z. tail x))
 
 abbrev pub fieldList : Kind → List Field
 fieldList k = k .one ∷ k .two ∷ k .three ∷ []
@@ -49,5 +41,5 @@ Sized ws (Refused k row) = Unit {0}
 -- a table in plain form that is not refused
 pub record Ready (m : ℕ) (words : List ℕ) : Type 0 where
   pub few : m ≤ maxFlows
-  pub words-size : length words ≡ 4 * m
+  pub words-size : length words ≡ rowSize * m
   pub accepted : answer (λ rs. m) (rowsFrom m 0 (split m words)) ≡ success m

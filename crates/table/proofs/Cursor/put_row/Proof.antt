@@ -5,11 +5,11 @@ use native.Mathlib.Omega.{arith}
 use lib.ListN.{length, length-append}
 use denote.Ref.{now}
 use mathlib.Core.List.{_++_}
-use Rattle.table.specs.Rows.{width}
+use Rattle.table.specs.Rows.{width, kindAt}
 use Rattle.table.specs.Bits.{bits, toBits}
 use Rattle.table.specs.Packed.{kindWidth}
 use Rattle.table.specs.Plain.{wordsOf}
-use Rattle.table.specs.Private.Codes.{kindAt, rowLength}
+use Rattle.table.specs.Private.Codes.{rowLength}
 use Rattle.table.specs.Private.Laid.{putAt}
 use Rattle.table.proofs.BitLaws.{length-toBits, length-bits}
 use Rattle.table.proofs.Records.{row-le}

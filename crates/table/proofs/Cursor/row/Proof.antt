@@ -4,10 +4,9 @@ use Prim.Native.Nat.{_+_, _≤_}
 use lib.ListN.{length}
 use denote.Ref.{now}
 use Rattle.table.specs.declared.Taking.the-variants.{Got}
-use Rattle.table.specs.Rows.{width}
+use Rattle.table.specs.Rows.{width, kindAt}
 use Rattle.table.specs.Bits.{bits}
 use Rattle.table.specs.Packed.{kindWidth}
-use Rattle.table.specs.Private.Codes.{kindAt}
 use Rattle.table.specs.Places.{takeAt, lastPlace, longestRecord}
 use Rattle.table.proofs.RowLaws.{no-kind, bad-kind, no-one, no-two, no-three, found}
 use borrow.Author.Needs.{needs}

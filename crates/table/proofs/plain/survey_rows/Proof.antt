@@ -1,7 +1,7 @@
 -- `table::plain::survey_rows` meets its contract. Assumes nothing.
 use mathlib.Core.List.{[]}
 use Rattle.table.specs.Places.{longestRecord}
-use Rattle.table.specs.Rows.{rowOf}
+use Rattle.table.specs.Rows.{rowOf, rowSize}
 use Rattle.table.specs.Private.Codes.{verdict}
 use mathlib.Core.Path.{_≡_, sym, _∙_}
 use Prim.Native.Nat.{_+_, _-_, _*_, _≤_, _<_}
@@ -20,8 +20,8 @@ use Rattle.table.proofs.plain.survey_rows.Tie as tie
 abbrev Inv-loop : tie.InvT-loop
 Inv-loop count words bits₀ row₀ bits row =
     (row ≤ count) × (bits ≤ 8 + longestRecord * row)
-    × (answer (λ rs. count) (rowsFrom count row (split (count - row) (drop (4 * row) words))) ≡ answer (λ rs. count) (rowsFrom count 0 (split count words)))
-    × (bits + length (rowsBits (split (count - row) (drop (4 * row) words))) ≡ 8 + length (rowsBits (split count words)))
+    × (answer (λ rs. count) (rowsFrom count row (split (count - row) (drop (rowSize * row) words))) ≡ answer (λ rs. count) (rowsFrom count 0 (split count words)))
+    × (bits + length (rowsBits (split (count - row) (drop (rowSize * row) words))) ≡ 8 + length (rowsBits (split count words)))
 
 abbrev μ-loop : tie.MeasureT-loop
 μ-loop count words bits₀ row₀ bits row = count - row
@@ -85,7 +85,7 @@ unfolding rowsFrom rowsBits
 returns-2 c =
     let a = c .before .before .before .before .args in
     let l = c .before .before .loop in
-    let e : split (a .count - l .row) (drop (4 * l .row) (now (a .words))) ≡ [] = split-end (a .count) (l .row) (now (a .words)) (l .inv .0) (c .before .loop-test .left) in
+    let e : split (a .count - l .row) (drop (rowSize * l .row) (now (a .words))) ≡ [] = split-end (a .count) (l .row) (now (a .words)) (l .inv .0) (c .before .loop-test .left) in
     (sym (rw e at (l .inv .2)), omega (arith, c .byte-count .ensures, rw e at (l .inv .3)))
 
 pub survey-rows-spec : {M : Type 1} → statement M

@@ -2,9 +2,9 @@
 use native.Mathlib.Omega.{arith}
 use Prim.Native.Nat.{ℕ, _≤_}
 use mathlib.Core.Path.{sym, ap, _∙_, subst}
-use Rattle.table.specs.Rows.{Field, width, unused}
+use Rattle.table.specs.Rows.{Field, width, unused, kindAt}
 use lib.ListN.{getD}
-use Rattle.table.specs.Private.Codes.{kindAt, fieldList}
+use Rattle.table.specs.Private.Codes.{fieldList}
 use Rattle.table.proofs.Entries.{width-at, width-le}
 use borrow.Author.Needs.{needs}
 use Rattle.table.proofs.rows.width_of.Statement.{statement}

@@ -3,6 +3,7 @@ use Prim.Native.Nat.{_*_}
 use native.Mathlib.Omega.{arith}
 use lib.ListN.{length-set}
 use denote.Ref.{now}
+use Rattle.table.specs.Rows.{rowSize}
 use Rattle.table.proofs.StoreLaws.{four-set}
 use borrow.Author.Needs.{needs}
 use Rattle.table.proofs.unpack.store_row.Statement.{statement}
@@ -48,7 +49,7 @@ same-length : tie.Need-same-length
 same-length c = search needs
 
 returns : tie.Need-returns
-returns c = four-set (now (c .args .words)) (4 * c .args .row) (c .args .r) (c .pre)
+returns c = four-set (now (c .args .words)) (rowSize * c .args .row) (c .args .r) (c .pre)
 
 pub store-row-spec : {M : Type 1} → statement M
 store-row-spec =
