@@ -60,7 +60,7 @@ agree-limited f n p = go (leb n maxDerived) (leb p maxDerived) refl refl
     go true false a b = (refl, refl)
     go false b a e = (refl, refl)
 
--- ---- equal clocks: the seven words are
+-- ---- equal clocks: the clockIn words are
 
 word-inj : (f g : ℕ) (t u : Bool) → 2 * f + bit t ≡ 2 * g + bit u → (f ≡ g) × (t ≡ u)
 word-inj f g true true e = (omega arith, refl)
@@ -118,7 +118,7 @@ same-kept-back j k l e =
     (eqb-true _ _ (and-left (eqb (a .third) (b .third)) _ y))
     (eqb-true _ _ (and-right (eqb (a .third) (b .third)) _ y)))))
 
--- clocks with at most four conditions are equal where their seven words are
+-- clocks with at most four conditions are equal where their clockIn words are
 pub same-kept : (j k : Clock) → length (j .conditions) ≤ 4 → sameClock j k ≡ Kept.same (Kept.kept j) (Kept.kept k)
 same-kept j k l = same-test (sameClock j k) (Kept.same (Kept.kept j) (Kept.kept k)) (same-kept-there j k) (same-kept-back j k l)
 

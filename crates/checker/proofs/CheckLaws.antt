@@ -8,12 +8,13 @@ use mathlib.Core.List.{List, [], _∷_, _++_}
 use mathlib.Core.Option.{Option}
 use lib.ListN.{length, length-append, List·getD-append}
 use lib.Seq.{getD-append-seam}
+use Rattle.table.specs.Tables.{Fits}
 use Rattle.table.specs.Answers.{Refusal, Result, good, refused, then, clocksDiffer}
 use Rattle.table.specs.Rows.{Row, input, constant, combine, register, faster, slower, later, head, tail, sample, merge, onRegister, badRegister}
 use Rattle.table.proofs.Tests.{not-good, good-inj}
 use Rattle.table.proofs.Lists.{Each, below-suc}
 use Rattle.table.proofs.Registers.{Passes, Registers, all-pass, one-fails, registers}
-use Rattle.table.proofs.Tables.{Fits, AllFit}
+use Rattle.table.proofs.Tables.{AllFit}
 use Rattle.checker.specs.Clocks.{Condition, Clock, every}
 use Rattle.checker.specs.Rules.{maxDerived, maxConditions, clockOf, clockAt, clocksFrom, sourced, sourceFits, clocksOf, Below}
 use Rattle.checker.proofs.RuleLaws.{Rule, by-input, by-constant, by-combine, by-register, by-faster, by-slower, by-later, by-head}

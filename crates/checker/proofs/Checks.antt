@@ -2,39 +2,39 @@
 use mathlib.Core.Path.{_≡_, refl, sym, _∙_, ap, ap₂}
 use Prim.Native.Nat.{ℕ, suc, _+_, _*_, _≤_, _<_}
 use native.Mathlib.Omega.{arith}
-use mathlib.Core.Bool.{Bool, cond}
+use mathlib.Core.Bool.{Bool, true, cond}
 use mathlib.Core.List.{List, [], _∷_, _++_}
 use mathlib.Core.Option.{Option, none, some}
 use lib.ListN.{length, drop, take, length-append}
 use lib.Seq.{take-at}
-use lib.Dec.{leb}
+use lib.Dec.{eqb, leb}
 use borrow.Author.Tests.{le-leb, lt-leb}
 use Rattle.table.specs.Answers.{Refusal, noRoom, Result, good, refused, unless, then, refusal, over}
-use Rattle.table.specs.Rows.{Row, input, constant, combine, register, faster, slower, later, head, tail, sample, merge, onRegister, badRegister}
+use Rattle.table.specs.Rows.{Row, Words, onRegister, badRegister}
+use Rattle.table.specs.Tables.{Fits}
 use Rattle.table.specs.Plain.{tableOf, rowsIn}
 use Rattle.table.proofs.Tests.{not-good, good-inj, then-good}
-use Rattle.table.proofs.Tables.{Table, Fits, AllFit}
+use Rattle.table.proofs.Tables.{Made, Table, AllFit}
+use Rattle.table.proofs.Registers.{RegisterOr, is-register, is-other, register-or, register-by}
 use Rattle.checker.specs.Clocks.{Clock}
 use Rattle.checker.specs.Rules.{clockOf, clockAt, clocksFrom, clocksOf, sourced, sourceFits, AllWithin}
-use Rattle.checker.specs.Answers.{clocksWords, checking, checkAnswer, clocksAfter}
+use Rattle.checker.specs.Answers.{clockSize, clocksWords, checking, checkAnswer, clocksAfter}
 use Rattle.checker.specs.Private.Kept as Kept
 use Rattle.checker.proofs.Agree.{few, same-kept}
-use Rattle.checker.proofs.Folds.{seven-at, words-length}
+use Rattle.checker.proofs.Folds.{clock-in, words-length}
 
 -- ---- the registers' sources, over clocks and over words
 
 register-same : (t u : ℕ → ℕ → Bool) (m f : ℕ) (r : Row) → Fits m f r → f ≤ m → ((b a : ℕ) → b < m → a < m → t b a ≡ u b a) → onRegister t r ≡ onRegister u r
-register-same t u m f (input n p) h l e = refl
-register-same t u m f (constant v n p) h l e = refl
-register-same t u m f (combine op a b) h l e = refl
-register-same t u m f (register v b a) h l e = e b a (omega (arith, h .0)) (h .1)
-register-same t u m f (faster a k g) h l e = refl
-register-same t u m f (slower a k) h l e = refl
-register-same t u m f (later a d) h l e = refl
-register-same t u m f (head a v s) h l e = refl
-register-same t u m f (tail a) h l e = refl
-register-same t u m f (sample x a c) h l e = refl
-register-same t u m f (merge c a b) h l e = refl
+register-same t u m f r h l e = go r (register-or r) h
+  where
+    go : (r : Row) → RegisterOr r → Fits m f r → onRegister t r ≡ onRegister u r
+    go r (is-register {b = b} {a = a}) h = e b a (omega (arith, h .0)) (h .1)
+    go r (is-other p) h = p t ∙ sym (p u)
+
+-- a row by its words: registers are of kind 7
+pub row-register : (test : ℕ → ℕ → Bool) (m f : ℕ) (w : Words) (r : Row) → Made m f w r → onRegister test r ≡ cond (eqb (w .kind) 7) (test (w .two) (w .three)) true
+row-register test m f w r d = ap (onRegister test) (sym (d .row)) ∙ register-by test (w .kind) (w .one) (w .two) (w .three) (d .known)
 
 bad-same : (t u : ℕ → ℕ → Bool) (m f : ℕ) (rows : List Row) → AllFit m f rows → f + length rows ≤ m → ((b a : ℕ) → b < m → a < m → t b a ≡ u b a)
     → badRegister t f rows ≡ badRegister u f rows
@@ -57,8 +57,8 @@ module _ (m : ℕ) (words : List ℕ) (rows : List Row) (t : Table m words rows)
       let x : a < length ks = omega arith in
       let y : b < length ks = omega arith in
       ap₂ Kept.same
-      (ap (λ (l : List ℕ). Kept.seven (drop (7 * a) l)) held ∙ seven-at ks (drop (length (clocksWords ks)) old) a x)
-      (ap (λ (l : List ℕ). Kept.seven (drop (7 * b) l)) held ∙ seven-at ks (drop (length (clocksWords ks)) old) b y)
+      (ap (λ (l : List ℕ). Kept.clockIn (drop (clockSize * a) l)) held ∙ clock-in ks (drop (length (clocksWords ks)) old) a x)
+      (ap (λ (l : List ℕ). Kept.clockIn (drop (clockSize * b) l)) held ∙ clock-in ks (drop (length (clocksWords ks)) old) b y)
       ∙ sym (same-kept (clockAt ks a) (clockAt ks b) (few (clockAt ks a) (within a x)))
 
   pub sourced-by : (o : Option ℕ) → o ≡ badRegister (Kept.fitsIn buffer) 0 rows → clocksOf rows ≡ sourced ks o
@@ -78,17 +78,17 @@ pub check-table : (m : ℕ) (words : List ℕ) (room : ℕ) (why : Refusal) (f :
 unfolding checking
 check-table m words room why f e = rw e
 
-pub check-room : (m : ℕ) (words : List ℕ) (room : ℕ) (rows : List Row) → tableOf m words ≡ good rows → room < 7 * m → checking m words room ≡ refused noRoom 0
+pub check-room : (m : ℕ) (words : List ℕ) (room : ℕ) (rows : List Row) → tableOf m words ≡ good rows → room < clockSize * m → checking m words room ≡ refused noRoom 0
 unfolding checking
-check-room m words room rows e l = rw (e, lt-leb (7 * m) room l)
+check-room m words room rows e l = rw (e, lt-leb (clockSize * m) room l)
 
-pub check-clocks : (m : ℕ) (words : List ℕ) (room : ℕ) → tableOf m words ≡ good (rowsIn (tableOf m words)) → 7 * m ≤ room
+pub check-clocks : (m : ℕ) (words : List ℕ) (room : ℕ) → tableOf m words ≡ good (rowsIn (tableOf m words)) → clockSize * m ≤ room
     → checking m words room ≡ clocksOf (rowsIn (tableOf m words))
 unfolding checking
 check-clocks m words room e l = go (tableOf m words) e
   where
-    go : (r : Result (List Row)) → r ≡ good (rowsIn r) → then r (λ rows. unless (leb (7 * m) room) noRoom 0 (clocksOf rows)) ≡ clocksOf (rowsIn r)
-    go (good rows) x = rw (le-leb (7 * m) room l)
+    go : (r : Result (List Row)) → r ≡ good (rowsIn r) → then r (λ rows. unless (leb (clockSize * m) room) noRoom 0 (clocksOf rows)) ≡ clocksOf (rowsIn r)
+    go (good rows) x = rw (le-leb (clockSize * m) room l)
     go (refused why f) x = not-good x
 
 sourced-good : (ks js : List Clock) (o : Option ℕ) → sourced ks o ≡ good js → ks ≡ js
@@ -111,7 +111,7 @@ whole-refused m words old why f e = (rw e, rw e)
 
 -- the words that were copied
 pub whole-copied : (m : ℕ) (words old zeros buffer new : List ℕ) (rows : List Row) (ks : List Clock) → Table m words rows → clocksOf rows ≡ good ks
-    → checking m words (length old) ≡ clocksOf rows → buffer ≡ over (clocksWords ks) zeros → new ≡ take (7 * m) buffer ++ drop (7 * m) old → new ≡ clocksAfter m words old
+    → checking m words (length old) ≡ clocksOf rows → buffer ≡ over (clocksWords ks) zeros → new ≡ take (clockSize * m) buffer ++ drop (clockSize * m) old → new ≡ clocksAfter m words old
 whole-copied m words old zeros buffer new rows ks t e w held copied =
-    let n : length (clocksWords ks) ≡ 7 * m = omega (arith, words-length ks, all-clocks rows ks e, t .size) in
-    rw (w, e) (copied ∙ ap₂ _++_ (ap (take (7 * m)) held ∙ take-at (clocksWords ks) (drop (length (clocksWords ks)) zeros) (7 * m) n) (ap (λ (i : ℕ). drop i old) (sym n)))
+    let n : length (clocksWords ks) ≡ clockSize * m = omega (arith, words-length ks, all-clocks rows ks e, t .size) in
+    rw (w, e) (copied ∙ ap₂ _++_ (ap (take (clockSize * m)) held ∙ take-at (clocksWords ks) (drop (length (clocksWords ks)) zeros) (clockSize * m) n) (ap (λ (i : ℕ). drop i old) (sym n)))

@@ -8,19 +8,20 @@ use mathlib.Core.List.{List, [], _∷_, _++_, map, append-assoc, append-nil}
 use mathlib.Core.Option.{none, some}
 use lib.ListN.{length, take, drop, getD, length-append, drop-of-length-le}
 use lib.Seq.{drop-cons, drop-drop, take-at, drop-at, drop-append-add}
+use Rattle.table.specs.Tables.{rowAt}
 use Rattle.table.specs.Answers.{Refusal, Result, good, refused, number, answer, success, numbered, over}
 use Rattle.table.proofs.Tests.{not-good, good-inj}
 use Rattle.table.specs.Rows.{Row, tail, Words, badRegister, onRegister}
-use Rattle.table.specs.Plain.{four}
-use Rattle.table.proofs.Tables.{Table, Made, rowAt}
+use Rattle.table.specs.Plain.{rowWords}
+use Rattle.table.proofs.Tables.{Table, Made}
 use Rattle.checker.specs.Clocks.{Clock}
 use Rattle.checker.specs.Rules.{clockOf, clockAt, clocksFrom, Within, AllWithin}
-use Rattle.checker.specs.Answers.{conditionWord, clockWords, clocksWords}
+use Rattle.checker.specs.Answers.{clockSize, conditionWord, clockWords, clocksWords}
 use Rattle.checker.specs.declared.Clock.{Clock as Kept}
 use Rattle.checker.specs.declared.Verdict.the-variants.{Is, Refused}
 use Rattle.checker.specs.Private.Kept as Kept
 use Rattle.checker.proofs.Agree.{Agrees}
-use Rattle.checker.proofs.ByKind.{row-agrees}
+use Rattle.checker.proofs.ByRow.{row-agrees}
 
 is-inj : {j k : Kept} → Is j ≡ Is k → j ≡ k
 is-inj e = cc
@@ -47,7 +48,7 @@ pub words-cons : (k : Clock) (ks : List Clock) → clocksWords (k ∷ ks) ≡ Ke
 unfolding clocksWords
 words-cons k ks = ap (λ (l : List ℕ). l ++ clocksWords ks) (words-kept k)
 
-pub words-length : (ks : List Clock) → length (clocksWords ks) ≡ 7 * length ks
+pub words-length : (ks : List Clock) → length (clocksWords ks) ≡ clockSize * length ks
 unfolding clocksWords
 words-length [] = refl
 words-length (k ∷ ks) = ap length (words-cons k ks) ∙ omega (arith, words-length ks)
@@ -61,15 +62,15 @@ words-snoc (j ∷ ks) k =
     ∙ ap (λ (l : List ℕ). l ++ Kept.words (Kept.kept k)) (sym (words-cons j ks))
 
 -- the clock of a flow, read from the words
-pub seven-at : (ks : List Clock) (rest : List ℕ) (g : ℕ) → g < length ks → Kept.seven (drop (7 * g) (clocksWords ks ++ rest)) ≡ Kept.kept (clockAt ks g)
-seven-at [] rest g l = absurd (omega arith)
-seven-at (k ∷ ks) rest zero l = ap (λ (w : List ℕ). Kept.seven (w ++ rest)) (words-cons k ks)
-seven-at (k ∷ ks) rest (suc g) l =
-    let e : 7 * suc g ≡ 7 + 7 * g = omega arith in
-    ap Kept.seven (ap₂ (λ (n : ℕ) (w : List ℕ). drop n (w ++ rest)) e (words-cons k ks)
-    ∙ ap (drop (7 + 7 * g)) (append-assoc (Kept.words (Kept.kept k)) (clocksWords ks) rest)
-    ∙ drop-append-add (Kept.words (Kept.kept k)) (clocksWords ks ++ rest) (7 * g))
-    ∙ seven-at ks rest g (omega arith)
+pub clock-in : (ks : List Clock) (rest : List ℕ) (g : ℕ) → g < length ks → Kept.clockIn (drop (clockSize * g) (clocksWords ks ++ rest)) ≡ Kept.kept (clockAt ks g)
+clock-in [] rest g l = absurd (omega arith)
+clock-in (k ∷ ks) rest zero l = ap (λ (w : List ℕ). Kept.clockIn (w ++ rest)) (words-cons k ks)
+clock-in (k ∷ ks) rest (suc g) l =
+    let e : clockSize * suc g ≡ clockSize + clockSize * g = omega arith in
+    ap Kept.clockIn (ap₂ (λ (n : ℕ) (w : List ℕ). drop n (w ++ rest)) e (words-cons k ks)
+    ∙ ap (drop (clockSize + clockSize * g)) (append-assoc (Kept.words (Kept.kept k)) (clocksWords ks) rest)
+    ∙ drop-append-add (Kept.words (Kept.kept k)) (clocksWords ks ++ rest) (clockSize * g))
+    ∙ clock-in ks rest g (omega arith)
 
 -- ---- the clocks row by row
 
@@ -77,7 +78,7 @@ seven-at (k ∷ ks) rest (suc g) l =
 pub record Going (rows : List Row) (old : List ℕ) (f : ℕ) (buffer : List ℕ) : Type 0 where
   pub clocks : List Clock
   pub size : length clocks ≡ f
-  pub held : buffer ≡ clocksWords clocks ++ drop (7 * f) old
+  pub held : buffer ≡ clocksWords clocks ++ drop (clockSize * f) old
   pub within : AllWithin clocks
   pub left : clocksFrom clocks (drop f rows) ≡ clocksFrom [] rows
 
@@ -103,11 +104,11 @@ within-snoc (j ∷ ks) k h w (suc f) l = within-snoc ks k (λ (g : ℕ). λ (i :
 
 -- the row at f, as its verdict goes
 module _ (m : ℕ) (words : List ℕ) (rows : List Row) (old : List ℕ) (f : ℕ) (buffer : List ℕ) (t : Table m words rows) (s : Going rows old f buffer) (l : f < m) where
-  pub verdict-agrees : (w : Words) → w ≡ four (drop (4 * f) words)
-      → Agrees f (Kept.rule (λ (g : ℕ). Kept.seven (drop (7 * g) buffer)) (w .kind) (w .one) (w .two) (w .three)) (clockOf (clockAt (s .clocks)) f (rowAt rows f))
+  pub verdict-agrees : (w : Words) → w ≡ rowWords words f
+      → Agrees f (Kept.rule (λ (g : ℕ). Kept.clockIn (drop (clockSize * g) buffer)) (w .kind) (w .one) (w .two) (w .three)) (clockOf (clockAt (s .clocks)) f (rowAt rows f))
   verdict-agrees w e =
-      row-agrees m f (omega (arith, t .few)) (clockAt (s .clocks)) (λ (g : ℕ). Kept.seven (drop (7 * g) buffer))
-      (λ (g : ℕ). λ (i : g < f). ap (λ (b : List ℕ). Kept.seven (drop (7 * g) b)) (s .held) ∙ seven-at (s .clocks) (drop (7 * f) old) g (omega (arith, s .size)))
+      row-agrees m f (omega (arith, t .few)) (clockAt (s .clocks)) (λ (g : ℕ). Kept.clockIn (drop (clockSize * g) buffer))
+      (λ (g : ℕ). λ (i : g < f). ap (λ (b : List ℕ). Kept.clockIn (drop (clockSize * g) b)) (s .held) ∙ clock-in (s .clocks) (drop (clockSize * f) old) g (omega (arith, s .size)))
       (λ (g : ℕ). λ (i : g < f). s .within g (omega (arith, s .size)))
       w (rowAt rows f) (subst (λ (v : Words). Made m f v (rowAt rows f)) (sym e) (t .row-at f l))
 
@@ -115,21 +116,21 @@ module _ (m : ℕ) (words : List ℕ) (rows : List Row) (old : List ℕ) (f : �
   rows-here = drop-cons rows f (tail 0) (omega (arith, t .size))
 
   pub go-on : (k : Clock) (buffer′ : List ℕ) → clockOf (clockAt (s .clocks)) f (rowAt rows f) ≡ good k → Within k
-      → 7 * f + 7 ≤ length old → buffer′ ≡ take (7 * f) buffer ++ (Kept.words (Kept.kept k) ++ drop (7 * f + 7) buffer) → Going rows old (f + 1) buffer′
+      → clockSize * f + clockSize ≤ length old → buffer′ ≡ take (clockSize * f) buffer ++ (Kept.words (Kept.kept k) ++ drop (clockSize * f + clockSize) buffer) → Going rows old (f + 1) buffer′
   go-on k buffer′ e w fits b =
       let ks : List Clock = s .clocks in
-      let n : length (clocksWords ks) ≡ 7 * f = words-length ks ∙ ap (λ (i : ℕ). 7 * i) (s .size) in
-      let front : take (7 * f) buffer ≡ clocksWords ks = ap (take (7 * f)) (s .held) ∙ take-at (clocksWords ks) (drop (7 * f) old) (7 * f) n in
-      let next : 7 * f + 7 ≡ 7 * (f + 1) = omega arith in
-      let back : drop (7 * f + 7) buffer ≡ drop (7 * (f + 1)) old =
-      sym (drop-drop 7 (7 * f) buffer) ∙ ap (λ (x : List ℕ). drop 7 (drop (7 * f) x)) (s .held) ∙ ap (drop 7) (drop-at (clocksWords ks) (drop (7 * f) old) (7 * f) n)
-      ∙ drop-drop 7 (7 * f) old ∙ ap (λ (i : ℕ). drop i old) next in
+      let n : length (clocksWords ks) ≡ clockSize * f = words-length ks ∙ ap (λ (i : ℕ). clockSize * i) (s .size) in
+      let front : take (clockSize * f) buffer ≡ clocksWords ks = ap (take (clockSize * f)) (s .held) ∙ take-at (clocksWords ks) (drop (clockSize * f) old) (clockSize * f) n in
+      let next : clockSize * f + clockSize ≡ clockSize * (f + 1) = omega arith in
+      let back : drop (clockSize * f + clockSize) buffer ≡ drop (clockSize * (f + 1)) old =
+      sym (drop-drop clockSize (clockSize * f) buffer) ∙ ap (λ (x : List ℕ). drop clockSize (drop (clockSize * f) x)) (s .held) ∙ ap (drop 7) (drop-at (clocksWords ks) (drop (clockSize * f) old) (clockSize * f) n)
+      ∙ drop-drop clockSize (clockSize * f) old ∙ ap (λ (i : ℕ). drop i old) next in
       record {
         clocks = ks ++ (k ∷ []);
         size = length-append ks (k ∷ []) ∙ ap (λ (i : ℕ). i + 1) (s .size);
         held = b ∙ ap₂ (λ (x y : List ℕ). x ++ (Kept.words (Kept.kept k) ++ y)) front back
-            ∙ sym (append-assoc (clocksWords ks) (Kept.words (Kept.kept k)) (drop (7 * (f + 1)) old))
-            ∙ ap (λ (x : List ℕ). x ++ drop (7 * (f + 1)) old) (sym (words-snoc ks k));
+            ∙ sym (append-assoc (clocksWords ks) (Kept.words (Kept.kept k)) (drop (clockSize * (f + 1)) old))
+            ∙ ap (λ (x : List ℕ). x ++ drop (clockSize * (f + 1)) old) (sym (words-snoc ks k));
         within = within-snoc ks k (s .within) w;
         left = ap (λ (i : ℕ). clocksFrom (ks ++ (k ∷ [])) (drop i rows)) (add-one f)
             ∙ sym (step-good ks (rowAt rows f) (drop (suc f) rows) f k (s .size) e) ∙ ap (clocksFrom ks) (sym rows-here) ∙ s .left;
@@ -140,27 +141,27 @@ module _ (m : ℕ) (words : List ℕ) (rows : List Row) (old : List ℕ) (f : �
       sym (s .left) ∙ ap (clocksFrom (s .clocks)) rows-here ∙ step-refused (s .clocks) (rowAt rows f) (drop (suc f) rows) f why g (s .size) e
 
   -- the verdict is a clock, which was stored
-  pub next : (w : Words) → w ≡ four (drop (4 * f) words) → (k : Kept) (buffer′ : List ℕ)
-      → Is k ≡ Kept.rule (λ (g : ℕ). Kept.seven (drop (7 * g) buffer)) (w .kind) (w .one) (w .two) (w .three)
-      → 7 * f + 7 ≤ length old → buffer′ ≡ take (7 * f) buffer ++ (Kept.words k ++ drop (7 * f + 7) buffer) → Going rows old (f + 1) buffer′
+  pub next : (w : Words) → w ≡ rowWords words f → (k : Kept) (buffer′ : List ℕ)
+      → Is k ≡ Kept.rule (λ (g : ℕ). Kept.clockIn (drop (clockSize * g) buffer)) (w .kind) (w .one) (w .two) (w .three)
+      → clockSize * f + clockSize ≤ length old → buffer′ ≡ take (clockSize * f) buffer ++ (Kept.words k ++ drop (clockSize * f + clockSize) buffer) → Going rows old (f + 1) buffer′
   next w e k buffer′ v fits b = go (clockOf (clockAt (s .clocks)) f (rowAt rows f)) refl (verdict-agrees w e)
     where
       go : (r : Result Clock) → clockOf (clockAt (s .clocks)) f (rowAt rows f) ≡ r
-          → Agrees f (Kept.rule (λ (g : ℕ). Kept.seven (drop (7 * g) buffer)) (w .kind) (w .one) (w .two) (w .three)) r → Going rows old (f + 1) buffer′
+          → Agrees f (Kept.rule (λ (g : ℕ). Kept.clockIn (drop (clockSize * g) buffer)) (w .kind) (w .one) (w .two) (w .three)) r → Going rows old (f + 1) buffer′
       go (good j) r a =
           let same : k ≡ Kept.kept j = is-inj (v ∙ a .0) in
-          go-on j buffer′ r (a .1) fits (b ∙ ap (λ (x : Kept). take (7 * f) buffer ++ (Kept.words x ++ drop (7 * f + 7) buffer)) same)
+          go-on j buffer′ r (a .1) fits (b ∙ ap (λ (x : Kept). take (clockSize * f) buffer ++ (Kept.words x ++ drop (clockSize * f + clockSize) buffer)) same)
       go (refused why g) r a = absurd (is-not-refused (v ∙ a .0))
 
   -- the verdict is a refusal
-  pub stop : (w : Words) → w ≡ four (drop (4 * f) words) → (n : ℕ)
-      → Refused n ≡ Kept.rule (λ (g : ℕ). Kept.seven (drop (7 * g) buffer)) (w .kind) (w .one) (w .two) (w .three)
+  pub stop : (w : Words) → w ≡ rowWords words f → (n : ℕ)
+      → Refused n ≡ Kept.rule (λ (g : ℕ). Kept.clockIn (drop (clockSize * g) buffer)) (w .kind) (w .one) (w .two) (w .three)
       → (numbered n f ≡ answer length (clocksFrom [] rows))
       × ((ks : List Clock) → clocksFrom [] rows ≡ good ks → ⊥)
   stop w e n v = go (clockOf (clockAt (s .clocks)) f (rowAt rows f)) refl (verdict-agrees w e)
     where
       go : (r : Result Clock) → clockOf (clockAt (s .clocks)) f (rowAt rows f) ≡ r
-          → Agrees f (Kept.rule (λ (g : ℕ). Kept.seven (drop (7 * g) buffer)) (w .kind) (w .one) (w .two) (w .three)) r
+          → Agrees f (Kept.rule (λ (g : ℕ). Kept.clockIn (drop (clockSize * g) buffer)) (w .kind) (w .one) (w .two) (w .three)) r
           → (numbered n f ≡ answer length (clocksFrom [] rows))
           × ((ks : List Clock) → clocksFrom [] rows ≡ good ks → ⊥)
       go (good j) r a = absurd (is-not-refused (sym (v ∙ a .0)))
@@ -184,8 +185,8 @@ finish rows old f buffer e s = (rw (whole, s .size), given)
     whole : clocksFrom [] rows ≡ good (s .clocks)
     whole = ended rows old f buffer e s
 
-    n : 7 * f ≡ length (clocksWords (s .clocks))
-    n = sym (words-length (s .clocks) ∙ ap (λ (i : ℕ). 7 * i) (s .size))
+    n : clockSize * f ≡ length (clocksWords (s .clocks))
+    n = sym (words-length (s .clocks) ∙ ap (λ (i : ℕ). clockSize * i) (s .size))
 
     given : Kept.Assigned (clocksFrom [] rows) old buffer
     given ks x =

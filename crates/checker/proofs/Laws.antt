@@ -8,8 +8,9 @@ use lib.ListN.{length, take, drop, set, getD, length-append, length-drop}
 use native.Mathlib.Numerals.{add-one}
 use lib.Seq.{sets-eq, getD-drop, length-take-le, drop-cons, take-suc, append-snoc, set-at}
 use mathlib.Core.List.{List, _++_, append-assoc}
+use Rattle.checker.specs.Answers.{clockSize}
 use Rattle.checker.specs.declared.Clock.{Clock as Kept}
-use Rattle.checker.specs.Private.Kept.{seven, words}
+use Rattle.checker.specs.Private.Kept.{clockIn, words}
 
 -- a product fits twice the width of its factors
 pub below : (k : ℕ) {a b : ℕ} → a < 2 ^ k → b < 2 ^ k → a * b < 2 ^ (k + k)
@@ -17,23 +18,23 @@ below k {a} {b} ha hb =
     subst⁻¹ (λ (n : ℕ). a * b < n) (pow-add 2 k k)
     (lt-of-le-of-lt (mul-le-mul-left a (le-of-lt hb)) (mul-lt-mul-of-pos-right ha (pow-pos k)))
 
--- seven words that are stored one after the other
-pub seven-set : (l : List ℕ) (i : ℕ) (k : Kept) → i + 7 ≤ length l
+-- clockIn words that are stored one after the other
+pub clock-set : (l : List ℕ) (i : ℕ) (k : Kept) → i + clockSize ≤ length l
     → set (set (set (set (set (set (set l i (k .period)) (i + 1) (k .phase)) (i + 2) (k .count)) (i + 3) (k .first)) (i + 4) (k .second)) (i + 5) (k .third)) (i + 6) (k .fourth)
-    ≡ take i l ++ (words k ++ drop (i + 7) l)
-seven-set l i k h =
+    ≡ take i l ++ (words k ++ drop (i + clockSize) l)
+clock-set l i k h =
     let e1 : i + 1 ≡ suc i = omega arith in
     let e2 : i + 2 ≡ suc (suc i) = omega arith in
     let e3 : i + 3 ≡ suc (suc (suc i)) = omega arith in
     let e4 : i + 4 ≡ suc (suc (suc (suc i))) = omega arith in
     let e5 : i + 5 ≡ suc (suc (suc (suc (suc i)))) = omega arith in
     let e6 : i + 6 ≡ suc (suc (suc (suc (suc (suc i))))) = omega arith in
-    rw (e1, e2, e3, e4, e5, e6) (sets-eq (words k) l i h ∙ append-assoc (take i l) (words k) (drop (i + 7) l))
+    rw (e1, e2, e3, e4, e5, e6) (sets-eq (words k) l i h ∙ append-assoc (take i l) (words k) (drop (i + clockSize) l))
 
--- seven words that are read one by one
+-- clockIn words that are read one by one
 pub seven-read : (l : List ℕ) (i : ℕ) → _≡_ {A = Kept}
     (record { period = getD l i 0; phase = getD l (i + 1) 0; count = getD l (i + 2) 0; first = getD l (i + 3) 0; second = getD l (i + 4) 0; third = getD l (i + 5) 0; fourth = getD l (i + 6) 0 })
-    (seven (drop i l))
+    (clockIn (drop i l))
 seven-read l i =
     let e : i ≡ i + 0 = omega arith in
     rw (getD-drop i l 0 0, getD-drop i l 1 0, getD-drop i l 2 0, getD-drop i l 3 0, getD-drop i l 4 0, getD-drop i l 5 0, getD-drop i l 6 0, ← e)

@@ -4,7 +4,7 @@ pub mod CheckLaws
 pub mod WordLaws
 mod Laws
 pub mod Agree
-mod ByKind
+mod ByRow
 pub mod Folds
 pub mod Checks
 pub mod Bounds

@@ -7,30 +7,30 @@ use lib.ListN.{length, getD, length-append, length-take, length-map, List·getD-
 use lib.Seq.{getD-append-add, getD-take}
 use Rattle.checker.specs.Clocks.{Condition, Clock}
 use Rattle.checker.specs.Rules.{maxConditions, clockAt}
-use Rattle.checker.specs.Answers.{conditionWord, clockWords, clocksWords}
+use Rattle.checker.specs.Answers.{clockSize, conditionWord, clockWords, clocksWords}
 
-pub clock-words : (k : Clock) → length (clockWords k) ≡ 7
+pub clock-words : (k : Clock) → length (clockWords k) ≡ clockSize
 clock-words k = ap (λ (n : ℕ). suc (suc (suc n))) (length-take 4 (map conditionWord (k .conditions) ++ (0 ∷ 0 ∷ 0 ∷ 0 ∷ [])) ∙ four)
   where
     four : min 4 (length (map conditionWord (k .conditions) ++ (0 ∷ 0 ∷ 0 ∷ 0 ∷ []))) ≡ 4
     four = omega (arith, length-append (map conditionWord (k .conditions)) (0 ∷ 0 ∷ 0 ∷ 0 ∷ []))
 
 -- word i of flow f, whatever stands after the clocks
-pub word-at : (ks : List Clock) (old : List ℕ) (f i : ℕ) → f < length ks → i < 7 → getD (clocksWords ks ++ old) (7 * f + i) 0 ≡ getD (clockWords (clockAt ks f)) i 0
+pub word-at : (ks : List Clock) (old : List ℕ) (f i : ℕ) → f < length ks → i < clockSize → getD (clocksWords ks ++ old) (clockSize * f + i) 0 ≡ getD (clockWords (clockAt ks f)) i 0
 unfolding clocksWords
 word-at [] old f i l x = absurd (omega arith)
 word-at (k ∷ ks) old zero i l x =
-    let e : i ≡ 7 * 0 + i = omega arith in
+    let e : i ≡ clockSize * 0 + i = omega arith in
     subst (λ (u : ℕ). getD ((clockWords k ++ clocksWords ks) ++ old) u 0 ≡ getD (clockWords k) i 0) e
     (rw (append-assoc (clockWords k) (clocksWords ks) old) (List·getD-append (clockWords k) (clocksWords ks ++ old) 0 i (omega (arith, clock-words k))))
 word-at (k ∷ ks) old (suc f) i l x =
-    let e : length (clockWords k) + (7 * f + i) ≡ 7 * suc f + i = omega (arith, clock-words k) in
+    let e : length (clockWords k) + (clockSize * f + i) ≡ clockSize * suc f + i = omega (arith, clock-words k) in
     subst (λ (u : ℕ). getD ((clockWords k ++ clocksWords ks) ++ old) u 0 ≡ getD (clockWords (clockAt ks f)) i 0) e
-    (rw (append-assoc (clockWords k) (clocksWords ks) old) (getD-append-add (clockWords k) (clocksWords ks ++ old) (7 * f + i) 0 ∙ word-at ks old f i (omega arith) x))
+    (rw (append-assoc (clockWords k) (clocksWords ks) old) (getD-append-add (clockWords k) (clocksWords ks ++ old) (clockSize * f + i) 0 ∙ word-at ks old f i (omega arith) x))
 
 -- the word of condition number i
 pub condition-at : (ks : List Clock) (old : List ℕ) (f i : ℕ) (d : Condition) → f < length ks → i < length (clockAt ks f .conditions) → length (clockAt ks f .conditions) ≤ maxConditions
-    → getD (clocksWords ks ++ old) (7 * f + (3 + i)) 0 ≡ conditionWord (getD (clockAt ks f .conditions) i d)
+    → getD (clocksWords ks ++ old) (clockSize * f + (3 + i)) 0 ≡ conditionWord (getD (clockAt ks f .conditions) i d)
 condition-at ks old f i d l x few =
     word-at ks old f (3 + i) l (omega arith)
     ∙ ap (λ (u : ℕ). getD (clockWords (clockAt ks f)) u 0) three

@@ -17,16 +17,16 @@ use table::record_at;
 use table::word_at;
 ghost use mathlib.Core.Path.{_≡_};
 ghost use mathlib.Core.List.{[], _++_};
-ghost use Prim.Native.Nat.{ℕ, _+_, _*_, _≤_};
+ghost use Prim.Native.Nat.{ℕ, _+_, _*_, _≤_, _<_};
 ghost use lib.ListN.{length, take, drop};
 ghost use Rattle.table.specs.Answers.{good, answer};
-ghost use Rattle.table.specs.Rows.{badRegister};
-ghost use Rattle.table.specs.Plain.{four, tableOf, rowsIn};
+ghost use Rattle.table.specs.Rows.{badRegister, maxFlows};
+ghost use Rattle.table.specs.Plain.{rowWords, tableOf, rowsIn};
 ghost use Rattle.checker.specs.Rules.{clocksFrom, clocksOf};
-ghost use Rattle.checker.specs.Answers.{checkAnswer, clocksAfter};
-ghost use Rattle.checker.specs.Private.Kept.{seven, words, rule, fitsIn, sourceIn, place, Assigned};
+ghost use Rattle.checker.specs.Answers.{clockSize, checkAnswer, clocksAfter};
+ghost use Rattle.checker.specs.Private.Kept.{clockIn, words, rule, fitsIn, sourceIn, place, Assigned};
 
-// A clock as the check keeps it: seven words, of which the conditions that are not used are 0.
+// A clock as the check keeps it: its words, of which the conditions that are not used are 0.
 struct Clock {
     period: u32,
     phase: u32,
@@ -43,22 +43,16 @@ enum Verdict {
     Refused(u32),
 }
 
-// The numbers of refusals: too little room, a kind that no table has, clocks differ, beyond the limits, a clock that is not plain.
-const NO_ROOM: u32 = 10;
+// How many words a clock has, and the clocks of the most flows.
+pub const CLOCK_SIZE: usize = 7;
 
-const UNKNOWN: u32 = 13;
-
-pub(crate) const DIFFER: u32 = 21;
-
-pub(crate) const BEYOND: u32 = 22;
-
-pub(crate) const NOT_PLAIN: u32 = 23;
+pub const CLOCKS: usize = CLOCK_SIZE * (table::MAX_FLOWS as usize);
 
 // The clock of flow f among those kept.
 fn clock_at(kept: &[u32], f: u32) -> Clock
-    ensures { λ r. ⌜ r ≡ seven (drop (7 * f) (now (kept .entry))) ⌝ }
+    ensures { λ r. ⌜ r ≡ clockIn (drop (clockSize * f) (now (kept .entry))) ⌝ }
 {
-    let at = 7 * (f as usize);
+    let at = CLOCK_SIZE * (f as usize);
     Clock {
         period: word_at(kept, at),
         phase: word_at(kept, at + 1),
@@ -72,7 +66,7 @@ fn clock_at(kept: &[u32], f: u32) -> Clock
 
 // A row's clock from the clocks kept: one decision over the kind.
 fn rule(kind: u32, p: u32, q: u32, r: u32, kept: &[u32]) -> Verdict
-    ensures { λ v. ⌜ v ≡ rule (λ (f : ℕ). seven (drop (7 * f) (now (kept .entry)))) kind p q r ⌝ }
+    ensures { λ v. ⌜ v ≡ rule (λ (f : ℕ). clockIn (drop (clockSize * f) (now (kept .entry)))) kind p q r ⌝ }
 {
     match kind {
         0 => Verdict::Is(every(p, q)),
@@ -87,16 +81,16 @@ fn rule(kind: u32, p: u32, q: u32, r: u32, kept: &[u32]) -> Verdict
         13 => sampled(clock_at(kept, p), clock_at(kept, q), condition(q, true)),
         14 => sampled(clock_at(kept, p), clock_at(kept, q), condition(q, false)),
         15 => merged(p, clock_at(kept, p), clock_at(kept, q), clock_at(kept, r)),
-        16..=4294967295 => Verdict::Refused(UNKNOWN),
+        16..=4294967295 => Verdict::Refused(table::UNKNOWN_KIND),
     }
 }
 
 // Keeps a clock as flow f's.
 fn store(kept: &mut [u32], f: u32, k: Clock)
-    requires { ⌜ (f ≤ 63) × (7 * f + 7 ≤ length (now kept)) ⌝ }
-    ensures { λ _. ⌜ now (kept .exit) ≡ take (7 * f) (now (kept .entry)) ++ (words k ++ drop (7 * f + 7) (now (kept .entry))) ⌝ }
+    requires { ⌜ (f < maxFlows) × (clockSize * f + clockSize ≤ length (now kept)) ⌝ }
+    ensures { λ _. ⌜ now (kept .exit) ≡ take (clockSize * f) (now (kept .entry)) ++ (words k ++ drop (clockSize * f + clockSize) (now (kept .entry))) ⌝ }
 {
-    let at = 7 * (f as usize);
+    let at = CLOCK_SIZE * (f as usize);
     kept[at] = k.period;
     kept[at + 1] = k.phase;
     kept[at + 2] = k.count;
@@ -108,7 +102,7 @@ fn store(kept: &mut [u32], f: u32, k: Clock)
 
 // The clocks of n rows, row by row, each kept for those after it.
 fn assign(n: u32, words: &[u32], kept: &mut [u32]) -> Answer
-    requires { ⌜ (n ≤ 64) × (7 * n ≤ length (now kept)) × (tableOf n (now words) ≡ good (rowsIn (tableOf n (now words)))) ⌝ }
+    requires { ⌜ (n ≤ maxFlows) × (clockSize * n ≤ length (now kept)) × (tableOf n (now words) ≡ good (rowsIn (tableOf n (now words)))) ⌝ }
     ensures { λ r. ⌜ r ≡ answer length (clocksFrom [] (rowsIn (tableOf n (now (words .entry))))) ⌝ }
     ensures { λ _. ⌜ Assigned (clocksFrom [] (rowsIn (tableOf n (now (words .entry))))) (now (kept .entry)) (now (kept .exit)) ⌝ }
 {
@@ -133,7 +127,7 @@ enum Found {
 
 // Whether row f, where it is a register, has a source with its beat's clock.
 fn source_fits(words: &[u32], kept: &[u32], f: u32) -> bool
-    ensures { λ r. ⌜ r ≡ sourceIn (now (kept .entry)) (four (drop (4 * f) (now (words .entry)))) ⌝ }
+    ensures { λ r. ⌜ r ≡ sourceIn (now (kept .entry)) (rowWords (now (words .entry)) f) ⌝ }
 {
     let row = record_at(words, f);
     if row.kind != 7 {
@@ -144,7 +138,7 @@ fn source_fits(words: &[u32], kept: &[u32], f: u32) -> bool
 
 // The lowest register whose source has another clock than its beat.
 fn bad_register(n: u32, words: &[u32], kept: &[u32]) -> Found
-    requires { ⌜ (n ≤ 64) × (tableOf n (now words) ≡ good (rowsIn (tableOf n (now words)))) ⌝ }
+    requires { ⌜ (n ≤ maxFlows) × (tableOf n (now words) ≡ good (rowsIn (tableOf n (now words)))) ⌝ }
     ensures { λ r. ⌜ place r ≡ badRegister (fitsIn (now (kept .entry))) 0 (rowsIn (tableOf n (now (words .entry)))) ⌝ }
 {
     let mut f: u32 = 0;
@@ -159,7 +153,7 @@ fn bad_register(n: u32, words: &[u32], kept: &[u32]) -> Found
 
 // The clocks of n rows, and then the registers' sources.
 fn judge(n: u32, words: &[u32], kept: &mut [u32]) -> Answer
-    requires { ⌜ (n ≤ 64) × (7 * n ≤ length (now kept)) × (tableOf n (now words) ≡ good (rowsIn (tableOf n (now words)))) ⌝ }
+    requires { ⌜ (n ≤ maxFlows) × (clockSize * n ≤ length (now kept)) × (tableOf n (now words) ≡ good (rowsIn (tableOf n (now words)))) ⌝ }
     ensures { λ r. ⌜ r ≡ answer length (clocksOf (rowsIn (tableOf n (now (words .entry))))) ⌝ }
     ensures { λ _. ⌜ Assigned (clocksOf (rowsIn (tableOf n (now (words .entry))))) (now (kept .entry)) (now (kept .exit)) ⌝ }
 {
@@ -169,7 +163,7 @@ fn judge(n: u32, words: &[u32], kept: &mut [u32]) -> Answer
     }
     let found = bad_register(n, words, kept);
     match found {
-        Found::At(f) => Answer::refusal(DIFFER, f),
+        Found::At(f) => Answer::refusal(table::CLOCKS_DIFFER, f),
         Found::Nothing => answer,
     }
 }
@@ -186,7 +180,7 @@ fn copy(n: usize, from: &[u32], to: &mut [u32])
     }
 }
 
-// The clocks of a table in plain form: seven words a flow, or the first refusal, which leaves the buffer as it was.
+// The clocks of a table in plain form: their words flow after flow, or the first refusal, which leaves the buffer as it was.
 pub fn check(count: u32, words: &[u32], clocks: &mut [u32]) -> Answer
     ensures { λ r. ⌜ r ≡ checkAnswer count (now (words .entry)) (length (now (clocks .entry))) ⌝ }
     ensures { λ _. ⌜ now (clocks .exit) ≡ clocksAfter count (now (words .entry)) (now (clocks .entry)) ⌝ }
@@ -195,11 +189,11 @@ pub fn check(count: u32, words: &[u32], clocks: &mut [u32]) -> Answer
     if found.number != 0 {
         return found;
     }
-    let size = 7 * (count as usize);
+    let size = CLOCK_SIZE * (count as usize);
     if clocks.len() < size {
-        return Answer::refusal(NO_ROOM, 0);
+        return Answer::refusal(table::NO_ROOM, 0);
     }
-    let mut kept = [0u32; 448];
+    let mut kept = [0u32; CLOCKS];
     let answer = judge(count, words, &mut kept);
     if answer.number != 0 {
         return answer;

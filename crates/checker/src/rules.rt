@@ -1,9 +1,9 @@
 // The rules of the kinds, over clocks by value.
-use super::BEYOND;
 use super::Clock;
-use super::DIFFER;
-use super::NOT_PLAIN;
 use super::Verdict;
+use table::BEYOND_LIMITS;
+use table::CLOCKS_DIFFER;
+use table::NOT_PLAIN;
 ghost use mathlib.Core.Path.{_≡_};
 ghost use Prim.Native.Nat.{_+_, _*_, _%_};
 ghost use Rattle.table.specs.Bits.{bit};
@@ -54,7 +54,7 @@ fn same_shape(a: Clock, b: Clock) -> bool
     a.count == b.count
 }
 
-// Whether two clocks are equal: all seven words are, since unused ones are 0.
+// Whether two clocks are equal: all their words are, since unused ones are 0.
 pub fn same(a: Clock, b: Clock) -> bool
     ensures { λ r. ⌜ r ≡ same a b ⌝ }
 {
@@ -78,10 +78,10 @@ fn limited(period: u64, phase: u64) -> Verdict
     ensures { λ r. ⌜ r ≡ limited period phase ⌝ }
 {
     if MOST < period {
-        return Verdict::Refused(BEYOND);
+        return Verdict::Refused(BEYOND_LIMITS);
     }
     if MOST < phase {
-        return Verdict::Refused(BEYOND);
+        return Verdict::Refused(BEYOND_LIMITS);
     }
     Verdict::Is(every(period as u32, phase as u32))
 }
@@ -93,7 +93,7 @@ pub fn combined(a: Clock, b: Clock) -> Verdict
     if same(a, b) {
         Verdict::Is(a)
     } else {
-        Verdict::Refused(DIFFER)
+        Verdict::Refused(CLOCKS_DIFFER)
     }
 }
 
@@ -107,7 +107,7 @@ pub fn faster(a: Clock, k: u32, g: u32) -> Verdict
     let length = product(k, g);
     let period = a.period as u64;
     if period != length {
-        return Verdict::Refused(DIFFER);
+        return Verdict::Refused(CLOCKS_DIFFER);
     }
     Verdict::Is(every(g, a.phase))
 }
@@ -142,7 +142,7 @@ pub fn head(a: Clock, s: u32) -> Verdict
     let first = sum(s, a.period);
     let phase = a.phase as u64;
     if phase != first {
-        return Verdict::Refused(DIFFER);
+        return Verdict::Refused(CLOCKS_DIFFER);
     }
     Verdict::Is(every(a.period, s))
 }
@@ -181,7 +181,7 @@ fn under(k: Clock, word: u32) -> Verdict
 {
     let n = k.count;
     if 3 < n {
-        return Verdict::Refused(BEYOND);
+        return Verdict::Refused(BEYOND_LIMITS);
     }
     Verdict::Is(Clock {
         period: k.period,
@@ -199,7 +199,7 @@ pub fn sampled(a: Clock, c: Clock, word: u32) -> Verdict
     ensures { λ r. ⌜ r ≡ sampled a c word ⌝ }
 {
     if !same(a, c) {
-        return Verdict::Refused(DIFFER);
+        return Verdict::Refused(CLOCKS_DIFFER);
     }
     under(a, word)
 }
@@ -219,10 +219,10 @@ pub fn merged(flow: u32, c: Clock, a: Clock, b: Clock) -> Verdict
     ensures { λ r. ⌜ r ≡ merged flow c a b ⌝ }
 {
     if !extends(a, c, condition(flow, true)) {
-        return Verdict::Refused(DIFFER);
+        return Verdict::Refused(CLOCKS_DIFFER);
     }
     if !extends(b, c, condition(flow, false)) {
-        return Verdict::Refused(DIFFER);
+        return Verdict::Refused(CLOCKS_DIFFER);
     }
     Verdict::Is(c)
 }

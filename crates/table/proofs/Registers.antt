@@ -13,22 +13,22 @@ use Rattle.table.proofs.Lists.{Each}
 use Rattle.table.proofs.Entries.{every, kind-test}
 
 -- a row is a register, or passes every test of registers
-pub data Kept : Row → Type 0 where
-  is-register : {v b a : ℕ} → Kept (register v b a)
-  other : {r : Row} → ((test : ℕ → ℕ → Bool) → onRegister test r ≡ true) → Kept r
+pub data RegisterOr : Row → Type 0 where
+  is-register : {v b a : ℕ} → RegisterOr (register v b a)
+  is-other : {r : Row} → ((test : ℕ → ℕ → Bool) → onRegister test r ≡ true) → RegisterOr r
 
-pub kept : (r : Row) → Kept r
-kept (input n p) = other (λ test. refl)
-kept (constant v n p) = other (λ test. refl)
-kept (combine op a b) = other (λ test. refl)
-kept (register v b a) = is-register
-kept (faster a k g) = other (λ test. refl)
-kept (slower a k) = other (λ test. refl)
-kept (later a d) = other (λ test. refl)
-kept (head a v s) = other (λ test. refl)
-kept (tail a) = other (λ test. refl)
-kept (sample u a c) = other (λ test. refl)
-kept (merge c a b) = other (λ test. refl)
+pub register-or : (r : Row) → RegisterOr r
+register-or (input n p) = is-other (λ test. refl)
+register-or (constant v n p) = is-other (λ test. refl)
+register-or (combine op a b) = is-other (λ test. refl)
+register-or (register v b a) = is-register
+register-or (faster a k g) = is-other (λ test. refl)
+register-or (slower a k) = is-other (λ test. refl)
+register-or (later a d) = is-other (λ test. refl)
+register-or (head a v s) = is-other (λ test. refl)
+register-or (tail a) = is-other (λ test. refl)
+register-or (sample u a c) = is-other (λ test. refl)
+register-or (merge c a b) = is-other (λ test. refl)
 
 -- registers are of kind 7 alone: beat and source are the second field and the third
 no-register : (test : ℕ → ℕ → Bool) (x y z : ℕ) → every (λ n k. eqb n 7 || onRegister test (k .make x y z)) 0 kinds ≡ true

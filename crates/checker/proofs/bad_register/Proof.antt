@@ -8,11 +8,12 @@ use lib.ListN.{drop}
 use denote.Ref.{now}
 use borrow.Author.Tests.{not-true, not-false}
 use borrow.Author.Needs.{needs}
-use Rattle.table.proofs.Tables.{table-made, rowAt}
+use Rattle.table.specs.Tables.{rowAt}
+use Rattle.table.proofs.Tables.{table-made}
 use Rattle.table.specs.Rows.{Row, badRegister, onRegister}
-use Rattle.table.specs.Plain.{tableOf, four, rowsIn}
+use Rattle.table.specs.Plain.{tableOf, rowsIn, rowWords}
 use Rattle.checker.specs.Private.Kept.{fitsIn}
-use Rattle.checker.proofs.ByKind.{row-register}
+use Rattle.checker.proofs.Checks.{row-register}
 use Rattle.checker.proofs.Folds.{bad-next, bad-here, bad-none}
 use Rattle.checker.proofs.bad_register.Statement.{statement}
 use Rattle.checker.proofs.bad_register.Tie as tie
@@ -36,7 +37,7 @@ returns c = let a = c .before .before .before .before .before .before .args in
     let rows : List Row = rowsIn (tableOf (a .n) (now (a .words))) in
     let t = table-made (a .n) (now (a .words)) rows (c .before .before .before .before .before .before .pre .1) in
     let test : ℕ → ℕ → Bool = fitsIn (now (a .kept)) in
-    let e : onRegister test (rowAt rows (l .f)) ≡ false = row-register test (a .n) (l .f) (four (drop (4 * l .f) (now (a .words)))) (rowAt rows (l .f)) (t .row-at (l .f) (c .before .before .loop-test .taken)) ∙ sym (c .before .source-fits .ensures) ∙ not-true (c .before .source-fits .result) (c .if1 .taken) in
+    let e : onRegister test (rowAt rows (l .f)) ≡ false = row-register test (a .n) (l .f) (rowWords (now (a .words)) (l .f)) (rowAt rows (l .f)) (t .row-at (l .f) (c .before .before .loop-test .taken)) ∙ sym (c .before .source-fits .ensures) ∙ not-true (c .before .source-fits .result) (c .if1 .taken) in
     sym (bad-here test (l .f) rows (omega (arith, t .size)) e) ∙ l .inv .1
 
 add-f : tie.Need-add-f Inv-loop μ-loop
@@ -51,7 +52,7 @@ loop-again c = let a = c .before .before .before .before .before .before .args i
     let rows : List Row = rowsIn (tableOf (a .n) (now (a .words))) in
     let t = table-made (a .n) (now (a .words)) rows (c .before .before .before .before .before .before .pre .1) in
     let test : ℕ → ℕ → Bool = fitsIn (now (a .kept)) in
-    let e : onRegister test (rowAt rows (l .f)) ≡ true = row-register test (a .n) (l .f) (four (drop (4 * l .f) (now (a .words)))) (rowAt rows (l .f)) (t .row-at (l .f) (c .before .before .loop-test .taken)) ∙ sym (c .before .source-fits .ensures) ∙ not-false (c .before .source-fits .result) (c .if1 .left) in
+    let e : onRegister test (rowAt rows (l .f)) ≡ true = row-register test (a .n) (l .f) (rowWords (now (a .words)) (l .f)) (rowAt rows (l .f)) (t .row-at (l .f) (c .before .before .loop-test .taken)) ∙ sym (c .before .source-fits .ensures) ∙ not-false (c .before .source-fits .result) (c .if1 .left) in
     (search needs, sym (bad-next test (l .f) rows (omega (arith, t .size)) e) ∙ l .inv .1)
 
 returns-2 : tie.Need-returns-2 Inv-loop μ-loop

@@ -1,8 +1,10 @@
 -- `checker::rule` meets its contract. Assumes nothing.
 use native.Mathlib.Omega.{arith}
-use borrow.Author.Tests.{ne-eqb, le-leb, lt-leb}
+use Prim.Native.Nat.{_≤_}
 use borrow.Author.Needs.{needs}
-use Rattle.checker.specs.Private.Kept.{rule}
+use Rattle.table.specs.Rows.{kinds}
+use Rattle.checker.specs.Private.Kept.{rule, ruleOf}
+use Rattle.checker.proofs.ByRow.{rule-combine, above-eleven, above-fifteen, rule-unknown}
 use Rattle.checker.proofs.rule.Statement.{statement}
 use Rattle.checker.proofs.rule.Tie as tie
 
@@ -91,56 +93,62 @@ combined-requires : tie.Need-combined-requires
 combined-requires c κs = search needs
 
 returns : tie.Need-returns
-unfolding rule
+unfolding rule ruleOf kinds
 returns c = rw (c .before .match .keys1, c .every .ensures)
 
 returns-2 : tie.Need-returns-2
-unfolding rule
+unfolding rule ruleOf kinds
 returns-2 c = rw (c .before .match .keys2, c .every2 .ensures)
 
 returns-3 : tie.Need-returns-3
-unfolding rule
+unfolding rule ruleOf kinds
 returns-3 c = rw (c .before .match .keys3, c .clock-at .ensures)
 
 returns-4 : tie.Need-returns-4
-unfolding rule
+unfolding rule ruleOf kinds
 returns-4 c = rw (c .before .before .match .keys4, c .faster .ensures, c .before .clock-at2 .ensures)
 
 returns-5 : tie.Need-returns-5
-unfolding rule
+unfolding rule ruleOf kinds
 returns-5 c = rw (c .before .before .match .keys5, c .slower .ensures, c .before .clock-at3 .ensures)
 
 returns-6 : tie.Need-returns-6
-unfolding rule
+unfolding rule ruleOf kinds
 returns-6 c = rw (c .before .before .match .keys6, c .later .ensures, c .before .clock-at4 .ensures)
 
 returns-7 : tie.Need-returns-7
-unfolding rule
+unfolding rule ruleOf kinds
 returns-7 c = rw (c .before .before .match .keys7, c .head .ensures, c .before .clock-at5 .ensures)
 
 returns-8 : tie.Need-returns-8
-unfolding rule
+unfolding rule ruleOf kinds
 returns-8 c = rw (c .before .before .match .keys8, c .tail .ensures, c .before .clock-at6 .ensures)
 
 returns-9 : tie.Need-returns-9
-unfolding rule
+unfolding rule ruleOf kinds
 returns-9 c = rw (c .before .before .before .before .match .keys9, c .sampled .ensures, c .before .condition .ensures, c .before .before .clock-at8 .ensures, c .before .before .before .clock-at7 .ensures)
 
 returns-10 : tie.Need-returns-10
-unfolding rule
+unfolding rule ruleOf kinds
 returns-10 c = rw (c .before .before .before .before .match .keys10, c .sampled2 .ensures, c .before .condition2 .ensures, c .before .before .clock-at10 .ensures, c .before .before .before .clock-at9 .ensures)
 
 returns-11 : tie.Need-returns-11
-unfolding rule
+unfolding rule ruleOf kinds
 returns-11 c = rw (c .before .before .before .before .match .keys11, c .merged .ensures, c .before .clock-at13 .ensures, c .before .before .clock-at12 .ensures, c .before .before .before .clock-at11 .ensures)
 
 returns-12 : tie.Need-returns-12
-unfolding rule
-returns-12 c = rw (ne-eqb _ _ (c .before .before .before .before .match .rest .0 .0 .0 .0 .0 .0 .0 .0 .0 .0 .1), ne-eqb _ _ (c .before .before .before .before .match .rest .0 .0 .0 .0 .0 .0 .0 .0 .0 .1), le-leb (c .before .before .before .before .before .before .args .kind) 6 (omega arith), c .combined .ensures, c .before .clock-at15 .ensures, c .before .before .clock-at14 .ensures)
+returns-12 c =
+    let a = c .before .before .before .before .before .before .args in
+    let n = c .before .before .before .before .match .rest in
+    rw (rule-combine _ (a .kind) (a .p) (a .q) (a .r) (n .0 .0 .0 .0 .0 .0 .0 .0 .0 .0 .1) (n .0 .0 .0 .0 .0 .0 .0 .0 .0 .1) (omega arith), c .combined .ensures, c .before .clock-at15 .ensures, c .before .before .clock-at14 .ensures)
 
 returns-13 : tie.Need-returns-13
-unfolding rule
-returns-13 c = rw (ne-eqb _ _ (c .before .match .rest .0 .0 .0 .0 .0 .0 .0 .0 .0 .0 .1), ne-eqb _ _ (c .before .match .rest .0 .0 .0 .0 .0 .0 .0 .0 .0 .1), lt-leb (c .before .before .before .args .kind) 6 (omega arith), ne-eqb _ _ (c .before .match .rest .0 .0 .0 .0 .0 .0 .0 .0 .1), ne-eqb _ _ (c .before .match .rest .0 .0 .0 .0 .0 .0 .0 .1), ne-eqb _ _ (c .before .match .rest .0 .0 .0 .0 .0 .0 .1), ne-eqb _ _ (c .before .match .rest .0 .0 .0 .0 .0 .1), ne-eqb _ _ (c .before .match .rest .0 .0 .0 .0 .1), ne-eqb _ _ (c .before .match .rest .0 .0 .0 .1), ne-eqb _ _ (c .before .match .rest .0 .0 .1), ne-eqb _ _ (c .before .match .rest .0 .1), ne-eqb _ _ (c .before .match .rest .1))
+returns-13 c =
+    let a = c .before .before .before .args in
+    let n = c .before .match .rest in
+    let low : 12 ≤ a .kind =
+    above-eleven (a .kind) (omega arith) (n .0 .0 .0 .0 .0 .0 .0 .0 .1) (n .0 .0 .0 .0 .0 .0 .0 .1) (n .0 .0 .0 .0 .0 .0 .1) (n .0 .0 .0 .0 .0 .1) (n .0 .0 .0 .0 .1) in
+    rw (rule-unknown _ (a .kind) (a .p) (a .q) (a .r) (above-fifteen (a .kind) low (n .0 .0 .0 .1) (n .0 .0 .1) (n .0 .1) (n .1)))
 
 pub rule-spec : {M : Type 1} → statement M
 rule-spec =

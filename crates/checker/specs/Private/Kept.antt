@@ -5,11 +5,12 @@ use mathlib.Core.Option.{Option, none, some}
 use mathlib.Core.Bool.{Bool, true, false, cond, _&&_}
 use mathlib.Core.List.{List, [], _∷_, map}
 use lib.ListN.{length, getD, drop}
-use lib.Dec.{eqb, leb}
-use Rattle.table.specs.Answers.{Result, good, over}
+use lib.Dec.{eqb, leb, ltb}
+use Rattle.table.specs.Answers.{Result, good, over, number, unknownKind, clocksDiffer, beyondLimits, notPlain}
 use Rattle.table.specs.Bits.{bit}
-use Rattle.table.specs.Rows.{Words}
-use Rattle.checker.specs.Answers.{conditionWord, clocksWords}
+use Rattle.table.specs.Rows.{Row, kindCount, decode, Words}
+use Rattle.table.specs.Rows as rows
+use Rattle.checker.specs.Answers.{clockSize, conditionWord, clocksWords}
 use Rattle.checker.specs.Clocks.{Clock}
 use Rattle.checker.specs.Rules.{AllWithin, maxDerived, maxConditions}
 use Rattle.checker.specs.declared.Clock.{Clock as Kept}
@@ -18,7 +19,7 @@ use Rattle.checker.specs.declared.Found.the-variants.{At, Nothing}
 use Rattle.checker.specs.declared.Verdict.{Verdict}
 use Rattle.checker.specs.declared.Verdict.the-variants.{Is, Refused}
 
--- the seven words of a clock
+-- the words of a clock
 abbrev pub kept : Clock → Kept
 kept k = record {
   period = k .period;
@@ -30,9 +31,9 @@ kept k = record {
   fourth = getD (map conditionWord (k .conditions)) 3 0;
 }
 
--- the first seven of the words
-abbrev pub seven : List ℕ → Kept
-seven ws = record {
+-- the first clock of the words
+abbrev pub clockIn : List ℕ → Kept
+clockIn ws = record {
   period = getD ws 0 0;
   phase = getD ws 1 0;
   count = getD ws 2 0;
@@ -62,7 +63,7 @@ guard true number v = v
 guard false number v = Refused number
 
 unfoldable pub limited : ℕ → ℕ → Verdict
-limited n p = guard (leb n maxDerived) 22 (guard (leb p maxDerived) 22 (Is (every n p)))
+limited n p = guard (leb n maxDerived) (number beyondLimits) (guard (leb p maxDerived) (number beyondLimits) (Is (every n p)))
 
 -- what stands at place i after the word is put at place n
 abbrev pub put : ℕ → ℕ → ℕ → ℕ → ℕ
@@ -70,7 +71,7 @@ put n i word old = cond (eqb n i) word old
 
 unfoldable pub under : Kept → ℕ → Verdict
 under k word =
-    guard (leb (k .count + 1) maxConditions) 22
+    guard (leb (k .count + 1) maxConditions) (number beyondLimits)
     (Is record {
       period = k .period;
       phase = k .phase;
@@ -82,28 +83,28 @@ under k word =
     })
 
 abbrev pub combined : Kept → Kept → Verdict
-combined a b = guard (same a b) 21 (Is a)
+combined a b = guard (same a b) (number clocksDiffer) (Is a)
 
 abbrev pub faster : Kept → ℕ → ℕ → Verdict
-faster a k g = guard (eqb (a .count) 0) 23 (guard (eqb (a .period) (k * g)) 21 (Is (every g (a .phase))))
+faster a k g = guard (eqb (a .count) 0) (number notPlain) (guard (eqb (a .period) (k * g)) (number clocksDiffer) (Is (every g (a .phase))))
 
 abbrev pub slower : Kept → ℕ → Verdict
-slower a k = guard (eqb (a .count) 0) 23 (limited (k * a .period) (a .phase))
+slower a k = guard (eqb (a .count) 0) (number notPlain) (limited (k * a .period) (a .phase))
 
 abbrev pub later : Kept → ℕ → Verdict
-later a d = guard (eqb (a .count) 0) 23 (limited (a .period) (a .phase + d))
+later a d = guard (eqb (a .count) 0) (number notPlain) (limited (a .period) (a .phase + d))
 
 abbrev pub head : Kept → ℕ → Verdict
-head a s = guard (eqb (a .count) 0) 23 (guard (eqb (a .phase) (s + a .period)) 21 (Is (every (a .period) s)))
+head a s = guard (eqb (a .count) 0) (number notPlain) (guard (eqb (a .phase) (s + a .period)) (number clocksDiffer) (Is (every (a .period) s)))
 
 abbrev pub tail : Kept → Verdict
-tail a = guard (eqb (a .count) 0) 23 (limited (a .period) (a .phase + a .period))
+tail a = guard (eqb (a .count) 0) (number notPlain) (limited (a .period) (a .phase + a .period))
 
 abbrev pub condition : ℕ → Bool → ℕ
 condition flow truth = 2 * (flow % 64) + bit truth
 
 abbrev pub sampled : Kept → Kept → ℕ → Verdict
-sampled a c word = guard (same a c) 21 (under a word)
+sampled a c word = guard (same a c) (number clocksDiffer) (under a word)
 
 abbrev pub isSame : Kept → Verdict → Bool
 isSame a (Is k) = same a k
@@ -114,27 +115,29 @@ extends a c word = isSame a (under c word)
 
 abbrev pub merged : ℕ → Kept → Kept → Kept → Verdict
 merged flow c a b =
-    guard (extends a c (condition flow true)) 21 (guard (extends b c (condition flow false)) 21 (Is c))
+    guard (extends a c (condition flow true)) (number clocksDiffer) (guard (extends b c (condition flow false)) (number clocksDiffer) (Is c))
 
--- a row's rule by its kind and fields; h has the clocks of the flows before
+-- a row's rule; h has the clocks of the flows before
+unfoldable pub ruleOf : (ℕ → Kept) → Row → Verdict
+ruleOf h (rows.input n p) = Is (every n p)
+ruleOf h (rows.constant v n p) = Is (every n p)
+ruleOf h (rows.combine op a b) = combined (h a) (h b)
+ruleOf h (rows.register v b a) = Is (h b)
+ruleOf h (rows.faster a k g) = faster (h a) k g
+ruleOf h (rows.slower a k) = slower (h a) k
+ruleOf h (rows.later a d) = later (h a) d
+ruleOf h (rows.head a v s) = head (h a) s
+ruleOf h (rows.tail a) = tail (h a)
+ruleOf h (rows.sample u a c) = sampled (h a) (h c) (condition c u)
+ruleOf h (rows.merge c a b) = merged c (h c) (h a) (h b)
+
+-- the same by its kind and fields; a number that is no kind is refused
 unfoldable pub rule : (ℕ → Kept) → ℕ → ℕ → ℕ → ℕ → Verdict
-rule h kind p q r =
-    cond (eqb kind 0) (Is (every p q))
-    (cond (eqb kind 1) (Is (every q r))
-    (cond (leb kind 6) (combined (h p) (h q))
-    (cond (eqb kind 7) (Is (h q))
-    (cond (eqb kind 8) (faster (h p) q r)
-    (cond (eqb kind 9) (slower (h p) q)
-    (cond (eqb kind 10) (later (h p) q)
-    (cond (eqb kind 11) (head (h p) r)
-    (cond (eqb kind 12) (tail (h p))
-    (cond (eqb kind 13) (sampled (h p) (h q) (condition q true))
-    (cond (eqb kind 14) (sampled (h p) (h q) (condition q false))
-    (cond (eqb kind 15) (merged p (h p) (h q) (h r)) (Refused 13))))))))))))
+rule h kind p q r = cond (ltb kind kindCount) (ruleOf h (decode kind p q r)) (Refused (number unknownKind))
 
 -- a register's test over the words kept: beat b, source a
 abbrev pub fitsIn : List ℕ → ℕ → ℕ → Bool
-fitsIn ws b a = same (seven (drop (7 * a) ws)) (seven (drop (7 * b) ws))
+fitsIn ws b a = same (clockIn (drop (clockSize * a) ws)) (clockIn (drop (clockSize * b) ws))
 
 -- the same of a row by its four words
 abbrev pub sourceIn : List ℕ → Words → Bool
