@@ -9,8 +9,9 @@ use lib.ListN.{length}
 use Rattle.table.specs.Rows.{Row, input, constant, combine, register, faster, slower, later, head, tail, sample, merge, onRegister}
 use Rattle.table.specs.Rows.{badRegister}
 use Rattle.table.proofs.Lists.{Each, each-map, each-both}
-use Rattle.table.proofs.Registers.{Passes, none-bad}
-use Rattle.table.proofs.Tables.{Fits, AllFit}
+use Rattle.table.proofs.Registers.{RegisterOr, is-register, is-other, register-or, Passes, none-bad}
+use Rattle.table.specs.Tables.{Fits}
+use Rattle.table.proofs.Tables.{AllFit}
 use Rattle.checker.specs.Clocks.{Clock}
 use Rattle.checker.specs.Rules.{clockAt, sourceFits}
 use Rattle.checker.proofs.ClockLaws.{beq-same, same-clock}
@@ -32,18 +33,12 @@ module _ (rows : List Row) (ks : List Clock) (w : AllFit (length rows) 0 rows) (
   -- a register whose source has its beat's clock finds both present or both absent
   register-meets : (past : Ticks) (now : Tick) → Kept (clockAt ks) (length rows) (now ∷ past) → (f : ℕ) (r : Row) → f < length rows
       → Fits (length rows) f r → onRegister (sourceFits ks) r ≡ true → onRegister (sourceMeets now) r ≡ true
-  register-meets past now k f (input n p) l x e = refl
-  register-meets past now k f (constant v n p) l x e = refl
-  register-meets past now k f (combine op a b) l x e = refl
-  register-meets past now k f (register v b a) l x e =
-      beq-same _ _ (k a (x .1) .0 ∙ ap (λ (j : Clock). due j now past) (same-clock _ _ e) ∙ sym (k b (omega (arith, x .0)) .0))
-  register-meets past now k f (faster a c g) l x e = refl
-  register-meets past now k f (slower a c) l x e = refl
-  register-meets past now k f (later a d) l x e = refl
-  register-meets past now k f (head a v s) l x e = refl
-  register-meets past now k f (tail a) l x e = refl
-  register-meets past now k f (sample u a c) l x e = refl
-  register-meets past now k f (merge c a b) l x e = refl
+  register-meets past now k f r l x e = go r (register-or r) x e
+    where
+      go : (r : Row) → RegisterOr r → Fits (length rows) f r → onRegister (sourceFits ks) r ≡ true → onRegister (sourceMeets now) r ≡ true
+      go r (is-register {b = b} {a = a}) x e =
+          beq-same _ _ (k a (x .1) .0 ∙ ap (λ (j : Clock). due j now past) (same-clock _ _ e) ∙ sym (k b (omega (arith, x .0)) .0))
+      go r (is-other p) x e = p (sourceMeets now)
 
   no-bad-register : (past : Ticks) (now : Tick) → Kept (clockAt ks) (length rows) (now ∷ past) → badRegister (sourceMeets now) 0 rows ≡ none
   no-bad-register past now k =

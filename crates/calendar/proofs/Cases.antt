@@ -1,6 +1,5 @@
 -- The plans A to K, computed. Assumes nothing.
-use mathlib.Core.Path.{_≡_, refl}
-use mathlib.Core.List.{map}
+use mathlib.Core.Path.{refl}
 use Rattle.table.specs.Rows.{kinds, ranged, placed, fieldsOf, rowOf, badRegister}
 use Rattle.table.specs.Plain.{split, joined, rowsFrom, tableOf}
 use Rattle.checker.specs.Rules.{clockOf, clocksFrom, clocksOf}
@@ -9,8 +8,8 @@ use Rattle.semantics.specs.Cells.{latest, onGrid}
 use Rattle.semantics.specs.Operators.{combined, registered}
 use Rattle.semantics.specs.Runs.{history, inputs, cellOf, flowsFrom, tickOf, run, cells}
 use Rattle.semantics.specs.Answers.{running}
-use Rattle.calendar.specs.Cases.{Case, cases}
+use Rattle.calendar.specs.Cases.{AllCases}
 
-pub all-cases : map (λ (c : Case). c .outcome) cases ≡ map (λ (c : Case). c .expected) cases
+pub all-cases : AllCases
 unfolding kinds ranged placed fieldsOf rowOf badRegister split joined rowsFrom tableOf clockOf clocksFrom clocksOf clocksWords checking latest onGrid combined registered history inputs cellOf flowsFrom tickOf run cells running
 all-cases = refl

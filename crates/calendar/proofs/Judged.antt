@@ -12,8 +12,9 @@ use borrow.Author.Tests.{eqb-false}
 use Rattle.table.specs.Answers.{Refusal, Result, good, refused, unless, clocksDiffer, beyondLimits, notPlain}
 use Rattle.table.specs.Rows.{Row, input, constant, combine, register, faster, slower, later, head, tail, sample, merge, onRegister}
 use Rattle.table.proofs.Lists.{Each, each-front, each-at, below-suc}
-use Rattle.table.proofs.Registers.{Passes, Registers, all-pass, registers}
-use Rattle.table.proofs.Tables.{Fits, AllFit}
+use Rattle.table.proofs.Registers.{RegisterOr, is-register, is-other, register-or, Passes, Registers, all-pass, registers}
+use Rattle.table.specs.Tables.{Fits}
+use Rattle.table.proofs.Tables.{AllFit}
 use Rattle.checker.specs.Clocks.{Clock, every, plain, sameClock}
 use Rattle.checker.specs.Rules.{maxDerived, withinLimits, limited, clockOf, clockAt, sourceFits, clocksOf}
 use Rattle.checker.proofs.ClockLaws.{beq-true, plain-differ}
@@ -32,19 +33,22 @@ use Rattle.calendar.proofs.Keeping.{Kept, regular}
 use Rattle.calendar.proofs.Endings.{not-filled, Last, last, ended-before, tick-parts, front-of, front-kept, front-filled}
 use Rattle.calendar.proofs.Endings.{tick-kept, run-kept}
 
--- a row that neither samples nor merges
+-- a row that samples or merges, and one that does neither
+abbrev pub conditional : Row → Bool
+conditional (input n p) = false
+conditional (constant v n p) = false
+conditional (combine op a b) = false
+conditional (register v b a) = false
+conditional (faster a k g) = false
+conditional (slower a k) = false
+conditional (later a d) = false
+conditional (head a v s) = false
+conditional (tail a) = false
+conditional (sample u a c) = true
+conditional (merge c a b) = true
+
 abbrev pub FreeRow : Row → Type 0
-FreeRow (input n p) = Unit {0}
-FreeRow (constant v n p) = Unit {0}
-FreeRow (combine op a b) = Unit {0}
-FreeRow (register v b a) = Unit {0}
-FreeRow (faster a k g) = Unit {0}
-FreeRow (slower a k) = Unit {0}
-FreeRow (later a d) = Unit {0}
-FreeRow (head a v s) = Unit {0}
-FreeRow (tail a) = Unit {0}
-FreeRow (sample u a c) = ⊥
-FreeRow (merge c a b) = ⊥
+FreeRow r = conditional r ≡ false
 
 abbrev pub AllFree : ℕ → List Row → Type 0
 AllFree f rows = Each (λ (g : ℕ). FreeRow) f rows
@@ -64,8 +68,8 @@ module _ (clk : ℕ → Clock) (m : ℕ) where
   plain-row f r k (by-later y z) w x s = refl
   plain-row f r k (by-head y z) w x s = refl
   plain-row f r k (by-tail y z) w x s = refl
-  plain-row f r k (by-sample y l) w x s = absurd x
-  plain-row f r k (by-merge y z) w x s = absurd x
+  plain-row f r k (by-sample y l) w x s = absurd (true≢false x)
+  plain-row f r k (by-merge y z) w x s = absurd (true≢false x)
 
   plain-from : (f : ℕ) (rs : List Row) → AllFit m f rs → AllFree f rs → Clocked clk f rs → AllPlain clk f → AllPlain clk (f + length rs)
   plain-from f [] w x k s = subst (AllPlain clk) (omega arith) s
@@ -162,8 +166,8 @@ module _ (rows : List Row) (log : List ℕ) (clk : ℕ → Clock) (f : ℕ) (san
       eqb-false _ _ (failed-test (eqb (clk a .phase) (s + clk a .period)) clocksDiffer clocksDiffer f g _ (passed-test _ notPlain clocksDiffer f g _ (flat a (w .0)) e)) in
       head-clashing a v s (w .0) d (decLt s (clk a .phase))
   row-clashing m g (tail a) w x e = absurd (not-limited f g (every (clk a .period) (clk a .phase + clk a .period)) (passed-test _ notPlain clocksDiffer f g _ (flat a (w .0)) e))
-  row-clashing m g (sample u a c) w x e = absurd x
-  row-clashing m g (merge c a b) w x e = absurd x
+  row-clashing m g (sample u a c) w x e = absurd (true≢false x)
+  row-clashing m g (merge c a b) w x e = absurd (true≢false x)
 
 module _ (rows : List Row) (fit : AllFit (length rows) 0 rows) (free : AllFree 0 rows) (log : List ℕ) (all : Ticks) (ended : run rows log judgingTicks ≡ done all) where
   -- tick t of the run
@@ -216,7 +220,7 @@ module _ (rows : List Row) (fit : AllFit (length rows) 0 rows) (free : AllFree 0
   -- no register of it has a source whose clock differs
   no-bad-source : (ks : List Clock) (front : List Row) (r : Row) (back : List Row) → Clocked (clockAt ks) 0 rows → rows ≡ front ++ (r ∷ back)
       → onRegister (sourceFits ks) r ≡ false → ⊥
-  no-bad-source ks front r back ck e x = go r (each-at (Fits (length rows)) 0 front r back (subst (AllFit (length rows) 0) e fit)) x refl
+  no-bad-source ks front r back ck e x = go r (register-or r) (each-at (Fits (length rows)) 0 front r back (subst (AllFit (length rows) 0) e fit)) x refl
     where
       clk : ℕ → Clock
       clk = clockAt ks
@@ -245,18 +249,9 @@ module _ (rows : List Row) (fit : AllFit (length rows) 0 rows) (free : AllFree 0
       inside : length front < length rows
       inside = rw e (rw (length-append front (r ∷ back)) (omega arith))
 
-      go : (q : Row) → Fits (length rows) (0 + length front) q → onRegister (sourceFits ks) q ≡ false → r ≡ q → ⊥
-      go (input n p) w x y = true≢false x
-      go (constant v n p) w x y = true≢false x
-      go (combine op a b) w x y = true≢false x
-      go (register v b a) w x y = differ v b a (omega (arith, w .0, inside)) (w .1) x y
-      go (faster a k g) w x y = true≢false x
-      go (slower a k) w x y = true≢false x
-      go (later a d) w x y = true≢false x
-      go (head a v t) w x y = true≢false x
-      go (tail a) w x y = true≢false x
-      go (sample u a c) w x y = true≢false x
-      go (merge c a b) w x y = true≢false x
+      go : (q : Row) → RegisterOr q → Fits (length rows) (0 + length front) q → onRegister (sourceFits ks) q ≡ false → r ≡ q → ⊥
+      go q (is-register {v = v} {b = b} {a = a}) w x y = differ v b a (omega (arith, w .0, inside)) (w .1) x y
+      go q (is-other p) w x y = true≢false (sym (p (sourceFits ks)) ∙ x)
 
   no-refusal : (c : Result (List Clock)) (g : ℕ) → c ≡ refused clocksDiffer g → Checked rows c → ⊥
   no-refusal c g e (fine ks s k x) = good-refused e

@@ -8,7 +8,8 @@ use lib.ListN.{length, length-append, List·getD-append}
 use lib.Seq.{getD-append-seam}
 use Rattle.table.specs.Rows.{Row, input, constant, combine, register, faster, slower, later, head, tail, sample, merge}
 use Rattle.table.proofs.Lists.{below-suc}
-use Rattle.table.proofs.Tables.{Fits, AllFit}
+use Rattle.table.specs.Tables.{Fits}
+use Rattle.table.proofs.Tables.{AllFit}
 use Rattle.checker.specs.Clocks.{Clock, every, plain, under}
 use Rattle.checker.proofs.RuleLaws.{Rule, by-input, by-constant, by-combine, by-register, by-faster, by-slower, by-later, by-head, by-tail}
 use Rattle.checker.proofs.RuleLaws.{by-sample, by-merge, rule-of}

@@ -4,24 +4,25 @@ use mathlib.Core.Logic.{_↔_, inl, inr}
 use Prim.Native.Nat.{ℕ, _+_, _*_, _≤_, _<_}
 use native.Mathlib.Nat.{mul-le-mul-right}
 use native.Mathlib.Omega.{arith}
-use mathlib.Core.Bool.{Bool, true, false, _&&_}
+use mathlib.Core.Bool.{Bool, true, false, not, _&&_, _||_, false≢true}
 use mathlib.Core.List.{List, map}
-use lib.ListN.{length, getD, drop}
-use lib.Seq.{getD-drop}
+use lib.ListN.{length, drop}
 use lib.Dec.{leb, eqb}
-use borrow.Author.Tests.{le-leb, eq-eqb}
+use borrow.Author.Tests.{leb-true, le-leb, eq-eqb}
 use Rattle.table.specs.Answers.{Refusal, Result, good, refused, unless, number, over, answer, noRoom, clocksDiffer, tooManyTicks}
 use Rattle.table.specs.Answers.{wrongLog, shortTrace}
-use Rattle.table.specs.Rows.{Row, tail, Kind, kinds}
-use Rattle.table.specs.Plain.{four, tableOf}
-use Rattle.table.proofs.Tests.{good-inj, unless-good, then-good}
+use Rattle.table.specs.Rows.{Row, tail, Kind, kinds, kindCount, decode}
+use Rattle.table.specs.Plain.{rowWords, tableOf}
+use Rattle.table.specs.Tables.{rowAt}
+use Rattle.table.proofs.Tests.{and-left, and-right, Tried, passed, failed, try, good-inj, unless-good, then-good}
 use Rattle.table.proofs.AnswerLaws.{no-zero, answer-zero, is-differing}
-use Rattle.table.proofs.Lists.{Each, each-entry, each-of}
+use Rattle.table.proofs.Lists.{Each, each-of}
+use Rattle.table.proofs.Entries.{every, kind-test}
 use Rattle.table.proofs.Registers.{Passes}
-use Rattle.table.proofs.Tables.{AllFit, Made, Table, rowAt, table-made}
+use Rattle.table.proofs.Tables.{AllFit, Made, Table, table-made}
 use Rattle.checker.specs.Clocks.{Clock}
 use Rattle.checker.specs.Rules.{clockAt, sourceFits, clocksOf}
-use Rattle.checker.specs.Answers.{clocksWords, checking, checkAnswer}
+use Rattle.checker.specs.Answers.{clockSize, clocksWords, checking, checkAnswer}
 use Rattle.checker.proofs.CheckLaws.{Clocked, AllSane, all-sane, Checked, fine, bad-row, bad-source, checked}
 use Rattle.semantics.specs.Cells.{value}
 use Rattle.semantics.specs.Runs.{Ticks, inputs, Ran, done, clashed, run, cells, Regular as Wide}
@@ -29,7 +30,7 @@ use Rattle.semantics.specs.Answers.{maxTicks, running, ranAnswer, markByte}
 use Rattle.calendar.specs.Calendar.{Accepts, Asked, Ends, OnCalendar, Free, Judged, judgingTicks, SharedCalendar}
 use Rattle.semantics.proofs.Traces.{cells-length}
 use Rattle.calendar.proofs.Accepted.{Runs, runs}
-use Rattle.calendar.proofs.Judged.{FreeRow, AllFree, refused-clashes}
+use Rattle.calendar.proofs.Judged.{conditional, FreeRow, AllFree, refused-clashes}
 use Rattle.calendar.proofs.Shown.{AtTick, at-tick, written, due-shown}
 
 -- What an accepted table has.
@@ -54,8 +55,8 @@ accepted : (m : ℕ) (words : List ℕ) (room : ℕ) → checkAnswer m words roo
 unfolding checking
 accepted m words room e =
     let a = answer-zero length (checking m words room) e in
-    let b = then-good (tableOf m words) (λ rows. unless (leb (7 * m) room) noRoom 0 (clocksOf rows)) (a .0) (a .1) in
-    let c = unless-good (leb (7 * m) room) noRoom 0 (clocksOf (b .0)) (a .0) (b .2) in
+    let b = then-good (tableOf m words) (λ rows. unless (leb (clockSize * m) room) noRoom 0 (clocksOf rows)) (a .0) (a .1) in
+    let c = unless-good (leb (clockSize * m) room) noRoom 0 (clocksOf (b .0)) (a .0) (b .2) in
     go (b .0) (a .0) (b .1) (a .1) (clocksOf (b .0)) (c .1) (checked (length (b .0)) (b .0) (rows-fit m words (b .0) (b .1)))
   where
     go : (rows : List Row) (ks : List Clock) → tableOf m words ≡ good rows → checking m words room ≡ good ks
@@ -126,57 +127,24 @@ accepted-run m words clocks x log ticks marks values l asked = go (accepted m wo
 
 -- SECOND HALF
 -- kinds other than 13 to 15 make rows that neither sample nor merge
-kinds-free : Each (λ (i : ℕ) (k : Kind). (13 ≤ i → i ≤ 15 → ⊥) → (x y z : ℕ) → FreeRow (k .make x y z)) 0 kinds
-unfolding kinds
-kinds-free = (
-  free,
-  (
-    free,
-    (
-      free,
-      (
-        free,
-        (
-          free,
-          (
-            free,
-            (
-              free,
-              (
-                free,
-                (
-                  free,
-                  (
-                    free,
-                    (
-                      free,
-                      (
-                        free,
-                        (
-                          free,
-                          (
-                            λ h x y z. h (omega arith) (omega arith),
-                            (
-                              λ h x y z. h (omega arith) (omega arith),
-                              (λ h x y z. h (omega arith) (omega arith), tt),
-                            ),
-                          ),
-                        ),
-                      ),
-                    ),
-                  ),
-                ),
-              ),
-            ),
-          ),
-        ),
-      ),
-    ),
-  ),
-)
+free-kind : (x y z : ℕ) (n : ℕ) (k : Kind) → Bool
+free-kind x y z n k = (leb 13 n && leb n 15) || not (conditional (k .make x y z))
+
+kinds-free : (x y z : ℕ) → every (free-kind x y z) 0 kinds ≡ true
+unfolding kinds free-kind
+kinds-free x y z = refl
+
+row-free : (n x y z : ℕ) → n < kindCount → (13 ≤ n → n ≤ 15 → ⊥) → FreeRow (decode n x y z)
+unfolding free-kind
+row-free n x y z l h = go (try (leb 13 n && leb n 15)) (kind-test (free-kind x y z) (kinds-free x y z) n l)
   where
-    free : {A : Type 0} → A → (x y z : ℕ) → Unit {0}
-    free h x y z = tt
+    negated : (b : Bool) → not b ≡ true → b ≡ false
+    negated true e = absurd (false≢true e)
+    negated false e = refl
+
+    go : Tried (leb 13 n && leb n 15) → ((leb 13 n && leb n 15) || not (conditional (decode n x y z))) ≡ true → FreeRow (decode n x y z)
+    go (passed e) t = absurd (h (leb-true 13 n (and-left (leb 13 n) _ e)) (leb-true n 15 (and-right (leb 13 n) _ e)))
+    go (failed e) t = negated (conditional (decode n x y z)) (rw e at t)
 
 free-rows : (m : ℕ) (words : List ℕ) (rows : List Row) → tableOf m words ≡ good rows → Free m words → AllFree 0 rows
 free-rows m words rows e free = go (table-made m words rows e)
@@ -186,12 +154,8 @@ free-rows m words rows e free = go (table-made m words rows e)
       where
         at : (f : ℕ) → f < m → FreeRow (rowAt rows f)
         at f l =
-            let d : Made m f (four (drop (4 * f) words)) (rowAt rows f) = t .row-at f l in
-            let k : ℕ = getD (drop (4 * f) words) 0 0 in
-            let q : k ≡ getD words (4 * f) 0 = getD-drop (4 * f) words 0 0 ∙ ap (λ (i : ℕ). getD words i 0) (omega arith) in
-            subst FreeRow (d .row)
-            (each-entry (λ (i : ℕ) (k : Kind). (13 ≤ i → i ≤ 15 → ⊥) → (x y z : ℕ) → FreeRow (k .make x y z)) 0 kinds k (d .kind) kinds-free (d .at)
-            (λ x y. free f l (omega arith) (omega arith)) _ _ _)
+            let d : Made m f (rowWords words f) (rowAt rows f) = t .row-at f l in
+            subst FreeRow (d .row) (row-free (rowWords words f .kind) _ _ _ (d .known) (free f l))
 
 -- a run that answers 0 ended without a clash
 ended : (ticks : ℕ) (r : Result Ran) → ranAnswer ticks r .number ≡ 0 → (past : Ticks) × (r ≡ good (done past))
@@ -214,7 +178,7 @@ module _ (m : ℕ) (words clocks : List ℕ) (free : Free m words) (log marks va
       let a = unless-good (leb judgingTicks maxTicks) tooManyTicks 0 _ (done (r .0)) (t .2) in
       let b = unless-good (eqb (length log) (judgingTicks * inputs (t .0))) wrongLog 0 _ (done (r .0)) (a .1) in
       let c = unless-good (leb (judgingTicks * m) (length marks) && leb (judgingTicks * m) (length values)) shortTrace 0 _ (done (r .0)) (b .1) in
-      let d : (g : ℕ) × (clocksOf (t .0) ≡ refused clocksDiffer g) = differing (leb (7 * m) (length clocks)) (clocksOf (t .0)) (rw (t .1) at e) in
+      let d : (g : ℕ) × (clocksOf (t .0) ≡ refused clocksDiffer g) = differing (leb (clockSize * m) (length clocks)) (clocksOf (t .0)) (rw (t .1) at e) in
       refused-clashes (t .0) (rows-fit m words (t .0) (t .1)) (free-rows m words (t .0) (t .1) free) (d .0) (d .1) log (r .0) (good-inj (c .1))
 
 one-run : (m : ℕ) (words clocks : List ℕ) → Free m words → Judged m words clocks → (log marks values : List ℕ)

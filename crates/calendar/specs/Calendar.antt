@@ -6,15 +6,15 @@ use Prim.Native.Nat.{ℕ, _+_, _*_, _≤_, _<_}
 use mathlib.Core.List.{List}
 use lib.ListN.{length, getD}
 use Rattle.table.specs.Answers.{number, clocksDiffer}
-use Rattle.table.specs.Plain.{tableOf, rowsIn}
+use Rattle.table.specs.Plain.{rowWords, tableOf, rowsIn}
 use Rattle.checker.specs.Rules.{maxDerived}
-use Rattle.checker.specs.Answers.{checkAnswer, clocksAfter}
+use Rattle.checker.specs.Answers.{clockSize, checkAnswer, clocksAfter}
 use Rattle.semantics.specs.Runs.{inputs}
 use Rattle.semantics.specs.Answers.{maxTicks, runAnswer, marksAfter, valuesAfter}
 
--- word i of the seven that the check wrote for flow f
+-- word i of the clock that the check wrote for flow f
 abbrev pub clockWord : List ℕ → ℕ → ℕ → ℕ
-clockWord clocks f i = getD clocks (7 * f + i) 0
+clockWord clocks f i = getD clocks (clockSize * f + i) 0
 
 -- flow f's cell of tick t, in the marks or values of a run of m flows
 abbrev pub cellAt : ℕ → List ℕ → ℕ → ℕ → ℕ
@@ -63,7 +63,7 @@ OnCalendar m words clocks log ticks marks values =
 
 -- a table free of sampling and merging: no row of kinds 13 to 15
 abbrev pub Free : ℕ → List ℕ → Type 0
-Free m words = (f : ℕ) → f < m → 13 ≤ getD words (4 * f) 0 → getD words (4 * f) 0 ≤ 15 → ⊥
+Free m words = (f : ℕ) → f < m → 13 ≤ rowWords words f .kind → rowWords words f .kind ≤ 15 → ⊥
 
 -- the check answers 0 or 21
 abbrev pub Judged : ℕ → List ℕ → List ℕ → Type 0

@@ -1,14 +1,12 @@
--- The paper's plans A to K: what check and run come to, and what they should.
+-- The paper's plans A to K: what check and run come to, and the numbers that they should come to. Proved in proofs/Cases.
+use mathlib.Core.Path.{_≡_}
 use Prim.Native.Nat.{ℕ, _*_}
-use mathlib.Core.Bool.{true, false}
-use mathlib.Core.List.{List, [], _∷_, _++_}
+use mathlib.Core.List.{List, [], _∷_, _++_, map}
 use lib.ListN.{length, replicate}
 use Rattle.table.specs.declared.Answer.{Answer}
-use Rattle.table.specs.Answers.{Refusal, number, success, refusal, clocksDiffer, beyondLimits, notPlain, clash}
 use Rattle.table.specs.Rows.{Words}
 use Rattle.table.specs.Plain.{joined}
-use Rattle.checker.specs.Clocks.{Clock, every, under}
-use Rattle.checker.specs.Answers.{clocksWords, checkAnswer, clocksAfter}
+use Rattle.checker.specs.Answers.{clockSize, checkAnswer, clocksAfter}
 use Rattle.semantics.specs.Answers.{runAnswer, marksAfter, valuesAfter}
 
 pub record Case : Type 0 where
@@ -21,28 +19,27 @@ fourParts a = a .number ∷ a .flow ∷ a .tick ∷ a .count ∷ []
 abbrev pub row : ℕ → ℕ → ℕ → ℕ → Words
 row k x y z = record { kind = k; one = x; two = y; three = z }
 
--- the check of a plan: its answer, and what it leaves in a buffer of zeros
-abbrev pub checkOf : List Words → List ℕ
-checkOf rows =
-    fourParts (checkAnswer (length rows) (joined rows) (7 * length rows))
-    ++ clocksAfter (length rows) (joined rows) (replicate (7 * length rows) 0)
+-- the check of a plan: number, flow, tick and count of its answer, and what it leaves in a buffer of nines
+abbrev pub checked : List Words → ℕ → ℕ → ℕ → ℕ → List ℕ → Case
+checked rows number flow tick count left =
+    let words : List ℕ = joined rows in
+    let room : ℕ = clockSize * length rows in
+    record {
+      outcome = fourParts (checkAnswer (length rows) words room) ++ clocksAfter (length rows) words (replicate room 9);
+      expected = number ∷ flow ∷ tick ∷ count ∷ left;
+    }
 
-abbrev pub gives : List Words → List Clock → Case
-gives rows ks = record { outcome = checkOf rows; expected = fourParts (success (length rows)) ++ clocksWords ks }
-
-abbrev pub refuses : List Words → Refusal → ℕ → Case
-refuses rows why f =
-    record { outcome = checkOf rows; expected = fourParts (refusal why f) ++ replicate (7 * length rows) 0 }
-
--- a run of a plan: its answer, and what it leaves in marks and values that were all 9
-abbrev pub runs : List Words → List ℕ → ℕ → Answer → List ℕ → List ℕ → Case
-runs rows log ticks a marks values =
-    let old : List ℕ = replicate (ticks * length rows) 9 in
+-- the run of a plan over a log: the same, and what it leaves in marks and values of nines
+abbrev pub ran : List Words → List ℕ → ℕ → ℕ → ℕ → ℕ → ℕ → List ℕ → List ℕ → Case
+ran rows log ticks number flow tick count marks values =
+    let m : ℕ = length rows in
+    let words : List ℕ = joined rows in
+    let old : List ℕ = replicate (ticks * m) 9 in
     record {
       outcome =
-          fourParts (runAnswer (length rows) (joined rows) log ticks (length old) (length old))
-          ++ (marksAfter (length rows) (joined rows) log ticks old old ++ valuesAfter (length rows) (joined rows) log ticks old old);
-      expected = fourParts a ++ (marks ++ values);
+          fourParts (runAnswer m words log ticks (length old) (length old))
+          ++ (marksAfter m words log ticks old old ++ valuesAfter m words log ticks old old);
+      expected = number ∷ flow ∷ tick ∷ count ∷ (marks ++ values);
     }
 
 -- inputs (10, 0) and (20, 0), and their sum
@@ -53,37 +50,59 @@ planD = row 0 10 0 0 ∷ row 0 20 0 0 ∷ row 2 0 1 0 ∷ []
 abbrev pub planI : List Words
 planI = row 0 4 0 0 ∷ row 0 4 0 0 ∷ row 13 0 1 0 ∷ row 14 0 1 0 ∷ []
 
+-- A clock is its period, its phase, how many conditions it has, and four words of conditions.
 abbrev pub cases : List Case
 cases =
     -- A
-    gives (row 0 3 0 0 ∷ row 8 0 3 1 ∷ []) (every 3 0 ∷ every 1 0 ∷ [])
+    checked (row 0 3 0 0 ∷ row 8 0 3 1 ∷ []) 0 0 0 2
+    (3 ∷ 0 ∷ 0 ∷ 0 ∷ 0 ∷ 0 ∷ 0
+    ∷ 1 ∷ 0 ∷ 0 ∷ 0 ∷ 0 ∷ 0 ∷ 0 ∷ [])
     -- B
-    ∷ gives (row 0 3 0 0 ∷ row 9 0 2 0 ∷ []) (every 3 0 ∷ every 6 0 ∷ [])
+    ∷ checked (row 0 3 0 0 ∷ row 9 0 2 0 ∷ []) 0 0 0 2
+    (3 ∷ 0 ∷ 0 ∷ 0 ∷ 0 ∷ 0 ∷ 0
+    ∷ 6 ∷ 0 ∷ 0 ∷ 0 ∷ 0 ∷ 0 ∷ 0 ∷ [])
     -- C
-    ∷ gives (row 0 3 0 0 ∷ row 9 0 2 0 ∷ row 8 1 3 2 ∷ []) (every 3 0 ∷ every 6 0 ∷ every 2 0 ∷ [])
+    ∷ checked (row 0 3 0 0 ∷ row 9 0 2 0 ∷ row 8 1 3 2 ∷ []) 0 0 0 3
+    (3 ∷ 0 ∷ 0 ∷ 0 ∷ 0 ∷ 0 ∷ 0
+    ∷ 6 ∷ 0 ∷ 0 ∷ 0 ∷ 0 ∷ 0 ∷ 0
+    ∷ 2 ∷ 0 ∷ 0 ∷ 0 ∷ 0 ∷ 0 ∷ 0 ∷ [])
     -- D
-    ∷ refuses planD clocksDiffer 2
-    ∷ runs planD (replicate 20 5) 10 (success 10) (1 ∷ 1 ∷ 1 ∷ replicate 27 0) (5 ∷ 5 ∷ 10 ∷ replicate 27 0)
-    ∷ runs planD (replicate 22 5) 11 record { number = number clash; flow = 2; tick = 10; count = 0 }
-    (1 ∷ 1 ∷ 1 ∷ (replicate 27 0 ++ (1 ∷ 0 ∷ 9 ∷ []))) (5 ∷ 5 ∷ 10 ∷ (replicate 27 0 ++ (5 ∷ 0 ∷ 9 ∷ [])))
+    ∷ checked planD 21 2 0 0 (replicate 21 9)
+    ∷ ran planD (replicate 20 5) 10 0 0 0 10 (1 ∷ 1 ∷ 1 ∷ replicate 27 0) (5 ∷ 5 ∷ 10 ∷ replicate 27 0)
+    ∷ ran planD (replicate 22 5) 11 34 2 10 0 (1 ∷ 1 ∷ 1 ∷ (replicate 27 0 ++ (1 ∷ 0 ∷ 9 ∷ [])))
+    (5 ∷ 5 ∷ 10 ∷ (replicate 27 0 ++ (5 ∷ 0 ∷ 9 ∷ [])))
     -- E
-    ∷ refuses (row 0 11 0 0 ∷ row 8 0 2 5 ∷ []) clocksDiffer 1
+    ∷ checked (row 0 11 0 0 ∷ row 8 0 2 5 ∷ []) 21 1 0 0 (replicate 14 9)
     -- F
-    ∷ gives (row 0 65 0 0 ∷ row 9 0 63 0 ∷ []) (every 65 0 ∷ every 4095 0 ∷ [])
-    ∷ refuses (row 0 66 0 0 ∷ row 9 0 63 0 ∷ []) beyondLimits 1
+    ∷ checked (row 0 65 0 0 ∷ row 9 0 63 0 ∷ []) 0 0 0 2
+    (65 ∷ 0 ∷ 0 ∷ 0 ∷ 0 ∷ 0 ∷ 0
+    ∷ 4095 ∷ 0 ∷ 0 ∷ 0 ∷ 0 ∷ 0 ∷ 0 ∷ [])
+    ∷ checked (row 0 66 0 0 ∷ row 9 0 63 0 ∷ []) 22 1 0 0 (replicate 14 9)
     -- G
-    ∷ gives (row 0 5 10 0 ∷ row 11 0 0 5 ∷ []) (every 5 10 ∷ every 5 5 ∷ [])
-    ∷ refuses (row 0 5 9 0 ∷ row 11 0 0 5 ∷ []) clocksDiffer 1
+    ∷ checked (row 0 5 10 0 ∷ row 11 0 0 5 ∷ []) 0 0 0 2
+    (5 ∷ 10 ∷ 0 ∷ 0 ∷ 0 ∷ 0 ∷ 0
+    ∷ 5 ∷ 5 ∷ 0 ∷ 0 ∷ 0 ∷ 0 ∷ 0 ∷ [])
+    ∷ checked (row 0 5 9 0 ∷ row 11 0 0 5 ∷ []) 21 1 0 0 (replicate 14 9)
     -- H
-    ∷ gives (row 0 1 0 0 ∷ row 10 0 4095 0 ∷ []) (every 1 0 ∷ every 1 4095 ∷ [])
-    ∷ refuses (row 0 1 1 0 ∷ row 10 0 4095 0 ∷ []) beyondLimits 1
+    ∷ checked (row 0 1 0 0 ∷ row 10 0 4095 0 ∷ []) 0 0 0 2
+    (1 ∷ 0 ∷ 0 ∷ 0 ∷ 0 ∷ 0 ∷ 0
+    ∷ 1 ∷ 4095 ∷ 0 ∷ 0 ∷ 0 ∷ 0 ∷ 0 ∷ [])
+    ∷ checked (row 0 1 1 0 ∷ row 10 0 4095 0 ∷ []) 22 1 0 0 (replicate 14 9)
     -- I
-    ∷ gives (planI ++ (row 15 1 2 3 ∷ []))
-    (every 4 0 ∷ every 4 0 ∷ under (every 4 0) 1 true ∷ under (every 4 0) 1 false ∷ every 4 0 ∷ [])
-    ∷ refuses (planI ++ (row 15 1 3 2 ∷ [])) clocksDiffer 4
+    ∷ checked (planI ++ (row 15 1 2 3 ∷ [])) 0 0 0 5
+    (4 ∷ 0 ∷ 0 ∷ 0 ∷ 0 ∷ 0 ∷ 0
+    ∷ 4 ∷ 0 ∷ 0 ∷ 0 ∷ 0 ∷ 0 ∷ 0
+    ∷ 4 ∷ 0 ∷ 1 ∷ 3 ∷ 0 ∷ 0 ∷ 0
+    ∷ 4 ∷ 0 ∷ 1 ∷ 2 ∷ 0 ∷ 0 ∷ 0
+    ∷ 4 ∷ 0 ∷ 0 ∷ 0 ∷ 0 ∷ 0 ∷ 0 ∷ [])
+    ∷ checked (planI ++ (row 15 1 3 2 ∷ [])) 21 4 0 0 (replicate 35 9)
     -- J
-    ∷ refuses (planI ++ (row 12 2 0 0 ∷ [])) notPlain 4
+    ∷ checked (planI ++ (row 12 2 0 0 ∷ [])) 23 4 0 0 (replicate 35 9)
     -- K
-    ∷ runs (row 0 2 0 0 ∷ row 7 7 0 0 ∷ []) (10 ∷ 11 ∷ 12 ∷ 13 ∷ 14 ∷ []) 5 (success 5)
+    ∷ ran (row 0 2 0 0 ∷ row 7 7 0 0 ∷ []) (10 ∷ 11 ∷ 12 ∷ 13 ∷ 14 ∷ []) 5 0 0 0 5
     (1 ∷ 1 ∷ 0 ∷ 0 ∷ 1 ∷ 1 ∷ 0 ∷ 0 ∷ 1 ∷ 1 ∷ []) (10 ∷ 7 ∷ 0 ∷ 0 ∷ 12 ∷ 10 ∷ 0 ∷ 0 ∷ 14 ∷ 12 ∷ [])
     ∷ []
+
+-- each plan comes to what it should
+abbrev pub AllCases : Type 0
+AllCases = map (λ (c : Case). c .outcome) cases ≡ map (λ (c : Case). c .expected) cases
