@@ -182,8 +182,8 @@ fn copy(n: usize, from: &[u32], to: &mut [u32])
 
 // The clocks of a table in plain form: their words flow after flow, or the first refusal, which leaves the buffer as it was.
 pub fn check(count: u32, words: &[u32], clocks: &mut [u32]) -> Answer
-    ensures { λ r. ⌜ r ≡ checkAnswer count (now (words .entry)) (length (now (clocks .entry))) ⌝ }
-    ensures { λ _. ⌜ now (clocks .exit) ≡ clocksAfter count (now (words .entry)) (now (clocks .entry)) ⌝ }
+    ensures answered { λ r. ⌜ r ≡ checkAnswer count (now (words .entry)) (length (now (clocks .entry))) ⌝ }
+    ensures stored { λ _. ⌜ now (clocks .exit) ≡ clocksAfter count (now (words .entry)) (now (clocks .entry)) ⌝ }
 {
     let found = table::examine(count, words);
     if found.number != 0 {

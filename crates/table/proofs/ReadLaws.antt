@@ -19,7 +19,7 @@ use Rattle.table.specs.Plain.{joined, countFits, wordsOf}
 use Rattle.table.specs.Bits.{bits, fromBits}
 use Rattle.table.specs.Packed.{takeField, TakenRow, takeRow, takeRows, filling, unpacked, reading, readAnswer, wordsAfter, countWidth}
 use Rattle.table.specs.Private.Codes.{verdict}
-use Rattle.table.specs.Places.{takeAt, lastPlace}
+use Rattle.table.specs.Places.{takeAt, lastPlace, takingParts}
 use Rattle.table.specs.Private.Laid.{whole}
 use Rattle.table.specs.Private.Steps.{Found, Missing, AllTaken}
 use Rattle.table.proofs.Tests.{and-left, and-right, good-inj, unless-good, then-good}
@@ -74,11 +74,11 @@ module _ (s : List ℕ) (at w : ℕ) (near : at ≤ lastPlace) (inside : at ≤ 
   few : w ≡ length (drop at (bits s))
   few = omega (arith, length-drop at (bits s), length-bits s)
 
-  pub fill-there : takeAt (bits s) at w ≡ Short → ⊥
+  pub fill-there : takeAt (bits s) at w ≡ takingParts Short → ⊥
   fill-there e = not-short (bits s) at w near (omega arith) (omega (arith, length-bits s)) e
 
   -- what is left is below eight bits, and all of it was taken
-  pub ended : (x : ℕ) (p : Cursor) → takeAt (bits s) at w ≡ Got x p → eqb x 0 ≡ filling (drop at (bits s))
+  pub ended : (x : ℕ) (p : Cursor) → takeAt (bits s) at w ≡ takingParts (Got x p) → eqb x 0 ≡ filling (drop at (bits s))
   ended x p e =
       let h : Had (bits s) at w x p = had (bits s) at w x p e in
       let l : length (drop at (bits s)) < 8 = omega (arith, few) in
@@ -103,11 +103,11 @@ rows-counted m bs = go (takeRows m m 0 bs) refl
     go (refused why f) e = refl
 
 module _ (s : List ℕ) where
-  pub no-count : takeAt (bits s) 0 countWidth ≡ Short → answer length (unpacked s) ≡ numbered 12 0
+  pub no-count : takeAt (bits s) 0 countWidth ≡ takingParts Short → answer length (unpacked s) ≡ numbered 12 0
   unfolding unpacked
   no-count e = rw (too-short (bits s) 0 countWidth (omega arith) (omega arith) (omega arith) e 0)
 
-  module _ (m : ℕ) (p : Cursor) (count : takeAt (bits s) 0 countWidth ≡ Got m p) where
+  module _ (m : ℕ) (p : Cursor) (count : takeAt (bits s) 0 countWidth ≡ takingParts (Got m p)) where
     h : Had (bits s) 0 countWidth m p
     h = had (bits s) 0 countWidth m p count
 

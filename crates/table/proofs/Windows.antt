@@ -14,11 +14,11 @@ use borrow.Author.Tests.{le-leb, lt-leb, leb-true, leb-false}
 use Rattle.table.specs.declared.Cursor.{Cursor}
 use Rattle.table.specs.declared.Taking.the-variants.{Got, Short}
 use Rattle.table.specs.Bits.{toBits, fromBits, bits}
-use Rattle.table.specs.Places.{takeAt, lastPlace, widest}
+use Rattle.table.specs.Places.{takeAt, lastPlace, widest, FieldAt, takingParts}
 use Rattle.table.specs.Private.Laid.{window}
-use Rattle.table.specs.Answers.{good, refused, cutShort}
+use Rattle.table.specs.Answers.{good, refused, cutShort, unless}
 use Rattle.table.specs.Packed.{takeField}
-use Rattle.table.proofs.Tests.{and-right}
+use Rattle.table.proofs.Tests.{and-right, not-good, good-inj, unless-good}
 use Rattle.table.proofs.BitLaws.{length-toBits, fromBits-append, fromBits-lt, from-to, length-bits, drop-bits, take-append, drop-take}
 
 -- ---- a field in the middle of bits, by division
@@ -107,20 +107,20 @@ one-le-shifted w h = rw (shl-exact {a = 1} 1 w 64 (omega arith) (omega arith), o
 
 -- ---- what taking answers
 
-pub take-far : (bs : List Bool) (at w : ℕ) → lastPlace < at → Short ≡ takeAt bs at w
+pub take-far : (bs : List Bool) (at w : ℕ) → lastPlace < at → takingParts Short ≡ takeAt bs at w
 unfolding takeAt
 take-far bs at w h = rw (lt-leb at lastPlace h)
 
-pub take-wide : (bs : List Bool) (at w : ℕ) → at ≤ lastPlace → widest < w → Short ≡ takeAt bs at w
+pub take-wide : (bs : List Bool) (at w : ℕ) → at ≤ lastPlace → widest < w → takingParts Short ≡ takeAt bs at w
 unfolding takeAt
 take-wide bs at w p h = rw (le-leb at lastPlace p, lt-leb w widest h)
 
-pub take-short : (s : List ℕ) (at w : ℕ) → at ≤ lastPlace → w ≤ widest → length s < (at + w + 7) / 8 → Short ≡ takeAt (bits s) at w
+pub take-short : (s : List ℕ) (at w : ℕ) → at ≤ lastPlace → w ≤ widest → length s < (at + w + 7) / 8 → takingParts Short ≡ takeAt (bits s) at w
 unfolding takeAt
 take-short s at w p q h = rw (length-bits s, le-leb at lastPlace p, le-leb w widest q, lt-leb (at + w) (8 * length s) (omega arith))
 
 pub take-got : (s : List ℕ) (at w v : ℕ) → ((k : ℕ) → getD s k 0 < 256) → at ≤ lastPlace → w ≤ widest → (at + w + 7) / 8 ≤ length s
-    → v ≡ window s (at / 8) / 2 ^ (40 - at % 8 - w) % 2 ^ w → Got v (record { at = at + w }) ≡ takeAt (bits s) at w
+    → v ≡ window s (at / 8) / 2 ^ (40 - at % 8 - w) % 2 ^ w → takingParts (Got v (record { at = at + w })) ≡ takeAt (bits s) at w
 unfolding takeAt
 take-got s at w v bytes p q l e =
     rw (length-bits s, le-leb at lastPlace p, le-leb w widest q, le-leb (at + w) (8 * length s) (omega arith), e, window-field s bytes at w q (omega arith))
@@ -132,40 +132,37 @@ pub record Had (bs : List Bool) (at w x : ℕ) (p : Cursor) : Type 0 where
   pub past : p .at ≡ at + w
   pub within : at + w ≤ length bs
 
-got-of : (b : Bool) (x y : ℕ) (p q : Cursor) → cond b (Got x p) Short ≡ Got y q → (b ≡ true) × (x ≡ y) × (p ≡ q)
-got-of true x y p q e = (refl, cc, cc)
-got-of false x y p q e = absurd (let z : _≡_ {A = ℕ} 0 1 = cc in omega arith)
+short-of : (b : Bool) (x : FieldAt) → unless b cutShort 0 (good x) ≡ refused cutShort 0 → b ≡ false
+short-of true x e = not-good (sym e)
+short-of false x e = refl
 
-short-of : (b : Bool) (x : ℕ) (p : Cursor) → cond b (Got x p) Short ≡ Short → b ≡ false
-short-of true x p e = absurd (let z : _≡_ {A = ℕ} 0 1 = cc in omega arith)
-short-of false x p e = refl
-
-pub had : (bs : List Bool) (at w x : ℕ) (p : Cursor) → takeAt bs at w ≡ Got x p → Had bs at w x p
+pub had : (bs : List Bool) (at w x : ℕ) (p : Cursor) → takeAt bs at w ≡ takingParts (Got x p) → Had bs at w x p
 unfolding takeAt takeField
 had bs at w x p e =
-    let g = got-of (leb at lastPlace && (leb w widest && leb (at + w) (length bs))) (fromBits (take w (drop at bs))) x (record { at = at + w }) p e in
+    let g = unless-good (leb at lastPlace && (leb w widest && leb (at + w) (length bs))) cutShort 0 _ _ e in
+    let v : fromBits (take w (drop at bs)) ≡ x = ap (λ (y : FieldAt). y .field) (good-inj (g .1)) in
     let l : at + w ≤ length bs = leb-true (at + w) (length bs) (and-right (leb w widest) _ (and-right (leb at lastPlace) _ (g .0))) in
-    let n : at + w ≡ p .at = ap (λ (q : Cursor). q .at) (g .2) in
+    let n : at + w ≡ p .at = ap (λ (y : FieldAt). y .next) (good-inj (g .1)) in
     let h : w ≤ length (drop at bs) = omega (arith, length-drop at bs) in
     record {
-      field = λ f. rw (le-leb w (length (drop at bs)) h, g .1, drop-drop w at bs, n);
-      number = g .1;
+      field = λ f. rw (le-leb w (length (drop at bs)) h, v, drop-drop w at bs, n);
+      number = v;
       past = sym n;
       within = l;
     }
 
-pub too-short : (bs : List Bool) (at w : ℕ) → at ≤ lastPlace → w ≤ widest → at ≤ length bs → takeAt bs at w ≡ Short → (f : ℕ) → takeField f w (drop at bs) ≡ refused cutShort f
+pub too-short : (bs : List Bool) (at w : ℕ) → at ≤ lastPlace → w ≤ widest → at ≤ length bs → takeAt bs at w ≡ takingParts Short → (f : ℕ) → takeField f w (drop at bs) ≡ refused cutShort f
 unfolding takeAt takeField
 too-short bs at w p q l e f =
-    let b = short-of (leb at lastPlace && (leb w widest && leb (at + w) (length bs))) (fromBits (take w (drop at bs))) (record { at = at + w }) e in
+    let b = short-of (leb at lastPlace && (leb w widest && leb (at + w) (length bs))) _ e in
     let b2 : leb (at + w) (length bs) ≡ false = rw (le-leb at lastPlace p, le-leb w widest q) at b in
     let h : length (drop at bs) < w = omega (arith, length-drop at bs, leb-false (at + w) (length bs) b2) in
     rw (lt-leb w (length (drop at bs)) h)
 
 -- a field that is there is taken
-pub not-short : (bs : List Bool) (at w : ℕ) → at ≤ lastPlace → w ≤ widest → at + w ≤ length bs → takeAt bs at w ≡ Short → ⊥
+pub not-short : (bs : List Bool) (at w : ℕ) → at ≤ lastPlace → w ≤ widest → at + w ≤ length bs → takeAt bs at w ≡ takingParts Short → ⊥
 unfolding takeAt
 not-short bs at w p q l e =
-    let b = short-of (leb at lastPlace && (leb w widest && leb (at + w) (length bs))) (fromBits (take w (drop at bs))) (record { at = at + w }) e in
+    let b = short-of (leb at lastPlace && (leb w widest && leb (at + w) (length bs))) _ e in
     let b2 : leb (at + w) (length bs) ≡ false = rw (le-leb at lastPlace p, le-leb w widest q) at b in
     omega (arith, leb-false (at + w) (length bs) b2)

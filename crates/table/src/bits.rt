@@ -5,8 +5,15 @@ ghost use mathlib.Core.Path.{_≡_};
 ghost use Prim.Native.Nat.{_+_, _*_, _/_, _<_, _≤_, _^_, _%_};
 ghost use lib.ListN.{getD, length};
 ghost use Rattle.table.specs.Bits.{bits, toBits, byteCount};
-ghost use Rattle.table.specs.Places.{takeAt, lastPlace};
+ghost use Rattle.table.specs.Places.{takingParts, takeAt, lastPlace};
 ghost use Rattle.table.specs.Private.Laid.{window, whole, putAt, Lined};
+
+// The bits of the count of flows and of a row's kind, and the place of the first row.
+pub(crate) const COUNT_WIDTH: u32 = 8;
+
+pub(crate) const KIND_WIDTH: u32 = 5;
+
+pub(crate) const FIRST_ROW: usize = 8;
 
 // The byte at i, and 0 past the end.
 fn byte_at(s: &[u8], i: usize) -> u64
@@ -93,7 +100,7 @@ impl Cursor {
 
     // The next width bits of s as a number, with the place after them.
     pub fn take(self, s: &[u8], width: u32) -> Taking
-        ensures { λ r. ⌜ r ≡ takeAt (bits (now (s .entry))) (self .at) width ⌝ }
+        ensures { λ r. ⌜ takingParts r ≡ takeAt (bits (now (s .entry))) (self .at) width ⌝ }
     {
         let at = self.at;
         let w = width as usize;

@@ -4,11 +4,11 @@ use super::Reader;
 use super::Taking;
 ghost use mathlib.Core.Path.{_≡_};
 ghost use Rattle.table.specs.Bits.{bits};
-ghost use Rattle.table.specs.Places.{takeAt};
+ghost use Rattle.table.specs.Places.{takingParts, takeAt};
 
 // The width bits of s at a place.
 fn take_at(s: &[u8], at: usize, width: u32) -> Taking
-    ensures { λ r. ⌜ r ≡ takeAt (bits (now (s .entry))) at width ⌝ }
+    ensures { λ r. ⌜ takingParts r ≡ takeAt (bits (now (s .entry))) at width ⌝ }
 {
     let cursor = Cursor { at };
     cursor.take(s, width)
@@ -24,7 +24,7 @@ impl<'a> Reader<'a> {
 
     // The next width bits, with the place after them.
     pub fn take(self, width: u32) -> Taking
-        ensures { λ r. ⌜ r ≡ takeAt (bits (now (self .entry .src))) (self .entry .at) width ⌝ }
+        ensures { λ r. ⌜ takingParts r ≡ takeAt (bits (now (self .entry .src))) (self .entry .at) width ⌝ }
     {
         take_at(self.src, self.at, width)
     }
@@ -32,7 +32,7 @@ impl<'a> Reader<'a> {
 
 // The first width bits of s, by a reader.
 pub(crate) fn first_field(s: &[u8], width: u32) -> Taking
-    ensures { λ r. ⌜ r ≡ takeAt (bits (now (s .entry))) 0 width ⌝ }
+    ensures { λ r. ⌜ takingParts r ≡ takeAt (bits (now (s .entry))) 0 width ⌝ }
 {
     Reader::new(s).take(width)
 }

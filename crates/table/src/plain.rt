@@ -3,6 +3,8 @@ use super::BAD_COUNT;
 use super::MAX_FLOWS;
 use super::ROW_SIZE;
 use super::Survey;
+use super::bits::FIRST_ROW;
+use super::bits::KIND_WIDTH;
 use super::bits::byte_count;
 use super::record_at;
 use super::rows::judge;
@@ -20,7 +22,7 @@ fn row_length(kind: u32) -> usize
     requires { ⌜ kind < kindCount ⌝ }
     ensures { λ r. ⌜ r ≡ rowLength kind ⌝ }
 {
-    (5 + width_of(kind, 0) + width_of(kind, 1) + width_of(kind, 2)) as usize
+    (KIND_WIDTH + width_of(kind, 0) + width_of(kind, 1) + width_of(kind, 2)) as usize
 }
 
 // The rows of a table of count flows, from the first on.
@@ -28,7 +30,7 @@ fn survey_rows(count: u32, words: &[u32]) -> Survey
     requires { ⌜ (count ≤ maxFlows) × (length (now words) ≡ rowSize * count) ⌝ }
     ensures { λ r. ⌜ (answer (λ rs. count) (rowsFrom count 0 (split count (now (words .entry)))) ≡ told count r) × Sized (split count (now (words .entry))) r ⌝ }
 {
-    let mut bits: usize = 8;
+    let mut bits: usize = FIRST_ROW;
     let mut row: u32 = 0;
     while row < count {
         let r = record_at(words, row);

@@ -11,6 +11,9 @@ use super::Scan;
 use super::Step;
 use super::Taking;
 use super::UNKNOWN_KIND;
+use super::bits::COUNT_WIDTH;
+use super::bits::FIRST_ROW;
+use super::bits::KIND_WIDTH;
 use super::bits::byte_count;
 use super::bits::up;
 use super::held::first_field;
@@ -35,7 +38,7 @@ impl Cursor {
         requires { ⌜ (self .at + longestRecord ≤ lastPlace) × (self .at ≤ length (bits (now s))) ⌝ }
         ensures { λ r. ⌜ Stepped (bits (now (s .entry))) (self .at) r ⌝ }
     {
-        let Taking::Got(kind, first) = self.take(s, 5) else {
+        let Taking::Got(kind, first) = self.take(s, KIND_WIDTH) else {
             return Step::Refused(CUT_SHORT);
         };
         if KINDS <= kind {
@@ -67,7 +70,7 @@ fn scan_rows(s: &[u8], count: u32) -> Scan
     requires { ⌜ (count ≤ maxFlows) × (countWidth ≤ length (bits (now s))) ⌝ }
     ensures { λ r. ⌜ Scanned (bits (now (s .entry))) count r ⌝ }
 {
-    let mut cursor = Cursor { at: 8 };
+    let mut cursor = Cursor { at: FIRST_ROW };
     let mut row: u32 = 0;
     while row < count {
         let step = cursor.row(s);
@@ -107,7 +110,7 @@ fn ends(s: &[u8], at: usize) -> bool
 pub(crate) fn inspect(s: &[u8]) -> Reading
     ensures { λ r. ⌜ answer length (unpacked (now (s .entry))) ≡ parts r ⌝ }
 {
-    let Taking::Got(count, _) = first_field(s, 8) else {
+    let Taking::Got(count, _) = first_field(s, COUNT_WIDTH) else {
         return Reading::Refused {
             number: CUT_SHORT,
             row: 0,
@@ -153,7 +156,7 @@ pub(crate) fn store_rows(s: &[u8], count: u32, words: &mut [u32])
     requires { ⌜ (count ≤ maxFlows) × (rowSize * count ≤ length (now words)) × AllTaken (bits (now s)) count ⌝ }
     ensures { λ u. ⌜ now (words .exit) ≡ leaves joined (takeRows count count 0 (drop countWidth (bits (now (s .entry))))) (now (words .entry)) ⌝ }
 {
-    let mut cursor = Cursor { at: 8 };
+    let mut cursor = Cursor { at: FIRST_ROW };
     let mut row: u32 = 0;
     while row < count {
         let Step::Row(r, next) = cursor.row(s) else {

@@ -7,7 +7,7 @@ use Rattle.table.specs.declared.Taking.the-variants.{Got}
 use Rattle.table.specs.Rows.{width, kindAt}
 use Rattle.table.specs.Bits.{bits}
 use Rattle.table.specs.Packed.{kindWidth}
-use Rattle.table.specs.Places.{takeAt, lastPlace, longestRecord}
+use Rattle.table.specs.Places.{takeAt, lastPlace, longestRecord, takingParts}
 use Rattle.table.proofs.RowLaws.{no-kind, bad-kind, no-one, no-two, no-three, found}
 use borrow.Author.Needs.{needs}
 use Rattle.table.proofs.Cursor.row.Statement.{statement}
@@ -30,7 +30,7 @@ returns c =
     let at = a .self .at in
     let room : at + longestRecord ≤ lastPlace = p .0 in
     let inside : at ≤ length bs = p .1 in
-    no-kind bs at room inside (sym (c .before .before .take .ensures) ∙ c .enum-told .given .1)
+    no-kind bs at room inside (sym (c .before .before .take .ensures) ∙ ap takingParts (c .enum-told .given .1))
 
 returns-2 : tie.Need-returns-2
 returns-2 c =
@@ -43,7 +43,7 @@ returns-2 c =
     let g0 = c .before .before .kind .given in
     let k = g0 .0 .0 in
     let p0 = g0 .0 .1 .0 in
-    let e0 : takeAt bs at kindWidth ≡ Got k p0 = sym (c .before .before .before .before .take .ensures) ∙ g0 .1 in
+    let e0 : takeAt bs at kindWidth ≡ takingParts (Got k p0) = sym (c .before .before .before .before .take .ensures) ∙ ap takingParts (g0 .1) in
     bad-kind bs at room inside k p0 e0 (c .if1 .taken)
 
 width-of-requires : tie.Need-width-of-requires
@@ -69,8 +69,8 @@ returns-3 c =
     let g0 = c .before .before .before .before .before .before .kind .given in
     let k = g0 .0 .0 in
     let p0 = g0 .0 .1 .0 in
-    let e0 : takeAt bs at kindWidth ≡ Got k p0 = sym (c .before .before .before .before .before .before .before .before .take .ensures) ∙ g0 .1 in
-    no-one bs at room inside k p0 e0 (c .before .before .before .before .if1 .left) (ap (takeAt bs (p0 .at)) (sym (c .before .before .before .width-of .ensures .1)) ∙ sym (c .before .before .take2 .ensures) ∙ c .enum-told2 .given .1)
+    let e0 : takeAt bs at kindWidth ≡ takingParts (Got k p0) = sym (c .before .before .before .before .before .before .before .before .take .ensures) ∙ ap takingParts (g0 .1) in
+    no-one bs at room inside k p0 e0 (c .before .before .before .before .if1 .left) (ap (takeAt bs (p0 .at)) (sym (c .before .before .before .width-of .ensures .1)) ∙ sym (c .before .before .take2 .ensures) ∙ ap takingParts (c .enum-told2 .given .1))
 
 width-of-requires-2 : tie.Need-width-of-requires-2
 width-of-requires-2 c κs = search needs
@@ -95,12 +95,12 @@ returns-4 c =
     let g0 = c .before .before .before .before .before .before .before .before .before .before .before .kind .given in
     let k = g0 .0 .0 in
     let p0 = g0 .0 .1 .0 in
-    let e0 : takeAt bs at kindWidth ≡ Got k p0 = sym (c .before .before .before .before .before .before .before .before .before .before .before .before .before .take .ensures) ∙ g0 .1 in
+    let e0 : takeAt bs at kindWidth ≡ takingParts (Got k p0) = sym (c .before .before .before .before .before .before .before .before .before .before .before .before .before .take .ensures) ∙ ap takingParts (g0 .1) in
     let g1 = c .before .before .before .before .before .one .given in
-    let e1 : takeAt bs (p0 .at) (width (kindAt k .one)) ≡ Got (g1 .0 .0) (g1 .0 .1 .0) =
-    ap (takeAt bs (p0 .at)) (sym (c .before .before .before .before .before .before .before .before .width-of .ensures .1)) ∙ sym (c .before .before .before .before .before .before .before .take2 .ensures) ∙ g1 .1 in
+    let e1 : takeAt bs (p0 .at) (width (kindAt k .one)) ≡ takingParts (Got (g1 .0 .0) (g1 .0 .1 .0)) =
+    ap (takeAt bs (p0 .at)) (sym (c .before .before .before .before .before .before .before .before .width-of .ensures .1)) ∙ sym (c .before .before .before .before .before .before .before .take2 .ensures) ∙ ap takingParts (g1 .1) in
     let p1 = g1 .0 .1 .0 in
-    no-two bs at room inside k p0 e0 (c .before .before .before .before .before .before .before .before .before .if1 .left) (g1 .0 .0) p1 e1 (ap (takeAt bs (p1 .at)) (sym (c .before .before .before .width-of2 .ensures .1)) ∙ sym (c .before .before .take3 .ensures) ∙ c .enum-told3 .given .1)
+    no-two bs at room inside k p0 e0 (c .before .before .before .before .before .before .before .before .before .if1 .left) (g1 .0 .0) p1 e1 (ap (takeAt bs (p1 .at)) (sym (c .before .before .before .width-of2 .ensures .1)) ∙ sym (c .before .before .take3 .ensures) ∙ ap takingParts (c .enum-told3 .given .1))
 
 width-of-requires-3 : tie.Need-width-of-requires-3
 width-of-requires-3 c κs = search needs
@@ -125,16 +125,16 @@ returns-5 c =
     let g0 = c .before .before .before .before .before .before .before .before .before .before .before .before .before .before .before .before .kind .given in
     let k = g0 .0 .0 in
     let p0 = g0 .0 .1 .0 in
-    let e0 : takeAt bs at kindWidth ≡ Got k p0 = sym (c .before .before .before .before .before .before .before .before .before .before .before .before .before .before .before .before .before .before .take .ensures) ∙ g0 .1 in
+    let e0 : takeAt bs at kindWidth ≡ takingParts (Got k p0) = sym (c .before .before .before .before .before .before .before .before .before .before .before .before .before .before .before .before .before .before .take .ensures) ∙ ap takingParts (g0 .1) in
     let g1 = c .before .before .before .before .before .before .before .before .before .before .one .given in
-    let e1 : takeAt bs (p0 .at) (width (kindAt k .one)) ≡ Got (g1 .0 .0) (g1 .0 .1 .0) =
-    ap (takeAt bs (p0 .at)) (sym (c .before .before .before .before .before .before .before .before .before .before .before .before .before .width-of .ensures .1)) ∙ sym (c .before .before .before .before .before .before .before .before .before .before .before .before .take2 .ensures) ∙ g1 .1 in
+    let e1 : takeAt bs (p0 .at) (width (kindAt k .one)) ≡ takingParts (Got (g1 .0 .0) (g1 .0 .1 .0)) =
+    ap (takeAt bs (p0 .at)) (sym (c .before .before .before .before .before .before .before .before .before .before .before .before .before .width-of .ensures .1)) ∙ sym (c .before .before .before .before .before .before .before .before .before .before .before .before .take2 .ensures) ∙ ap takingParts (g1 .1) in
     let p1 = g1 .0 .1 .0 in
     let g2 = c .before .before .before .before .before .two .given in
-    let e2 : takeAt bs (p1 .at) (width (kindAt k .two)) ≡ Got (g2 .0 .0) (g2 .0 .1 .0) =
-    ap (takeAt bs (p1 .at)) (sym (c .before .before .before .before .before .before .before .before .width-of2 .ensures .1)) ∙ sym (c .before .before .before .before .before .before .before .take3 .ensures) ∙ g2 .1 in
+    let e2 : takeAt bs (p1 .at) (width (kindAt k .two)) ≡ takingParts (Got (g2 .0 .0) (g2 .0 .1 .0)) =
+    ap (takeAt bs (p1 .at)) (sym (c .before .before .before .before .before .before .before .before .width-of2 .ensures .1)) ∙ sym (c .before .before .before .before .before .before .before .take3 .ensures) ∙ ap takingParts (g2 .1) in
     let p2 = g2 .0 .1 .0 in
-    no-three bs at room inside k p0 e0 (c .before .before .before .before .before .before .before .before .before .before .before .before .before .before .if1 .left) (g1 .0 .0) p1 e1 (g2 .0 .0) p2 e2 (ap (takeAt bs (p2 .at)) (sym (c .before .before .before .width-of3 .ensures .1)) ∙ sym (c .before .before .take4 .ensures) ∙ c .enum-told4 .given .1)
+    no-three bs at room inside k p0 e0 (c .before .before .before .before .before .before .before .before .before .before .before .before .before .before .if1 .left) (g1 .0 .0) p1 e1 (g2 .0 .0) p2 e2 (ap (takeAt bs (p2 .at)) (sym (c .before .before .before .width-of3 .ensures .1)) ∙ sym (c .before .before .take4 .ensures) ∙ ap takingParts (c .enum-told4 .given .1))
 
 returns-6 : tie.Need-returns-6
 returns-6 c =
@@ -147,18 +147,18 @@ returns-6 c =
     let g0 = c .before .before .before .before .before .before .before .before .before .before .before .before .before .before .before .before .before .kind .given in
     let k = g0 .0 .0 in
     let p0 = g0 .0 .1 .0 in
-    let e0 : takeAt bs at kindWidth ≡ Got k p0 = sym (c .before .before .before .before .before .before .before .before .before .before .before .before .before .before .before .before .before .before .before .take .ensures) ∙ g0 .1 in
+    let e0 : takeAt bs at kindWidth ≡ takingParts (Got k p0) = sym (c .before .before .before .before .before .before .before .before .before .before .before .before .before .before .before .before .before .before .before .take .ensures) ∙ ap takingParts (g0 .1) in
     let g1 = c .before .before .before .before .before .before .before .before .before .before .before .one .given in
-    let e1 : takeAt bs (p0 .at) (width (kindAt k .one)) ≡ Got (g1 .0 .0) (g1 .0 .1 .0) =
-    ap (takeAt bs (p0 .at)) (sym (c .before .before .before .before .before .before .before .before .before .before .before .before .before .before .width-of .ensures .1)) ∙ sym (c .before .before .before .before .before .before .before .before .before .before .before .before .before .take2 .ensures) ∙ g1 .1 in
+    let e1 : takeAt bs (p0 .at) (width (kindAt k .one)) ≡ takingParts (Got (g1 .0 .0) (g1 .0 .1 .0)) =
+    ap (takeAt bs (p0 .at)) (sym (c .before .before .before .before .before .before .before .before .before .before .before .before .before .before .width-of .ensures .1)) ∙ sym (c .before .before .before .before .before .before .before .before .before .before .before .before .before .take2 .ensures) ∙ ap takingParts (g1 .1) in
     let p1 = g1 .0 .1 .0 in
     let g2 = c .before .before .before .before .before .before .two .given in
-    let e2 : takeAt bs (p1 .at) (width (kindAt k .two)) ≡ Got (g2 .0 .0) (g2 .0 .1 .0) =
-    ap (takeAt bs (p1 .at)) (sym (c .before .before .before .before .before .before .before .before .before .width-of2 .ensures .1)) ∙ sym (c .before .before .before .before .before .before .before .before .take3 .ensures) ∙ g2 .1 in
+    let e2 : takeAt bs (p1 .at) (width (kindAt k .two)) ≡ takingParts (Got (g2 .0 .0) (g2 .0 .1 .0)) =
+    ap (takeAt bs (p1 .at)) (sym (c .before .before .before .before .before .before .before .before .before .width-of2 .ensures .1)) ∙ sym (c .before .before .before .before .before .before .before .before .take3 .ensures) ∙ ap takingParts (g2 .1) in
     let p2 = g2 .0 .1 .0 in
     let g3 = c .before .three .given in
-    let e3 : takeAt bs (p2 .at) (width (kindAt k .three)) ≡ Got (g3 .0 .0) (g3 .0 .1 .0) =
-    ap (takeAt bs (p2 .at)) (sym (c .before .before .before .before .width-of3 .ensures .1)) ∙ sym (c .before .before .before .take4 .ensures) ∙ g3 .1 in
+    let e3 : takeAt bs (p2 .at) (width (kindAt k .three)) ≡ takingParts (Got (g3 .0 .0) (g3 .0 .1 .0)) =
+    ap (takeAt bs (p2 .at)) (sym (c .before .before .before .before .width-of3 .ensures .1)) ∙ sym (c .before .before .before .take4 .ensures) ∙ ap takingParts (g3 .1) in
     let p3 = g3 .0 .1 .0 in
     found bs at room inside k p0 e0 (c .before .before .before .before .before .before .before .before .before .before .before .before .before .before .before .if1 .left) (g1 .0 .0) p1 e1 (g2 .0 .0) p2 e2 (g3 .0 .0) p3 e3
 

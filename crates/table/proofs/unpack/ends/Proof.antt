@@ -3,6 +3,7 @@ use native.Mathlib.Omega.{arith}
 use mathlib.Core.Path.{sym, ap, _∙_}
 use Prim.Native.Nat.{_-_}
 use denote.Ref.{now}
+use Rattle.table.specs.Places.{takingParts}
 use Rattle.table.proofs.ReadLaws.{not-ended, fill-there, ended}
 use borrow.Author.Needs.{needs}
 use Rattle.table.proofs.unpack.ends.Statement.{statement}
@@ -38,14 +39,14 @@ returns-2 : tie.Need-returns-2
 returns-2 c =
     let a = c .before .before .before .before .before .before .before .args in
     let p = c .before .before .before .before .before .before .before .pre in
-    absurd (fill-there (now (a .s)) (a .at) (c .before .before .before .up .result - a .at) (p .0) (p .1) (rw (c .before .before .before .before .before .byte-count .ensures) at (c .before .before .before .before .if1 .left)) (ap (λ n. n - a .at) (c .before .before .before .up .ensures)) (sym (c .before .before .take .ensures) ∙ c .enum-told .given .1))
+    absurd (fill-there (now (a .s)) (a .at) (c .before .before .before .up .result - a .at) (p .0) (p .1) (rw (c .before .before .before .before .before .byte-count .ensures) at (c .before .before .before .before .if1 .left)) (ap (λ n. n - a .at) (c .before .before .before .up .ensures)) (sym (c .before .before .take .ensures) ∙ ap takingParts (c .enum-told .given .1)))
 
 returns-3 : tie.Need-returns-3
 returns-3 c =
     let a = c .before .before .before .before .before .before .before .before .args in
     let p = c .before .before .before .before .before .before .before .before .pre in
     let g = c .before .fill .given in
-    ended (now (a .s)) (a .at) (c .before .before .before .before .up .result - a .at) (p .0) (p .1) (rw (c .before .before .before .before .before .before .byte-count .ensures) at (c .before .before .before .before .before .if1 .left)) (ap (λ n. n - a .at) (c .before .before .before .before .up .ensures)) (g .0 .0) (g .0 .1 .0) (sym (c .before .before .before .take .ensures) ∙ g .1)
+    ended (now (a .s)) (a .at) (c .before .before .before .before .up .result - a .at) (p .0) (p .1) (rw (c .before .before .before .before .before .before .byte-count .ensures) at (c .before .before .before .before .before .if1 .left)) (ap (λ n. n - a .at) (c .before .before .before .before .up .ensures)) (g .0 .0) (g .0 .1 .0) (sym (c .before .before .before .take .ensures) ∙ ap takingParts (g .1))
 
 pub ends-spec : {M : Type 1} → statement M
 ends-spec =

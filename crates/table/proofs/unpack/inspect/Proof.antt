@@ -8,7 +8,7 @@ use Rattle.table.specs.Answers.{unless, good, answer, badFilling}
 use Rattle.table.specs.Rows.{Words, maxFlows}
 use Rattle.table.specs.Bits.{bits}
 use Rattle.table.specs.Packed.{takeRows, countWidth}
-use Rattle.table.specs.Places.{takeAt}
+use Rattle.table.specs.Places.{takeAt, takingParts}
 use Rattle.table.specs.Private.Steps.{Scanned, Ended}
 use Rattle.table.proofs.Tests.{and-right}
 use Rattle.table.proofs.ReadLaws.{no-count, count-there, bad-count, counted}
@@ -30,7 +30,7 @@ returns : tie.Need-returns
 returns c =
     let a = c .before .before .before .before .args in
     let s = now (a .s) in
-    no-count s (sym (c .before .before .first-field .ensures) ∙ c .enum-told .given .1)
+    no-count s (sym (c .before .before .first-field .ensures) ∙ ap takingParts (c .enum-told .given .1))
 
 count-fits-requires : tie.Need-count-fits-requires
 count-fits-requires c κs = search needs
@@ -41,7 +41,7 @@ returns-2 c =
     let s = now (a .s) in
     let g = c .before .before .before .count .given in
     let m = g .0 .0 in
-    let e : takeAt (bits s) 0 countWidth ≡ Got m (g .0 .1 .0) = sym (c .before .before .before .before .before .first-field .ensures) ∙ g .1 in
+    let e : takeAt (bits s) 0 countWidth ≡ takingParts (Got m (g .0 .1 .0)) = sym (c .before .before .before .before .before .first-field .ensures) ∙ ap takingParts (g .1) in
     bad-count s m (g .0 .1 .0) e (sym (c .before .count-fits .ensures) ∙ not-true (c .before .count-fits .result) (c .if1 .taken))
 
 scan-rows-requires : tie.Need-scan-rows-requires
@@ -50,7 +50,7 @@ scan-rows-requires c κs =
     let s = now (a .s) in
     let g = c .before .before .before .count .given in
     let m = g .0 .0 in
-    let e : takeAt (bits s) 0 countWidth ≡ Got m (g .0 .1 .0) = sym (c .before .before .before .before .before .first-field .ensures) ∙ g .1 in
+    let e : takeAt (bits s) 0 countWidth ≡ takingParts (Got m (g .0 .1 .0)) = sym (c .before .before .before .before .before .first-field .ensures) ∙ ap takingParts (g .1) in
     (leb-true m maxFlows (and-right (leb 1 m) _ (sym (c .before .count-fits .ensures) ∙ not-false (c .before .count-fits .result) (c .if1 .left))), count-there s m (g .0 .1 .0) e)
 
 enum-known-scan : tie.Need-enum-known-scan
@@ -72,7 +72,7 @@ returns-3 c =
     let s = now (a .s) in
     let g = c .before .before .before .before .before .before .before .count .given in
     let m = g .0 .0 in
-    let e : takeAt (bits s) 0 countWidth ≡ Got m (g .0 .1 .0) = sym (c .before .before .before .before .before .before .before .before .before .first-field .ensures) ∙ g .1 in
+    let e : takeAt (bits s) 0 countWidth ≡ takingParts (Got m (g .0 .1 .0)) = sym (c .before .before .before .before .before .before .before .before .before .first-field .ensures) ∙ ap takingParts (g .1) in
     counted s m (g .0 .1 .0) e (sym (c .before .before .before .before .before .count-fits .ensures) ∙ not-false (c .before .before .before .before .before .count-fits .result) (c .before .before .before .before .if1 .left))
     ∙ subst (Scanned (bits s) m) (c .before .scan .given .1) (c .before .before .before .scan-rows .ensures)
 
@@ -83,7 +83,7 @@ returns-4 c =
     let s = now (a .s) in
     let g = c .before .before .before .before .before .before .before .before .before .count .given in
     let m = g .0 .0 in
-    let e : takeAt (bits s) 0 countWidth ≡ Got m (g .0 .1 .0) = sym (c .before .before .before .before .before .before .before .before .before .before .before .first-field .ensures) ∙ g .1 in
+    let e : takeAt (bits s) 0 countWidth ≡ takingParts (Got m (g .0 .1 .0)) = sym (c .before .before .before .before .before .before .before .before .before .before .before .first-field .ensures) ∙ ap takingParts (g .1) in
     let d : Ended (bits s) m (c .before .before .before .scan2 .given .0 .0) = subst (Scanned (bits s) m) (c .before .before .before .scan2 .given .1) (c .before .before .before .before .before .scan-rows .ensures) in
     counted s m (g .0 .1 .0) e (sym (c .before .before .before .before .before .before .before .count-fits .ensures) ∙ not-false (c .before .before .before .before .before .before .before .count-fits .result) (c .before .before .before .before .before .before .if1 .left))
     ∙ sym (d .left) ∙ ap (λ b. answer (λ (ws : List Words). m) (unless b badFilling 0 (good []))) (sym (c .before .ends .ensures) ∙ c .if2 .taken)
@@ -95,7 +95,7 @@ returns-5 c =
     let s = now (a .s) in
     let g = c .before .before .before .before .before .before .before .before .before .count .given in
     let m = g .0 .0 in
-    let e : takeAt (bits s) 0 countWidth ≡ Got m (g .0 .1 .0) = sym (c .before .before .before .before .before .before .before .before .before .before .before .first-field .ensures) ∙ g .1 in
+    let e : takeAt (bits s) 0 countWidth ≡ takingParts (Got m (g .0 .1 .0)) = sym (c .before .before .before .before .before .before .before .before .before .before .before .first-field .ensures) ∙ ap takingParts (g .1) in
     let d : Ended (bits s) m (c .before .before .before .scan2 .given .0 .0) = subst (Scanned (bits s) m) (c .before .before .before .scan2 .given .1) (c .before .before .before .before .before .scan-rows .ensures) in
     counted s m (g .0 .1 .0) e (sym (c .before .before .before .before .before .before .before .count-fits .ensures) ∙ not-false (c .before .before .before .before .before .before .before .count-fits .result) (c .before .before .before .before .before .before .if1 .left))
     ∙ sym (d .left) ∙ ap (λ b. answer (λ (ws : List Words). m) (unless b badFilling 0 (good []))) (sym (c .before .ends .ensures) ∙ c .if2 .left)
