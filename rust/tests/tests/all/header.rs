@@ -30,13 +30,13 @@ fn constants_agree() {
 /// The example, compiled and linked as its comment says, prints exactly the paper's lines.
 #[test]
 fn the_example_lists_the_paper_plan() {
-    let library = env::var_os("BAARQIDHO_LIB_DIR").map_or_else(|| root().join("target/staticlib"), PathBuf::from);
+    let library = env::var_os("BAARQIDHO_LIB_DIR").map_or_else(|| root().join("target/lib"), PathBuf::from);
     let program = Path::new(env!("CARGO_TARGET_TMPDIR")).join("example");
     let compiled = Command::new("cc")
         .args(["-std=c99", "-Wall", "-Wextra", "-pedantic", "-Werror", "-I"])
         .arg(root().join("include"))
         .arg(root().join("include/example.c"))
-        .arg(library.join("libexports.a"))
+        .arg(library.join("libbaarqidho.a"))
         .arg("-o")
         .arg(&program)
         .output()
