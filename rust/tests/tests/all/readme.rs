@@ -86,5 +86,6 @@ fn mistake_of_the_example() {
     let commands: Vec<Vec<u8>> = blocks().iter().filter_map(|block| listed(&block.1)).collect();
     assert_eq!(mistaken.to_packed().expect("a table"), commands[2]);
     assert_eq!(mistaken.clocks(), Err(Refusal::ClocksDiffer { flow: 4 }));
-    assert_eq!(mistaken.run(&log, 9), Err(Refusal::Clash { tick: 2, flow: 4 }));
+    let clash = mistaken.run(&log, 9).expect_err("a clash");
+    assert_eq!(clash.refusal(), Refusal::Clash { tick: 2, flow: 4 });
 }
