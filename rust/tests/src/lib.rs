@@ -1,6 +1,6 @@
 //! Random plans, faults planted in them, and comparisons of the implementations cell by cell.
 //!
-//! Seeds are fixed. BAARQIDHO_ROUNDS multiplies the number of plans of each test.
+//! BAARQIDHO_SEED is the seed of all generators, and BAARQIDHO_ROUNDS multiplies the number of plans of each test.
 
 pub mod compare;
 pub mod faults;
