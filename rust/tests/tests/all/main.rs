@@ -1,5 +1,6 @@
 //! The proved library, the paper word by word and the quick implementation against each other.
 
+mod bridge;
 mod clashes;
 mod demand;
 mod extremes;

@@ -1,13 +1,11 @@
 //! The README's commands and its worked example: what it shows is what the library does.
 
-use std::path::Path;
-
 use baarqidho::{list, Plan, Refusal};
+use tests::root;
 
 /// The README's blocks between fences, in order, each with its language.
 fn blocks() -> Vec<(String, String)> {
-    let path = Path::new(env!("CARGO_MANIFEST_DIR")).join("../../README.md");
-    let text = std::fs::read_to_string(path).expect("the README is there");
+    let text = std::fs::read_to_string(root().join("README.md")).expect("the README is there");
     let mut parts = text.split("```");
     let mut blocks = Vec::new();
     while let (Some(_), Some(block)) = (parts.next(), parts.next()) {
