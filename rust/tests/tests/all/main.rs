@@ -10,6 +10,7 @@ mod long;
 mod mirror;
 mod packed;
 mod paper;
+mod program;
 mod readme;
 mod short;
 mod summary;
