@@ -14,4 +14,5 @@ mod program;
 mod readme;
 mod short;
 mod summary;
+mod traces;
 mod wrapper;
