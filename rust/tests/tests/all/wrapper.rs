@@ -93,10 +93,10 @@ fn traces() {
     assert_eq!(trace.ticks(), 10);
     assert_eq!((trace.value(4, 2), trace.value(4, 3), trace.value(4, 4)), (Some(104), None, Some(104)));
     assert_eq!((trace.value(8, 2), trace.value(8, 3), trace.value(8, 4)), (None, Some(108), Some(108)));
-    assert_eq!((trace.value(5, 0), trace.value(4, 5), trace.value(10, 0)), (None, None, None));
+    assert_eq!((trace.value(5, 0), trace.value(3, 5), trace.value(10, 0)), (None, None, None));
     assert_eq!((trace.marks().len(), trace.values().len()), (50, 50));
     assert_eq!((trace.flows(), trace.cells()), (5, 50));
-    assert!(trace.has(9, 4) && !trace.has(9, 5) && !trace.has(10, 0) && !trace.has(usize::MAX, 0));
+    assert!(trace.has(9, 4) && !trace.has(8, 5) && !trace.has(10, 0) && !trace.has(usize::MAX, 0));
     assert_eq!(plan.run(&log, 9), Err(Refusal::BadLogLength.into()));
     assert_eq!(plan.run(&log, 65_536), Err(Refusal::TooManyTicks.into()));
     assert_eq!(Plan::new([0; 4 * 65]).run(&log, 10), Err(Refusal::BadCount.into()));
