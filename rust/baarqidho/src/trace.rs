@@ -135,6 +135,7 @@ impl Display for RunError {
 
 impl Error for RunError {}
 
+/// The refusal as it is: a clash of the call over slices, which comes without its trace, stays a refusal.
 impl From<Refusal> for RunError {
     fn from(refusal: Refusal) -> Self {
         RunError::Refused(refusal)

@@ -135,7 +135,8 @@ static void all_of_write(void)
 static void checks(const char *name, const uint32_t *of, size_t words_len, size_t clocks_len)
 {
     begin(name);
-    number = baarqidho_check((uint32_t)(words_len / BAARQIDHO_ROW_WORDS), of, words_len, words, clocks_len, &flow, &tick, &count);
+    number = baarqidho_check((uint32_t)(words_len / BAARQIDHO_ROW_WORDS), of, words_len, words, clocks_len,
+                             &flow, &tick, &count);
 }
 
 /* Inputs (10, 0) and (20, 0), and their sum. */
@@ -145,7 +146,8 @@ static void all_of_check(void)
 {
     /* Inputs (4, 1), (4, 1), when, when-not, and the tail of a sampled flow. */
     static const uint32_t sampled[] = {0, 4, 1, 0, 0, 4, 1, 0, 13, 0, 1, 0, 14, 2, 2, 0, 12, 2, 0, 0};
-    static const uint32_t clocks[] = {4, 1, 0, 0, 0, 0, 0, 4, 1, 0, 0, 0, 0, 0, 4, 1, 1, 3, 0, 0, 0, 4, 1, 2, 3, 4, 0, 0};
+    static const uint32_t clocks[] = {4, 1, 0, 0, 0, 0, 0, 4, 1, 0, 0, 0, 0, 0,
+                                      4, 1, 1, 3, 0, 0, 0, 4, 1, 2, 3, 4, 0, 0};
     static const uint32_t beyond[] = {0, 1, 0, 0, 0, 66, 0, 0, 0, 1, 0, 0, 9, 1, 63, 0};
 
     checks("check", sampled, 4 * BAARQIDHO_ROW_WORDS, 4 * BAARQIDHO_CLOCK_WORDS);
@@ -186,7 +188,8 @@ static void all_of_run(void)
     wrote(marks, 32, values, 32);
     runs("run, all ticks", constant, LENGTH(constant), log, 0, BAARQIDHO_MAX_TICKS, LENGTH(bytes), LENGTH(words));
     answers(BAARQIDHO_OK, 0, 0, BAARQIDHO_MAX_TICKS);
-    runs("run, too many ticks", constant, LENGTH(constant), log, 0, BAARQIDHO_MAX_TICKS + 1, LENGTH(bytes), LENGTH(words));
+    runs("run, too many ticks", constant, LENGTH(constant), log, 0, BAARQIDHO_MAX_TICKS + 1, LENGTH(bytes),
+         LENGTH(words));
     refuses(BAARQIDHO_TOO_MANY_TICKS, 0);
     runs("run, log too long", differing, LENGTH(differing), log, 21, 10, 31, 32);
     refuses(BAARQIDHO_BAD_LOG_LENGTH, 0);

@@ -27,7 +27,8 @@ fn seed() -> u64 {
 pub struct Rng(u64);
 
 impl Rng {
-    /// The generator of a test, which has a number of its own, under the seed of this run. A test that fails shows both.
+    /// The generator of a test, which has a number of its own, under the seed of this run. A test that fails shows
+    /// both.
     pub fn new(test: u64) -> Self {
         let seed = seed();
         println!("BAARQIDHO_SEED={seed}, generator {test}");

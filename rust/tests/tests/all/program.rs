@@ -35,7 +35,8 @@ fn program() -> PathBuf {
 
 /// Starts a command whose output is kept.
 fn started(command: &mut Command, input: Stdio) -> Child {
-    command.stdin(input).stdout(Stdio::piped()).stderr(Stdio::piped()).spawn().expect("the command starts")
+    let child = command.stdin(input).stdout(Stdio::piped()).stderr(Stdio::piped()).spawn();
+    child.unwrap_or_else(|error| panic!("{command:?} does not start: {error}"))
 }
 
 /// What a command writes to standard output and standard error until it ends, which it does within the limit.
@@ -113,9 +114,8 @@ fn fails((listed, complaint): (String, String)) {
 #[test]
 fn reads_that_always_fail() {
     fails(with_input(File::open(root()).expect("a directory")));
-    let closed =
-        written(started(Command::new("sh").args(["-c", "exec \"$LIST\" <&-"]).env("LIST", program()), Stdio::null()));
-    fails(closed);
+    let mut closed = Command::new("sh");
+    fails(written(started(closed.args(["-c", "exec \"$LIST\" <&-"]).env("LIST", program()), Stdio::null())));
     let (_ours, theirs) = UnixStream::pair().expect("a pair of sockets");
     theirs.set_nonblocking(true).expect("a socket that does not wait");
     fails(with_input(OwnedFd::from(theirs)));
