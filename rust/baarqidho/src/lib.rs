@@ -61,8 +61,8 @@ pub const CLOCK_WORDS: usize = 3 + MAX_CONDITIONS;
 /// The most ticks of a run.
 pub const MAX_TICKS: u32 = 65_535;
 
-/// The bytes of the longest packed table: a count, and 64 rows of 61 bits.
-pub const PACKED_MAX: usize = 489;
+/// The bytes of the longest packed table: a count, and [`MAX_FLOWS`] rows of 61 bits.
+pub const PACKED_MAX: usize = 1 + (MAX_FLOWS * 61).div_ceil(8);
 
 /// The repository's README, whose example is a test.
 #[cfg(doctest)]
