@@ -1,7 +1,8 @@
 /*
  * Lists the plan `02 00 05 00 02 40 08`: input (10, 0), and every second of its values.
  *
- *   cc -std=c99 -Iinclude include/example.c target/staticlib/libexports.a -o example && ./example
+ *   make library
+ *   cc -std=c99 -Iinclude include/example.c -Ltarget/lib -lbaarqidho -o target/example && target/example
  */
 #include <stdio.h>
 

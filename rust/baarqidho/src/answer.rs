@@ -18,14 +18,18 @@ pub struct Answer {
 }
 
 impl Answer {
-    /// The count of a success, or the refusal.
+    /// The count of a success.
+    ///
+    /// # Errors
+    ///
+    /// The refusal, if the number is not 0.
     ///
     /// ```
-    /// use baarqidho::{check, Refusal};
+    /// use baarqidho::{check, Refusal, CLOCK_WORDS};
     ///
     /// // Inputs (10, 0) and (20, 0), and their sum: the clocks differ.
     /// let words = [0, 10, 0, 0, 0, 20, 0, 0, 2, 0, 1, 0];
-    /// let refusal = check(3, &words, &mut [0; 21]).result().unwrap_err();
+    /// let refusal = check(3, &words, &mut [0; 3 * CLOCK_WORDS]).result().unwrap_err();
     /// assert_eq!(refusal, Refusal::ClocksDiffer { flow: 2 });
     /// assert_eq!(refusal.to_string(), "flow 2: the clocks are not as the rules need (21)");
     /// ```
@@ -58,7 +62,8 @@ impl Answer {
 pub enum Refusal {
     /// 10: the output has fewer cells than needed.
     OutputTooShort,
-    /// 11: the count is not 1 to 64, or the plain words are not four a flow.
+    /// 11: the count is not 1 to [`MAX_FLOWS`](crate::MAX_FLOWS), or the plain words are not
+    /// [`ROW_WORDS`](crate::ROW_WORDS) a flow.
     BadCount,
     /// 12: the packed bits end too early.
     EndsTooEarly {
@@ -87,7 +92,7 @@ pub enum Refusal {
         /// The flow whose rule is broken.
         flow: u32,
     },
-    /// 22: a derived period or phase above 4095, or a fifth condition.
+    /// 22: a derived period or phase above 4095, or more than [`MAX_CONDITIONS`](crate::MAX_CONDITIONS) conditions.
     BeyondLimits {
         /// The flow that would have that clock.
         flow: u32,
@@ -97,7 +102,7 @@ pub enum Refusal {
         /// The flow of that kind.
         flow: u32,
     },
-    /// 31: more than 65,535 ticks.
+    /// 31: more than [`MAX_TICKS`](crate::MAX_TICKS) ticks.
     TooManyTicks,
     /// 32: the log has not one word per tick and input.
     BadLogLength,

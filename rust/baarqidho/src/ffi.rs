@@ -70,10 +70,10 @@ fn answer(call: impl FnOnce(*mut u32, *mut u32, *mut u32) -> u32) -> Answer {
     Answer { number, flow, tick, count }
 }
 
-/// Reads a packed table into plain words, four a flow.
+/// Reads a packed table into plain words, [`ROW_WORDS`](crate::ROW_WORDS) a flow.
 ///
-/// Success gives the count of flows and writes exactly `4 * count` words. Refusals, none of which touches `words`:
-/// 11, 12, 13, 14, 15, 16, and 10 where `words` is too short.
+/// Success gives the count of flows and writes exactly their words. Refusals, none of which touches `words`: 11, 12,
+/// 13, 14, 15, 16, and 10 where `words` is too short.
 ///
 /// ```
 /// let mut words = [7; 9];
@@ -92,6 +92,13 @@ pub fn read(packed: &[u8], words: &mut [u32]) -> Answer {
 ///
 /// Success gives the count of bytes and writes exactly those. Refusals, none of which touches `packed`: 11, 13, 14,
 /// 15, and 10 where `packed` is too short. [`PACKED_MAX`](crate::PACKED_MAX) bytes are enough for every table.
+///
+/// ```
+/// let mut packed = [7; 8];
+/// let answer = baarqidho::write(2, &[0, 10, 0, 0, 9, 0, 2, 0], &mut packed);
+/// assert_eq!((answer.number, answer.count), (0, 7));
+/// assert_eq!(packed, [0x02, 0x00, 0x05, 0x00, 0x02, 0x40, 0x08, 7]);
+/// ```
 pub fn write(plan_count: u32, words: &[u32], packed: &mut [u8]) -> Answer {
     answer(|flow, tick, count| {
         // SAFETY: pointers and lengths are those of live slices, `packed` lent to this call alone.
@@ -110,11 +117,18 @@ pub fn write(plan_count: u32, words: &[u32], packed: &mut [u8]) -> Answer {
     })
 }
 
-/// Gives each flow of a plain table its clock, in seven words: period, phase, how many conditions, and four words
-/// `2 * flow + 1` for true or `2 * flow` for false, unused ones 0.
+/// Gives each flow of a plain table its clock, in [`CLOCK_WORDS`](crate::CLOCK_WORDS) words: period, phase, how many
+/// conditions, and for each of these `2 * flow + 1` for true or `2 * flow` for false, unused words 0.
 ///
-/// Success gives the count of flows and writes exactly `7 * count` words. Refusals, none of which touches `clocks`:
-/// 11, 13, 14, 15, 10 where `clocks` is too short, 23, 21 and 22.
+/// Success gives the count of flows and writes exactly their words. Refusals, none of which touches `clocks`: 11, 13,
+/// 14, 15, 10 where `clocks` is too short, 23, 21 and 22.
+///
+/// ```
+/// let mut clocks = [9; 15];
+/// let answer = baarqidho::check(2, &[0, 4, 0, 0, 13, 0, 0, 0], &mut clocks);
+/// assert_eq!((answer.number, answer.count), (0, 2));
+/// assert_eq!(clocks, [4, 0, 0, 0, 0, 0, 0, 4, 0, 1, 1, 0, 0, 0, 9]);
+/// ```
 pub fn check(plan_count: u32, words: &[u32], clocks: &mut [u32]) -> Answer {
     answer(|flow, tick, count| {
         // SAFETY: pointers and lengths are those of live slices, `clocks` lent to this call alone.
@@ -139,6 +153,15 @@ pub fn check(plan_count: u32, words: &[u32], clocks: &mut [u32]) -> Answer {
 /// Success gives the count of ticks and writes exactly `ticks * plan_count` cells. Refusals that touch nothing: 11,
 /// 13, 14, 15, 31, 32 and 33. A clash, 34, names tick and flow: the cells worked out before it are written, all
 /// later ones are left as they were.
+///
+/// ```
+/// // An input every second tick, and a register that keeps its values.
+/// let (mut marks, mut values) = ([9; 7], [9; 7]);
+/// let answer = baarqidho::run(2, &[0, 2, 0, 0, 7, 5, 0, 0], &[10, 11, 12], 3, &mut marks, &mut values);
+/// assert_eq!((answer.number, answer.count), (0, 3));
+/// assert_eq!(marks, [1, 1, 0, 0, 1, 1, 9]);
+/// assert_eq!(values, [10, 5, 0, 0, 12, 10, 9]);
+/// ```
 pub fn run(plan_count: u32, words: &[u32], log: &[u32], ticks: u32, marks: &mut [u8], values: &mut [u32]) -> Answer {
     answer(|flow, tick, count| {
         // SAFETY: pointers and lengths are those of live slices, `marks` and `values` lent to this call alone.
@@ -164,7 +187,15 @@ pub fn run(plan_count: u32, words: &[u32], log: &[u32], ticks: u32, marks: &mut 
 
 /// Lists a packed table as text: its clocks, or the one line `no NUMBER FLOW` of its refusal.
 ///
-/// The count is the length of the text, and exactly those bytes are written. A text buffer below [`LISTING_MAX`](crate::LISTING_MAX) bytes is answered by 10 and left as it was.
+/// The count is the length of the text, and exactly those bytes are written. A text buffer below
+/// [`LISTING_MAX`](crate::LISTING_MAX) bytes is answered by 10 and left as it was.
+///
+/// ```
+/// let mut text = [0; baarqidho::LISTING_MAX];
+/// let answer = baarqidho::listing(&[0x01, 0x00, 0x05, 0x00, 0x00], &mut text);
+/// assert_eq!((answer.number, answer.count), (0, 14));
+/// assert_eq!(&text[..14], b"ok 1\n0 10 0 -\n");
+/// ```
 pub fn listing(packed: &[u8], text: &mut [u8]) -> Answer {
     answer(|flow, tick, count| {
         // SAFETY: pointers and lengths are those of live slices, `text` lent to this call alone.

@@ -1,24 +1,25 @@
 //! Bench plans: the proved library from Rust.
 //!
-//! A plan is a table of 1 to 64 flows, each defined by one row of four words. The library reads and writes the
-//! packed form of a table, gives each flow its clock (the check), replays an input log into a trace (the run), and
-//! lists the clocks as text.
+//! A plan is a table of 1 to 64 flows, each defined by one row. The library reads and writes the packed form of a
+//! table, gives each flow its clock (the check), replays an input log into a trace (the run), and lists the clocks as
+//! text.
 //!
-//! There are two layers. [`read()`], [`write()`], [`check()`], [`run()`] and [`listing()`] are the library's calls over slices
-//! that the caller lends; each takes any arguments and returns an [`Answer`]. [`Plan`] owns its words and returns
-//! [`Refusal`]s as errors.
+//! There are two layers. [`read()`], [`write()`], [`check()`], [`run()`] and [`listing()`] are the library's calls over
+//! slices that the caller lends; each takes any arguments and returns an [`Answer`]. [`Plan`] owns its words, is made
+//! of [`Row`]s, words or packed bytes, and returns [`Refusal`]s as errors; that of a run is a [`RunError`], which has
+//! the trace up to a clash.
 //!
 //! ```
-//! use baarqidho::{Clock, Plan, Refusal};
+//! use baarqidho::{Plan, Row, RunError};
 //!
-//! // Input (10, 0), and every second of its values.
+//! // Every tenth tick an input, and every second of its values.
+//! let plan = Plan::from_rows([Row::Input { period: 10, phase: 0 }, Row::Slower { a: 0, k: 2 }]);
 //! let packed = [0x02, 0x00, 0x05, 0x00, 0x02, 0x40, 0x08];
-//! let plan = Plan::from_packed(&packed)?;
-//! assert_eq!(plan.words(), [0, 10, 0, 0, 9, 0, 2, 0]);
 //! assert_eq!(plan.to_packed()?, packed);
+//! assert_eq!(Plan::from_packed(&packed)?, plan);
 //!
 //! let clocks = plan.clocks()?;
-//! assert_eq!(clocks[1], Clock { period: 20, phase: 0, conditions: vec![] });
+//! assert_eq!((clocks[1].period, clocks[1].phase), (20, 0));
 //! assert_eq!(baarqidho::list(&packed), "ok 2\n0 10 0 -\n1 20 0 -\n");
 //!
 //! // One input, so the log has one word a tick.
@@ -26,16 +27,22 @@
 //! let trace = plan.run(&log, 31)?;
 //! assert_eq!(trace.value(20, 1), Some(120));
 //! assert_eq!(trace.value(10, 1), None);
-//! # Ok::<(), Refusal>(())
+//! # Ok::<(), RunError>(())
 //! ```
 
 mod answer;
+mod clock;
 mod ffi;
 mod plan;
+mod row;
+mod trace;
 
 pub use answer::{Answer, Refusal};
+pub use clock::{Clock, Condition};
 pub use ffi::{check, listing, read, run, write};
-pub use plan::{list, Clock, Condition, Plan, Trace};
+pub use plan::{list, Plan};
+pub use row::Row;
+pub use trace::{Clash, RunError, Trace};
 
 include!("../../listing_max.rs");
 
@@ -45,14 +52,17 @@ pub const MAX_FLOWS: usize = 64;
 /// The words of a row in plain form: kind, and three fields.
 pub const ROW_WORDS: usize = 4;
 
-/// The words of a clock: period, phase, how many conditions, and four conditions.
-pub const CLOCK_WORDS: usize = 7;
+/// The most conditions a clock has.
+pub const MAX_CONDITIONS: usize = 4;
+
+/// The words of a clock: period, phase, how many conditions, and the conditions.
+pub const CLOCK_WORDS: usize = 3 + MAX_CONDITIONS;
 
 /// The most ticks of a run.
 pub const MAX_TICKS: u32 = 65_535;
 
-/// The bytes of the longest packed table: a count, and 64 rows of 61 bits.
-pub const PACKED_MAX: usize = 489;
+/// The bytes of the longest packed table: a count, and [`MAX_FLOWS`] rows of 61 bits.
+pub const PACKED_MAX: usize = 1 + (MAX_FLOWS * 61).div_ceil(8);
 
 /// The repository's README, whose example is a test.
 #[cfg(doctest)]

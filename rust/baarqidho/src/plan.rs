@@ -1,49 +1,37 @@
-//! A plan that owns its words, its clocks and its trace.
+//! A plan that owns its words, and the calls over it.
 
-use crate::{check, listing, read, run, write, Refusal};
+use crate::{check, listing, read, run, write, Clash, Clock, Refusal, Row, RunError, Trace};
 use crate::{CLOCK_WORDS, LISTING_MAX, MAX_FLOWS, MAX_TICKS, PACKED_MAX, ROW_WORDS};
 
-/// A plan in plain form: four words a flow. It may be any table; the calls say what is wrong with it.
+/// A plan in plain form: [`ROW_WORDS`] words a flow. It may be any table; the calls say what is wrong with it.
 #[derive(Clone, Debug, PartialEq, Eq, Hash)]
 pub struct Plan {
     words: Vec<u32>,
 }
 
-/// A condition of a clock.
-#[derive(Clone, Copy, Debug, PartialEq, Eq, Hash)]
-pub struct Condition {
-    /// The flow that has to be present.
-    pub flow: u32,
-    /// Whether its value has to be non-zero, or zero.
-    pub truth: bool,
-}
-
-/// The clock of a flow.
-#[derive(Clone, Debug, PartialEq, Eq, Hash)]
-pub struct Clock {
-    /// The ticks from one presence to the next, conditions aside.
-    pub period: u32,
-    /// The first tick, conditions aside.
-    pub phase: u32,
-    /// 0 to 4 conditions in order of sampling.
-    pub conditions: Vec<Condition>,
-}
-
-/// What a run gave: one cell per tick and flow.
-#[derive(Clone, Debug, PartialEq, Eq)]
-pub struct Trace {
-    flows: usize,
-    marks: Vec<u8>,
-    values: Vec<u32>,
-}
-
 impl Plan {
-    /// The plan of plain words, four a flow: kind and three fields.
+    /// The plan of plain words, [`ROW_WORDS`] a flow: kind and fields.
     pub fn new(words: impl Into<Vec<u32>>) -> Self {
         Plan { words: words.into() }
     }
 
+    /// The plan of rows, the first being flow 0.
+    ///
+    /// ```
+    /// use baarqidho::{Plan, Row};
+    ///
+    /// let plan = Plan::from_rows([Row::Input { period: 10, phase: 0 }, Row::Slower { a: 0, k: 2 }]);
+    /// assert_eq!(plan, Plan::new([0, 10, 0, 0, 9, 0, 2, 0]));
+    /// ```
+    pub fn from_rows(rows: impl IntoIterator<Item = Row>) -> Self {
+        rows.into_iter().collect()
+    }
+
     /// Reads a packed table.
+    ///
+    /// # Errors
+    ///
+    /// The refusal of [`read()`]: 11 to 16.
     pub fn from_packed(packed: &[u8]) -> Result<Self, Refusal> {
         let mut words = vec![0; ROW_WORDS * MAX_FLOWS];
         let flows = read(packed, &mut words).result()?;
@@ -56,17 +44,35 @@ impl Plan {
         &self.words
     }
 
-    /// How many flows it has. Words that are not four a flow are refused by every call.
+    /// Its rows, each as [`Row::from_words`] has it: nothing for words that are no row.
+    ///
+    /// ```
+    /// use baarqidho::{Plan, Row};
+    ///
+    /// let plan = Plan::from_packed(&[0x02, 0x00, 0x05, 0x00, 0x02, 0x40, 0x08])?;
+    /// let rows: Option<Vec<Row>> = plan.rows().collect();
+    /// assert_eq!(rows, Some(vec![Row::Input { period: 10, phase: 0 }, Row::Slower { a: 0, k: 2 }]));
+    /// # Ok::<(), baarqidho::Refusal>(())
+    /// ```
+    pub fn rows(&self) -> impl Iterator<Item = Option<Row>> + '_ {
+        self.words.chunks_exact(ROW_WORDS).map(|words| Row::from_words(words.try_into().ok()?))
+    }
+
+    /// How many flows it has. Words that are not [`ROW_WORDS`] a flow are refused by every call.
     pub fn flows(&self) -> usize {
         self.words.len() / ROW_WORDS
     }
 
     /// How many of its rows are inputs, each of which has one word a tick in the log.
     pub fn inputs(&self) -> usize {
-        self.words.chunks_exact(ROW_WORDS).filter(|row| row[0] == 0).count()
+        self.rows().filter(|row| matches!(row, Some(Row::Input { .. }))).count()
     }
 
     /// Its packed form.
+    ///
+    /// # Errors
+    ///
+    /// The refusal of [`write()`]: 11, 13, 14 or 15.
     pub fn to_packed(&self) -> Result<Vec<u8>, Refusal> {
         let mut packed = vec![0; PACKED_MAX];
         let bytes = write(self.count(), &self.words, &mut packed).result()?;
@@ -74,7 +80,11 @@ impl Plan {
         Ok(packed)
     }
 
-    /// The clock of each flow, if the check accepts the plan.
+    /// The clock of each flow.
+    ///
+    /// # Errors
+    ///
+    /// The refusal of [`check()`], if it does not accept the plan: 11, 13, 14, 15, 21, 22 or 23.
     pub fn clocks(&self) -> Result<Vec<Clock>, Refusal> {
         let mut words = [0; CLOCK_WORDS * MAX_FLOWS];
         let flows = check(self.count(), &self.words, &mut words).result()?;
@@ -82,13 +92,44 @@ impl Plan {
     }
 
     /// Runs it over a log of one word per tick and input, tick after tick.
-    pub fn run(&self, log: &[u32], ticks: u32) -> Result<Trace, Refusal> {
+    ///
+    /// ```
+    /// use baarqidho::{Plan, Row};
+    ///
+    /// let rows = [Row::Input { period: 2, phase: 0 }, Row::Register { initial: 7, beat: 0, source: 0 }];
+    /// let trace = Plan::from_rows(rows).run(&[10, 11, 12, 13, 14], 5)?;
+    /// let kept: Vec<_> = (0..5).map(|tick| trace.value(tick, 1)).collect();
+    /// assert_eq!(kept, [Some(7), None, Some(10), None, Some(12)]);
+    /// # Ok::<(), baarqidho::RunError>(())
+    /// ```
+    ///
+    /// # Errors
+    ///
+    /// The refusal of [`run()`], 11, 13, 14, 15, 31 or 32; or a clash, with the trace up to it.
+    pub fn run(&self, log: &[u32], ticks: u32) -> Result<Trace, RunError> {
+        let flows = self.flows();
         // Nothing is lent to a run that is refused for its ticks or its count.
-        let fits = ticks <= MAX_TICKS && self.flows() <= MAX_FLOWS;
-        let cells = if fits { ticks as usize * self.flows() } else { 0 };
+        let fits = ticks <= MAX_TICKS && flows <= MAX_FLOWS;
+        let cells = if fits { ticks as usize * flows } else { 0 };
         let (mut marks, mut values) = (vec![0; cells], vec![0; cells]);
-        run(self.count(), &self.words, log, ticks, &mut marks, &mut values).result()?;
-        Ok(Trace { flows: self.flows(), marks, values })
+        match run(self.count(), &self.words, log, ticks, &mut marks, &mut values).result() {
+            Ok(_) => Ok(Trace::new(flows, cells, marks, values)),
+            Err(Refusal::Clash { tick, flow }) => {
+                let trace = Trace::new(flows, self.cells_before(tick, flow), marks, values);
+                Err(Clash { tick, flow, trace }.into())
+            }
+            Err(refusal) => Err(refusal.into()),
+        }
+    }
+
+    /// How many cells a clash has before it. That of a register is found after all flows of its tick.
+    fn cells_before(&self, tick: u32, flow: u32) -> usize {
+        let (tick, flow) = (tick as usize, flow as usize);
+        let of_tick = match self.rows().nth(flow) {
+            Some(Some(Row::Register { .. })) => self.flows(),
+            _ => flow,
+        };
+        tick * self.flows() + of_tick
     }
 
     /// The count of flows for the library.
@@ -97,40 +138,19 @@ impl Plan {
     }
 }
 
-impl Clock {
-    /// The clock of seven words.
-    fn new(words: &[u32]) -> Self {
-        let conditions = words[3..].iter().take(words[2] as usize);
-        let conditions = conditions.map(|word| Condition { flow: word / 2, truth: word % 2 == 1 });
-        Clock { period: words[0], phase: words[1], conditions: conditions.collect() }
-    }
-}
-
-impl Trace {
-    /// How many ticks it has.
-    pub fn ticks(&self) -> usize {
-        self.marks.len() / self.flows
-    }
-
-    /// The value of a flow at a tick, or nothing where it is absent or the trace has no such cell.
-    pub fn value(&self, tick: usize, flow: usize) -> Option<u32> {
-        let place = tick.checked_mul(self.flows)?.checked_add(flow)?;
-        (flow < self.flows && *self.marks.get(place)? == 1).then(|| self.values[place])
-    }
-
-    /// The marks of all cells, tick after tick: 1 present, 0 absent.
-    pub fn marks(&self) -> &[u8] {
-        &self.marks
-    }
-
-    /// The values of all cells, tick after tick, 0 where absent.
-    pub fn values(&self) -> &[u32] {
-        &self.values
+impl FromIterator<Row> for Plan {
+    fn from_iter<T: IntoIterator<Item = Row>>(rows: T) -> Self {
+        Plan { words: rows.into_iter().flat_map(Row::words).collect() }
     }
 }
 
 /// The listing of a packed table: its count of flows, then a line for each clock; or the one line `no NUMBER FLOW` of
 /// its refusal.
+///
+/// ```
+/// assert_eq!(baarqidho::list(&[0x02, 0x00, 0x05, 0x00, 0x02, 0x40, 0x08]), "ok 2\n0 10 0 -\n1 20 0 -\n");
+/// assert_eq!(baarqidho::list(&[]), "no 12 0\n");
+/// ```
 pub fn list(packed: &[u8]) -> String {
     let mut text = vec![0; LISTING_MAX];
     let answer = listing(packed, &mut text);

@@ -1,6 +1,6 @@
 //! Random plans, faults planted in them, and comparisons of the implementations cell by cell.
 //!
-//! Seeds are fixed. BAARQIDHO_ROUNDS multiplies the number of plans of each test.
+//! BAARQIDHO_SEED is the seed of all generators, and BAARQIDHO_ROUNDS multiplies the number of plans of each test.
 
 pub mod compare;
 pub mod faults;
@@ -9,7 +9,19 @@ pub mod implementation;
 pub mod rng;
 pub mod tally;
 
+use std::path::{Path, PathBuf};
+
 pub use baarqidho::LISTING_MAX;
+
+/// The repository's root.
+pub fn root() -> PathBuf {
+    Path::new(env!("CARGO_MANIFEST_DIR")).join("../..")
+}
+
+/// The directory that a variable of the environment names, or one of the repository.
+pub fn directory(variable: &str, default: &str) -> PathBuf {
+    std::env::var_os(variable).map_or_else(|| root().join(default), PathBuf::from)
+}
 
 /// A plain table as it is handed to a call: any count, any words.
 #[derive(Clone, Debug, PartialEq, Eq)]

@@ -1,13 +1,38 @@
-//! A small generator of pseudo-random numbers (splitmix64).
+//! A small generator of pseudo-random numbers (splitmix64), and the seed that all tests share.
 
-/// A generator with a fixed seed.
+use std::env;
+use std::io::{self, Write};
+use std::sync::OnceLock;
+
+/// The seed of a run of the tests that names none.
+const DEFAULT_SEED: u64 = 1;
+
+/// The seed of this run of the tests: BAARQIDHO_SEED, or the default. It is told once on standard error, past the
+/// capture of a test's output, so that every run shows it.
+fn seed() -> u64 {
+    static SEED: OnceLock<u64> = OnceLock::new();
+    *SEED.get_or_init(|| {
+        let seed = match env::var("BAARQIDHO_SEED") {
+            Ok(seed) => seed.parse().expect("BAARQIDHO_SEED is a whole number below 2 to the 64"),
+            Err(_) => DEFAULT_SEED,
+        };
+        let text = format!("\nrandom tests with BAARQIDHO_SEED={seed}\n");
+        io::stderr().write_all(text.as_bytes()).expect("standard error takes the seed");
+        seed
+    })
+}
+
+/// A generator.
 #[derive(Clone, Debug)]
 pub struct Rng(u64);
 
 impl Rng {
-    /// The generator of a seed.
-    pub fn new(seed: u64) -> Self {
-        Rng(seed)
+    /// The generator of a test, which has a number of its own, under the seed of this run. A test that fails shows
+    /// both.
+    pub fn new(test: u64) -> Self {
+        let seed = seed();
+        println!("BAARQIDHO_SEED={seed}, generator {test}");
+        Rng(Rng(seed).any() ^ test)
     }
 
     /// Any 64-bit number.

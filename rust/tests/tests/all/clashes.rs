@@ -1,12 +1,13 @@
 //! Clashes: where each is found, what is written before it, and that nothing is written after it.
 
 use tests::compare::{run, run_exactly, written_up_to};
-use tests::faults::{any_rows, plant};
+use tests::faults::any_rows;
 use tests::implementation::ALL;
 use tests::rng::Rng;
 use tests::{rounds, Plan};
 
-use crate::short::sound;
+use crate::short::faulty;
+use crate::traces::{clashes_with, ends_with};
 
 /// A run of some ticks over a log of zeros clashes at this tick and flow, with so many cells written.
 fn clashes(rows: &[[u32; 4]], ticks: u32, tick: u32, flow: u32, written: usize) {
@@ -30,6 +31,8 @@ fn two_operands() {
         clashes(&[[0, 2, 0, 0], [0, 3, 0, 0], [kind, 0, 1, 0], [0, 1, 0, 0]], 9, 2, 2, 10);
         clashes(&[[0, 3, 0, 0], [0, 2, 0, 0], [kind, 0, 1, 0], [0, 1, 0, 0]], 9, 2, 2, 10);
         ends(&[[0, 2, 0, 0], [0, 3, 0, 0], [kind, 0, 1, 0], [0, 1, 0, 0]], 2);
+        clashes_with(&[[0, 1, 0, 0], [0, 1, 1, 0], [kind, 0, 1, 0]], &[3, 1], 0, 2, "3 . _");
+        clashes_with(&[[0, 1, 1, 0], [0, 1, 0, 0], [kind, 0, 1, 0]], &[3, 1], 0, 2, ". 1 _");
     }
 }
 
@@ -40,6 +43,9 @@ fn faster() {
     clashes(&[[0, 3, 0, 0], [8, 0, 2, 3]], 20, 3, 1, 7);
     ends(&[[0, 6, 1, 0], [8, 0, 2, 3]], 40);
     ends(&[[0, 5, 1, 0], [8, 0, 2, 3]], 6);
+    let log = [10, 11, 12, 13];
+    clashes_with(&[[0, 2, 0, 0], [8, 0, 3, 1]], &log, 2, 1, "10 10 | . 10 | 12 _ | _ _");
+    clashes_with(&[[0, 3, 0, 0], [8, 0, 2, 1]], &log, 3, 1, "10 10 | . 10 | . . | 13 _");
 }
 
 #[test]
@@ -51,26 +57,45 @@ fn head() {
     clashes(&[[0, 3, 7, 0], [11, 0, 5, 3]], 20, 10, 1, 21);
     ends(&[[0, 3, 6, 0], [11, 0, 5, 3]], 40);
     ends(&[[0, 3, 5, 0], [11, 0, 5, 3]], 8);
+    let log = [10, 11, 12, 13];
+    clashes_with(&[[0, 4, 1, 0], [11, 0, 42, 3]], &log, 1, 1, ". . | 11 _ | _ _ | _ _");
+    clashes_with(&[[0, 1, 0, 0], [11, 0, 42, 0]], &log, 0, 1, "10 _ | _ _ | _ _ | _ _");
+    clashes_with(&[[0, 1, 2, 0], [11, 0, 42, 0]], &log, 3, 1, ". 42 | . . | 12 12 | 13 _");
+    clashes_with(&[[0, 2, 1, 0], [11, 0, 42, 0]], &log, 3, 1, ". 42 | 11 11 | . . | 13 _");
 }
 
 #[test]
 fn merge() {
-    // c, a and b as constants at tick 0 or absent there: only three of the twelve cases fit together.
-    let constant = |cell: Option<u32>| match cell {
-        Some(value) => [1, value, 1, 0],
-        None => [1, 0, 1, 1],
+    // c, a and b at tick 0, and the merge where they fit together: three of the twelve cases.
+    let cases = [
+        (". . .", Some(".")),
+        (". 8 .", None),
+        (". . 9", None),
+        (". 8 9", None),
+        ("4 . .", None),
+        ("4 8 .", Some("8")),
+        ("4 . 9", None),
+        ("4 8 9", None),
+        ("0 . .", None),
+        ("0 8 .", None),
+        ("0 . 9", Some("9")),
+        ("0 8 9", None),
+    ];
+    let constant = |cell: &str| match cell.parse() {
+        Ok(value) => [1, value, 1, 0],
+        Err(_) => [1, 7, 1, 1],
     };
-    for c in [None, Some(0), Some(4)] {
-        for a in [None, Some(8)] {
-            for b in [None, Some(9)] {
-                let rows = [constant(c), constant(a), constant(b), [15, 0, 1, 2]];
-                match (c, a, b) {
-                    (None, None, None) | (Some(0), None, Some(_)) | (Some(4), Some(_), None) => ends(&rows, 1),
-                    _ => clashes(&rows, 1, 0, 3, 3),
-                }
-            }
+    for (operands, merged) in cases {
+        let mut rows: Vec<[u32; 4]> = operands.split(' ').map(constant).collect();
+        rows.push([15, 0, 1, 2]);
+        match merged {
+            Some(cell) => ends_with(&rows, &[], &format!("{operands} {cell}")),
+            None => clashes_with(&rows, &[], 0, 3, &format!("{operands} _")),
         }
     }
+    // A tail lacks the value that c's truth names at tick 1.
+    let rows = [[0, 1, 0, 0], [13, 0, 0, 0], [14, 0, 0, 0], [12, 1, 0, 0], [15, 0, 3, 2]];
+    clashes_with(&rows, &[0, 7], 1, 4, "0 . 0 . 0 | 7 7 . . _");
 }
 
 #[test]
@@ -88,6 +113,20 @@ fn registers() {
     clashes(&[[0, 2, 0, 0], [0, 3, 0, 0], [7, 5, 0, 1], [2, 0, 1, 0]], 9, 2, 3, 11);
 }
 
+/// Registers over the inputs (2, 0) and (1, 0), with the traces that they leave.
+#[test]
+fn ticks_of_registers() {
+    let leaves = |over: &[[u32; 4]], flow: u32, trace: &str| {
+        let rows = [&[[0, 2, 0, 0], [0, 1, 0, 0]], over].concat();
+        clashes_with(&rows, &[3, 1, 4, 0, 5, 2], 1, flow, trace);
+    };
+    leaves(&[[7, 7, 0, 1]], 2, "3 1 7 | . 0 . | _ _ _");
+    leaves(&[[7, 7, 1, 0]], 2, "3 1 7 | . 0 3 | _ _ _");
+    leaves(&[[7, 7, 1, 0], [7, 8, 0, 1]], 2, "3 1 7 8 | . 0 3 . | _ _ _ _");
+    leaves(&[[7, 7, 0, 0], [7, 8, 0, 1]], 3, "3 1 7 8 | . 0 . . | _ _ _ _");
+    leaves(&[[7, 7, 0, 1], [2, 0, 1, 0]], 3, "3 1 7 4 | . 0 . _ | _ _ _ _");
+}
+
 /// Random clashes: exactly the cells before it are written, and they are those of a run that stops before its tick.
 #[test]
 fn what_a_clash_leaves() {
@@ -96,11 +135,7 @@ fn what_a_clash_leaves() {
     for round in 0..rounds(60_000) {
         let plan = match round % 2 {
             0 => any_rows(&mut rng),
-            _ => {
-                let (mut plan, _) = sound(&mut rng);
-                plant(&mut rng, &mut plan);
-                plan
-            }
+            _ => faulty(&mut rng),
         };
         let log = rng.log(30 * plan.inputs());
         let flows = plan.words.len() / 4;

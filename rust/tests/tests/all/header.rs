@@ -1,17 +1,19 @@
-//! The C header: its constants are those of the Rust side, and its example lists the paper's plan.
+//! The C header: its constants and numbers, its five calls, and its example.
 
-use std::env;
-use std::path::{Path, PathBuf};
+use std::io::Write;
+use std::path::Path;
 use std::process::Command;
 
-/// The repository's root.
-fn root() -> PathBuf {
-    Path::new(env!("CARGO_MANIFEST_DIR")).join("../..")
-}
+use tests::implementation::LIBRARY;
+use tests::rng::Rng;
+use tests::rounds;
+
+use crate::bridge::{compiled, declarations, header, C, C99};
+use crate::summary::mixture;
 
 /// A constant of the header.
 fn constant(name: &str) -> usize {
-    let header = std::fs::read_to_string(root().join("include/baarqidho.h")).expect("the header is there");
+    let header = header();
     let mut lines =
         header.lines().filter_map(|line| line.strip_prefix("#define ")?.strip_prefix(name)?.strip_prefix(' '));
     lines.next().expect(name).trim().parse().expect(name)
@@ -27,22 +29,52 @@ fn constants_agree() {
     assert_eq!(constant("BAARQIDHO_CLOCK_WORDS"), baarqidho::CLOCK_WORDS);
 }
 
+/// A length follows its slice, and flow, tick and count come last: also where no answer can tell two of them apart, as
+/// the lengths of marks and values, or flow and tick of a listing.
+#[test]
+fn names_of_parameters() {
+    let calls = declarations();
+    assert_eq!(calls.iter().map(|call| &call.0[..]).collect::<Vec<_>>(), ["read", "write", "check", "run", "listing"]);
+    for (call, names) in calls {
+        assert!(names.ends_with(&["flow", "tick", "count"].map(String::from)), "{call}: {names:?}");
+        for (slice, length) in names.iter().zip(&names[1..]).filter(|pair| pair.1.ends_with("_len")) {
+            assert_eq!(*length, format!("{slice}_len"), "{call}");
+        }
+    }
+}
+
+/// What a program prints, if it ends well.
+fn printed(program: &Path) -> String {
+    let said = Command::new(program).output().expect("the program runs");
+    assert!(said.status.success(), "{}: {}", said.status, String::from_utf8_lossy(&said.stderr));
+    String::from_utf8(said.stdout).expect("text")
+}
+
 /// The example, compiled and linked as its comment says, prints exactly the paper's lines.
 #[test]
 fn the_example_lists_the_paper_plan() {
-    let library = env::var_os("BAARQIDHO_LIB_DIR").map_or_else(|| root().join("target/staticlib"), PathBuf::from);
-    let program = Path::new(env!("CARGO_TARGET_TMPDIR")).join("example");
-    let compiled = Command::new("cc")
-        .args(["-std=c99", "-Wall", "-Wextra", "-pedantic", "-Werror", "-I"])
-        .arg(root().join("include"))
-        .arg(root().join("include/example.c"))
-        .arg(library.join("libexports.a"))
-        .arg("-o")
-        .arg(&program)
-        .output()
-        .expect("cc is there, as for every Rust program");
-    assert!(compiled.status.success(), "{}", String::from_utf8_lossy(&compiled.stderr));
-    let listed = Command::new(&program).output().expect("the example runs");
-    assert!(listed.status.success());
-    assert_eq!(listed.stdout, b"ok 2\n0 10 0 -\n1 20 0 -\n");
+    assert_eq!(printed(&compiled(&C99, "include/example.c")), "ok 2\n0 10 0 -\n1 20 0 -\n");
+}
+
+/// Every number by its name, and every limit.
+#[test]
+fn numbers_from_c() {
+    printed(&compiled(&C99, "rust/tests/c/numbers.c"));
+}
+
+/// The same as C++, where there is a compiler for it.
+#[test]
+fn numbers_from_cpp() {
+    if Command::new("c++").arg("--version").output().is_err() {
+        let text = b"\nno command c++: the header was not tried from C++\n";
+        std::io::stderr().write_all(text).expect("standard error takes the line");
+        return;
+    }
+    printed(&compiled(&["c++", "-x", "c++", "-std=c++11"], "rust/tests/c/numbers.c"));
+}
+
+/// All five calls on random plans, faults and damaged bytes: C has every part and every cell that Rust has.
+#[test]
+fn calls_from_c() {
+    mixture(Rng::new(81), &[&LIBRARY, &C], rounds(10_000));
 }

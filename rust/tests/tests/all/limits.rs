@@ -10,13 +10,17 @@ fn checked(rows: &[[u32; 4]]) -> Parts {
     check(&ALL, &Plan::of(rows), 7 * rows.len()).parts
 }
 
-/// What write, check and run answer to a plain table, all the same: number and row.
+/// Write, check and run refuse a plain table alike, by number and row, and touch nothing.
+fn refused_plan(plan: &Plan, number: u32, row: u32) {
+    for outcome in [write(&ALL, plan, 489), check(&ALL, plan, 489), run(&ALL, plan, &[1, 2], 2, (9, 8))] {
+        assert_eq!(outcome.parts, (number, row, 0, 0), "{plan:?}");
+        assert!(outcome.is_untouched(), "{plan:?}");
+    }
+}
+
+/// The same of rows.
 fn refused(rows: &[[u32; 4]], number: u32, row: u32) {
-    let plan = Plan::of(rows);
-    let expected = (number, row, 0, 0);
-    assert_eq!(write(&ALL, &plan, 489).parts, expected, "{rows:?}");
-    assert_eq!(checked(rows), expected, "{rows:?}");
-    assert_eq!(run(&ALL, &plan, &[], 0, (0, 0)).parts, expected, "{rows:?}");
+    refused_plan(&Plan::of(rows), number, row);
 }
 
 /// The table is one: it can be written, and is read back.
@@ -71,6 +75,7 @@ fn ranges_of_fields() {
             }
         }
     }
+    refused(&[[16, 0, 0, 0]], 13, 0);
     refused(&[base, [16, 0, 0, 0]], 13, 1);
     refused(&[base, [u32::MAX, 1, 1, 1]], 13, 1);
 }
@@ -109,14 +114,12 @@ fn counts_and_lengths() {
     refused(&rows, 11, 0);
     refused(&[], 11, 0);
     let words = rows[..2].concat();
-    for (count, len) in [(2, 7), (1, 8), (3, 8), (2, 4), (2, 0), (0, 0), (u32::MAX, 8), ((1 << 30) + 2, 8)] {
-        let plan = Plan { count, words: words[..len].to_vec() };
-        assert_eq!(write(&ALL, &plan, 489).parts, (11, 0, 0, 0));
-        assert_eq!(check(&ALL, &plan, 489).parts, (11, 0, 0, 0));
-        assert_eq!(run(&ALL, &plan, &[], 0, (9, 9)).parts, (11, 0, 0, 0));
+    for (count, len) in
+        [(2, 7), (1, 8), (3, 8), (2, 4), (2, 0), (0, 0), (0, 4), (65, 4), (1, 5), (u32::MAX, 8), ((1 << 30) + 2, 8)]
+    {
+        refused_plan(&Plan { count, words: words[..len].to_vec() }, 11, 0);
     }
-    let plan = Plan { count: 2, words: [words, vec![0]].concat() };
-    assert_eq!(check(&ALL, &plan, 489).parts, (11, 0, 0, 0));
+    refused_plan(&Plan { count: 2, words: [words, vec![0]].concat() }, 11, 0);
 }
 
 #[test]
@@ -215,7 +218,9 @@ fn logs_and_traces_one_short_exact_and_one_long() {
         let (words, cells) = (2 * ticks as usize, 3 * ticks as usize);
         for log in 0..words + 3 {
             let number = if log == words { 0 } else { 32 };
-            assert_eq!(run(&ALL, &plan, &vec![1; log], ticks, (cells, cells)).parts.0, number);
+            let outcome = run(&ALL, &plan, &vec![1; log], ticks, (cells, cells));
+            assert_eq!(outcome.parts.0, number);
+            assert!(number == 0 || outcome.is_untouched());
         }
         for (marks, values) in [(0, 0), (0, 1), (1, 0), (1, 1), (2, 2), (2, 9), (9, 2)] {
             // One short, exact, one long, and far longer, each for itself.
@@ -227,10 +232,11 @@ fn logs_and_traces_one_short_exact_and_one_long() {
         }
     }
     // 31 before 32 before 33.
-    assert_eq!(run(&ALL, &plan, &[1], 65_536, (0, 0)).parts, (31, 0, 0, 0));
-    assert_eq!(run(&ALL, &plan, &[1], u32::MAX, (0, 0)).parts, (31, 0, 0, 0));
-    assert_eq!(run(&ALL, &plan, &[1], 65_535, (0, 0)).parts, (32, 0, 0, 0));
-    assert_eq!(run(&ALL, &plan, &[1, 1], 1, (0, 0)).parts, (33, 0, 0, 0));
+    for (log, ticks, number) in [(1, 65_536, 31), (1, u32::MAX, 31), (1, 65_535, 32), (2, 1, 33)] {
+        let outcome = run(&ALL, &plan, &vec![1; log], ticks, (2, 2));
+        assert_eq!(outcome.parts, (number, 0, 0, 0));
+        assert!(outcome.is_untouched());
+    }
 }
 
 /// 64 inputs over 65,535 ticks, each buffer one short, exact, and one long; and one tick more.

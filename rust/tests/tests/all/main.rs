@@ -1,5 +1,6 @@
 //! The proved library, the paper word by word and the quick implementation against each other.
 
+mod bridge;
 mod clashes;
 mod demand;
 mod extremes;
@@ -9,7 +10,9 @@ mod long;
 mod mirror;
 mod packed;
 mod paper;
+mod program;
 mod readme;
 mod short;
 mod summary;
+mod traces;
 mod wrapper;

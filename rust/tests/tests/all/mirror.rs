@@ -16,7 +16,7 @@ static BOTH: [&Implementation; 2] = [&REFERENCE, &MIRROR];
 /// wrong lengths; every cell compared, and where each kind clashes.
 #[test]
 fn short_runs() {
-    let mut rng = Rng::new(71);
+    let mut rng = Rng::new(75);
     let (mut ended, mut refused, mut clashed) = (0, [0; 34], [0; 16]);
     let plans = rounds(120_000);
     for round in 0..plans {
@@ -57,7 +57,7 @@ fn short_runs() {
 /// Some hundred ticks against the paper; as many as there may be, against the quick run.
 #[test]
 fn longer_runs() {
-    let mut rng = Rng::new(72);
+    let mut rng = Rng::new(76);
     for _ in 0..rounds(300) {
         let scale = rng.pick(&[6, 40, 100]);
         let (mut plan, _) = accepted(&mut rng, Shape { flows: 10, scale, sampling: true });

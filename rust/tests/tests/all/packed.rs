@@ -2,7 +2,7 @@
 
 use tests::compare::{check, listing, read, write};
 use tests::faults::damage;
-use tests::implementation::ALL;
+use tests::implementation::{Implementation, ALL};
 use tests::rng::Rng;
 use tests::tally::Tally;
 use tests::{rounds, Plan, LISTING_MAX};
@@ -10,20 +10,20 @@ use tests::{rounds, Plan, LISTING_MAX};
 use crate::short::sound;
 
 /// Reads bytes into buffers of several lengths; what is read is written again as the same bytes.
-pub fn read_and_back(rng: &mut Rng, packed: &[u8], tally: &mut Tally) {
-    let plain = read(&ALL, packed, 256);
+pub fn read_and_back(rng: &mut Rng, of: &[&Implementation], packed: &[u8], tally: &mut Tally) {
+    let plain = read(of, packed, 256);
     tally.add("read", plain.parts.0);
-    listing(&ALL, packed, LISTING_MAX);
+    listing(of, packed, LISTING_MAX);
     if plain.parts.0 != 0 {
         assert!(plain.is_untouched());
         return;
     }
     let count = plain.parts.3;
     let words = plain.words[..4 * count as usize].to_vec();
-    tally.add("read", read(&ALL, packed, rng.around(words.len())).parts.0);
+    tally.add("read", read(of, packed, rng.around(words.len())).parts.0);
     let plan = Plan { count, words };
-    tally.add("check", check(&ALL, &plan, 7 * count as usize).parts.0);
-    let written = write(&ALL, &plan, packed.len());
+    tally.add("check", check(of, &plan, 7 * count as usize).parts.0);
+    let written = write(of, &plan, packed.len());
     assert_eq!(written.parts, (0, 0, 0, packed.len() as u32));
     assert_eq!(&written.bytes[..packed.len()], packed);
 }
@@ -43,7 +43,7 @@ fn damaged_bytes() {
     for _ in 0..rounds(plans) {
         let mut packed = packed(&mut rng);
         damage(&mut rng, &mut packed);
-        read_and_back(&mut rng, &packed, &mut tally);
+        read_and_back(&mut rng, &ALL, &packed, &mut tally);
     }
     for number in [0, 10, 11, 12, 13, 14, 15, 16] {
         assert!(tally.count("read", number) > plans / 500, "number {number} occurs: {tally}");
@@ -62,7 +62,7 @@ fn any_bytes() {
         if let (Some(count), true) = (packed.first_mut(), rng.percent(80)) {
             *count = rng.range(1, 4) as u8;
         }
-        read_and_back(&mut rng, &packed, &mut tally);
+        read_and_back(&mut rng, &ALL, &packed, &mut tally);
     }
 }
 
@@ -80,7 +80,7 @@ fn every_cut_and_every_bit() {
         for bit in 0..8 * whole.len() {
             let mut other = whole.clone();
             other[bit / 8] ^= 0x80 >> (bit % 8);
-            read_and_back(&mut rng, &other, &mut tally);
+            read_and_back(&mut rng, &ALL, &other, &mut tally);
         }
         let mut longer = whole.clone();
         longer.push(0);

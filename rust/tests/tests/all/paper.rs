@@ -4,6 +4,8 @@ use tests::compare::{check, listing, read, run, run_exactly, write, Outcome};
 use tests::implementation::{Parts, ALL};
 use tests::{Plan, LISTING_MAX};
 
+use crate::traces::{clashes_with, ends_with};
+
 /// What the check answers, and period and phase of the last flow where it accepts.
 fn checked(rows: &[[u32; 4]]) -> (Parts, Option<(u32, u32)>) {
     let outcome = check(&ALL, &Plan::of(rows), 7 * rows.len());
@@ -38,10 +40,10 @@ fn cases_a_to_c() {
 fn case_d() {
     let rows = [[0, 10, 0, 0], [0, 20, 0, 0], [2, 0, 1, 0]];
     refuses(&rows, 21, 2);
-    let plan = Plan::of(&rows);
-    let log: Vec<u32> = (1..=22).collect();
-    assert_eq!(run_exactly(&ALL, &plan, &log[..20], 10).parts, (0, 0, 0, 10));
-    assert_eq!(run_exactly(&ALL, &plan, &log, 11).parts, (34, 2, 10, 0));
+    let log = [&[5, 7][..], &[0; 18], &[8, 0]].concat();
+    let ten_ticks = format!("5 7 12{}", " | . . .".repeat(9));
+    ends_with(&rows, &log[..20], &ten_ticks);
+    clashes_with(&rows, &log, 10, 2, &format!("{ten_ticks} | 8 . _"));
 }
 
 #[test]
@@ -61,6 +63,8 @@ fn cases_i_and_j() {
     accepts(&merged, 4, 0);
     let clocks = check(&ALL, &Plan::of(&merged), 35);
     assert_eq!(clocks.words[14..28], [4, 0, 1, 3, 0, 0, 0, 4, 0, 1, 2, 0, 0, 0]);
+    let log = [5, 1, 0, 0, 0, 0, 0, 0, 6, 0];
+    ends_with(&merged, &log, "5 1 5 . 5 | . . . . . | . . . . . | . . . . . | 6 0 . 6 6");
     let mut swapped = merged;
     swapped[4] = [15, 1, 3, 2];
     refuses(&swapped, 21, 4);
@@ -71,10 +75,8 @@ fn cases_i_and_j() {
 
 #[test]
 fn case_k() {
-    let plan = Plan::of(&[[0, 2, 0, 0], [7, 7, 0, 0]]);
-    let outcome = run_exactly(&ALL, &plan, &[10, 11, 12, 13, 14], 5);
-    assert_eq!(outcome.parts, (0, 0, 0, 5));
-    assert_eq!(cells(&outcome, 2, 1, 5), [Some(7), None, Some(10), None, Some(12)]);
+    let rows = [[0, 2, 0, 0], [7, 7, 0, 0]];
+    ends_with(&rows, &[10, 11, 12, 13, 14], "10 7 | . . | 12 10 | . . | 14 12");
 }
 
 #[test]

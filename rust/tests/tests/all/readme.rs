@@ -1,13 +1,11 @@
 //! The README's commands and its worked example: what it shows is what the library does.
 
-use std::path::Path;
-
 use baarqidho::{list, Plan, Refusal};
+use tests::root;
 
 /// The README's blocks between fences, in order, each with its language.
 fn blocks() -> Vec<(String, String)> {
-    let path = Path::new(env!("CARGO_MANIFEST_DIR")).join("../../README.md");
-    let text = std::fs::read_to_string(path).expect("the README is there");
+    let text = std::fs::read_to_string(root().join("README.md")).expect("the README is there");
     let mut parts = text.split("```");
     let mut blocks = Vec::new();
     while let (Some(_), Some(block)) = (parts.next(), parts.next()) {
@@ -86,5 +84,6 @@ fn mistake_of_the_example() {
     let commands: Vec<Vec<u8>> = blocks().iter().filter_map(|block| listed(&block.1)).collect();
     assert_eq!(mistaken.to_packed().expect("a table"), commands[2]);
     assert_eq!(mistaken.clocks(), Err(Refusal::ClocksDiffer { flow: 4 }));
-    assert_eq!(mistaken.run(&log, 9), Err(Refusal::Clash { tick: 2, flow: 4 }));
+    let clash = mistaken.run(&log, 9).expect_err("a clash");
+    assert_eq!(clash.refusal(), Refusal::Clash { tick: 2, flow: 4 });
 }

@@ -3,7 +3,7 @@
 use tests::compare::{check, listing, read, run, write};
 use tests::faults::{any_rows, disturb, plant};
 use tests::generate::{accepted, Clock, Shape};
-use tests::implementation::ALL;
+use tests::implementation::{Implementation, ALL};
 use tests::rng::Rng;
 use tests::tally::Tally;
 use tests::{rounds, Plan, LISTING_MAX};
@@ -22,28 +22,28 @@ pub fn faulty(rng: &mut Rng) -> Plan {
 }
 
 /// All calls on one plan, with buffers and logs of right and wrong lengths. Gives the packed bytes if there are any.
-pub fn every_call(rng: &mut Rng, plan: &Plan, tally: &mut Tally) -> Option<Vec<u8>> {
+pub fn every_call(rng: &mut Rng, of: &[&Implementation], plan: &Plan, tally: &mut Tally) -> Option<Vec<u8>> {
     let flows = plan.words.len() / 4;
-    let checked = check(&ALL, plan, rng.around(7 * flows));
+    let checked = check(of, plan, rng.around(7 * flows));
     tally.add("check", checked.parts.0);
     assert!(checked.parts.0 == 0 || checked.is_untouched());
 
-    short_run(rng, plan, tally);
+    short_run(rng, of, plan, tally);
 
-    let written = write(&ALL, plan, 520);
+    let written = write(of, plan, 520);
     tally.add("write", written.parts.0);
     if written.parts.0 != 0 {
         assert!(written.is_untouched());
         return None;
     }
     let bytes = written.parts.3 as usize;
-    let again = write(&ALL, plan, rng.around(bytes));
+    let again = write(of, plan, rng.around(bytes));
     tally.add("write", again.parts.0);
     Some(written.bytes[..bytes].to_vec())
 }
 
 /// A run of few ticks, its log and traces now and then of the wrong length, its ticks now and then too many.
-fn short_run(rng: &mut Rng, plan: &Plan, tally: &mut Tally) {
+fn short_run(rng: &mut Rng, of: &[&Implementation], plan: &Plan, tally: &mut Tally) {
     let flows = plan.words.len() / 4;
     let ticks = match rng.below(50) {
         0 => 0,
@@ -59,7 +59,7 @@ fn short_run(rng: &mut Rng, plan: &Plan, tally: &mut Tally) {
         true => (cells, cells),
         false => (rng.around(cells), rng.around(cells)),
     };
-    let outcome = run(&ALL, plan, &log, ticks, lengths);
+    let outcome = run(of, plan, &log, ticks, lengths);
     tally.add("run", outcome.parts.0);
     assert!(matches!(outcome.parts.0, 0 | 34) || outcome.is_untouched());
 }
@@ -75,7 +75,7 @@ fn sound_plans(seed: u64, plans: usize) {
         let words: Vec<u32> = clocks.iter().flat_map(Clock::words).collect();
         assert_eq!(checked.words[..words.len()], words, "{plan:?}");
 
-        let packed = every_call(&mut rng, &plan, &mut tally).expect("a sound plan is written");
+        let packed = every_call(&mut rng, &ALL, &plan, &mut tally).expect("a sound plan is written");
         let plain = read(&ALL, &packed, plan.words.len());
         assert_eq!(plain.parts, (0, 0, 0, plan.count));
         assert_eq!(plain.words[..plan.words.len()], plan.words);
@@ -101,7 +101,7 @@ fn faulty_plans(seed: u64, plans: usize) {
     let mut tally = Tally::default();
     for _ in 0..rounds(plans) {
         let plan = faulty(&mut rng);
-        if let Some(packed) = every_call(&mut rng, &plan, &mut tally) {
+        if let Some(packed) = every_call(&mut rng, &ALL, &plan, &mut tally) {
             listing(&ALL, &packed, LISTING_MAX + 9);
         }
     }
@@ -126,7 +126,7 @@ fn any_plans(seed: u64, plans: usize) {
     let mut tally = Tally::default();
     for _ in 0..rounds(plans) {
         let plan = any_rows(&mut rng);
-        every_call(&mut rng, &plan, &mut tally);
+        every_call(&mut rng, &ALL, &plan, &mut tally);
     }
     assert!(tally.count("check", 0) > plans / 20, "{tally}");
     assert!(tally.count("run", 34) > plans / 10, "{tally}");
@@ -154,7 +154,7 @@ fn large_numbers() {
         if round % 2 == 0 {
             disturb(&mut rng, &mut plan);
         }
-        if let Some(packed) = every_call(&mut rng, &plan, &mut tally) {
+        if let Some(packed) = every_call(&mut rng, &ALL, &plan, &mut tally) {
             assert_eq!(read(&ALL, &packed, plan.words.len()).parts, (0, 0, 0, plan.count));
             listing(&ALL, &packed, LISTING_MAX);
         }

@@ -2,7 +2,14 @@
 
 use std::error::Error;
 
-use baarqidho::{list, Answer, Clock, Condition, Plan, Refusal};
+use baarqidho::{list, Answer, Clash, Plan, Refusal, Row, RunError};
+use tests::compare::{run_exactly, written_up_to};
+use tests::faults::any_rows;
+use tests::implementation::LIBRARY;
+use tests::rng::Rng;
+use tests::rounds;
+
+use crate::short::faulty;
 
 /// I's plan: two inputs, sampled and merged again.
 fn merged() -> Plan {
@@ -12,10 +19,60 @@ fn merged() -> Plan {
 #[test]
 fn clocks_with_conditions() {
     let clocks = merged().clocks().expect("accepted");
-    let conditions = |truth| vec![Condition { flow: 1, truth }];
-    assert_eq!(clocks[2], Clock { period: 4, phase: 0, conditions: conditions(true) });
-    assert_eq!(clocks[3], Clock { period: 4, phase: 0, conditions: conditions(false) });
-    assert_eq!(clocks[4], Clock { period: 4, phase: 0, conditions: vec![] });
+    let parts = |flow: usize| (clocks[flow].period, clocks[flow].phase, clocks[flow].conditions.len());
+    assert_eq!((parts(2), parts(3), parts(4)), ((4, 0, 1), (4, 0, 1), (4, 0, 0)));
+    let condition = |flow: usize| (clocks[flow].conditions[0].flow, clocks[flow].conditions[0].truth);
+    assert_eq!((condition(2), condition(3)), ((1, true), (1, false)));
+}
+
+/// Clocks are displayed as the listing has them, whatever their conditions.
+#[test]
+fn clocks_in_a_listing() {
+    let rows = [[0, 4095, 12, 0], [13, 0, 0, 0], [14, 1, 1, 0], [13, 2, 2, 0], [14, 3, 3, 0], [10, 0, 7, 0]];
+    let plan = Plan::new(rows.concat());
+    let clocks = plan.clocks().expect("accepted");
+    let lines = clocks.iter().enumerate().map(|(flow, clock)| format!("{flow} {clock}\n"));
+    assert_eq!(format!("ok 6\n{}", lines.collect::<String>()), list(&plan.to_packed().expect("a table")));
+    assert_eq!((clocks[4].to_string(), clocks[5].to_string()), ("4095 12 c0+c1-c2+c3-".into(), "4095 19 -".into()));
+    assert_eq!(clocks[2].conditions[1].to_string(), "c1-");
+}
+
+/// Each kind of row, its fields told apart by their numbers.
+#[test]
+fn rows_and_words() {
+    let rows = [
+        (Row::Input { period: 1, phase: 2 }, [0, 1, 2, 0]),
+        (Row::Constant { value: 1, period: 2, phase: 3 }, [1, 1, 2, 3]),
+        (Row::Add { a: 1, b: 2 }, [2, 1, 2, 0]),
+        (Row::Subtract { a: 1, b: 2 }, [3, 1, 2, 0]),
+        (Row::Less { a: 1, b: 2 }, [4, 1, 2, 0]),
+        (Row::Equal { a: 1, b: 2 }, [5, 1, 2, 0]),
+        (Row::Larger { a: 1, b: 2 }, [6, 1, 2, 0]),
+        (Row::Register { initial: 1, beat: 2, source: 3 }, [7, 1, 2, 3]),
+        (Row::Faster { a: 1, k: 2, gap: 3 }, [8, 1, 2, 3]),
+        (Row::Slower { a: 1, k: 2 }, [9, 1, 2, 0]),
+        (Row::Later { a: 1, d: 2 }, [10, 1, 2, 0]),
+        (Row::Head { a: 1, value: 2, tick: 3 }, [11, 1, 2, 3]),
+        (Row::Tail { a: 1 }, [12, 1, 0, 0]),
+        (Row::When { a: 1, c: 2 }, [13, 1, 2, 0]),
+        (Row::WhenNot { a: 1, c: 2 }, [14, 1, 2, 0]),
+        (Row::Merge { c: 1, a: 2, b: 3 }, [15, 1, 2, 3]),
+    ];
+    for (row, words) in rows {
+        assert_eq!(row.words(), words);
+        assert_eq!(Row::from_words(words), Some(row));
+        let unused = (1..4).filter(|&place| words[place] == 0);
+        for place in unused {
+            let mut words = words;
+            words[place] = 1;
+            assert_eq!(Row::from_words(words), None, "{words:?}");
+        }
+    }
+    assert_eq!(Row::from_words([16, 0, 0, 0]), None);
+    let plan: Plan = rows.iter().map(|(row, _)| *row).collect();
+    assert_eq!(plan.words(), rows.map(|(_, words)| words).concat());
+    assert_eq!(plan.rows().collect::<Option<Vec<Row>>>(), Some(rows.map(|(row, _)| row).to_vec()));
+    assert_eq!(Plan::new([12, 0, 0, 0, 99, 0, 0, 0, 1]).rows().collect::<Vec<_>>(), [Some(Row::Tail { a: 0 }), None]);
 }
 
 #[test]
@@ -36,23 +93,61 @@ fn traces() {
     assert_eq!(trace.ticks(), 10);
     assert_eq!((trace.value(4, 2), trace.value(4, 3), trace.value(4, 4)), (Some(104), None, Some(104)));
     assert_eq!((trace.value(8, 2), trace.value(8, 3), trace.value(8, 4)), (None, Some(108), Some(108)));
-    assert_eq!((trace.value(5, 0), trace.value(4, 5), trace.value(10, 0)), (None, None, None));
+    assert_eq!((trace.value(5, 0), trace.value(3, 5), trace.value(10, 0)), (None, None, None));
     assert_eq!((trace.marks().len(), trace.values().len()), (50, 50));
-    assert_eq!(plan.run(&log, 9), Err(Refusal::BadLogLength));
-    assert_eq!(plan.run(&log, 65_536), Err(Refusal::TooManyTicks));
-    assert_eq!(Plan::new([0; 4 * 65]).run(&log, 10), Err(Refusal::BadCount));
-    assert_eq!(Plan::new([]).run(&log, 10), Err(Refusal::BadCount));
+    assert_eq!((trace.flows(), trace.cells()), (5, 50));
+    assert!(trace.has(9, 4) && !trace.has(8, 5) && !trace.has(10, 0) && !trace.has(usize::MAX, 0));
+    assert_eq!(plan.run(&log, 9), Err(Refusal::BadLogLength.into()));
+    assert_eq!(plan.run(&log, 65_536), Err(Refusal::TooManyTicks.into()));
+    assert_eq!(Plan::new([0; 4 * 65]).run(&log, 10), Err(Refusal::BadCount.into()));
+    assert_eq!(Plan::new([]).run(&log, 10), Err(Refusal::BadCount.into()));
     assert_eq!(Plan::new([0, 1, 0]).clocks(), Err(Refusal::BadCount));
 }
 
+/// A plan's run and the call over slices give the same number, and the trace has exactly the cells that the call
+/// wrote. Gives the number.
+fn same_as_slices(plan: &tests::Plan, log: &[u32], ticks: u32) -> u32 {
+    let outcome = run_exactly(&[&LIBRARY], plan, log, ticks);
+    let (number, flow, tick, _) = outcome.parts;
+    let (refusal, marks, values) = match Plan::new(&plan.words[..]).run(log, ticks) {
+        Ok(trace) => (None, trace.marks().to_vec(), trace.values().to_vec()),
+        Err(RunError::Clash(Clash { trace, tick, flow, .. })) => {
+            (Some(Refusal::Clash { tick, flow }), trace.marks().to_vec(), trace.values().to_vec())
+        }
+        Err(error) => (Some(error.refusal()), vec![], vec![]),
+    };
+    assert_eq!(refusal, Answer { number, flow, tick, count: 0 }.result().err(), "{plan:?}");
+    assert!(written_up_to(&outcome, marks.len()), "{plan:?}");
+    assert_eq!((&marks[..], &values[..]), (&outcome.bytes[..marks.len()], &outcome.words[..values.len()]));
+    number
+}
+
 #[test]
-fn refusals_in_words() {
+fn traces_of_random_plans() {
+    let mut rng = Rng::new(95);
+    let mut clashes = 0;
+    for round in 0..rounds(10_000) {
+        let mut plan = if round % 2 == 0 { any_rows(&mut rng) } else { faulty(&mut rng) };
+        plan.count = plan.words.len() as u32 / 4;
+        let log = rng.log(12 * plan.inputs());
+        clashes += usize::from(same_as_slices(&plan, &log, 12) == 34);
+    }
+    assert!(clashes > 1_000, "{clashes}");
+}
+
+#[test]
+fn errors_of_a_run() {
     let plan = Plan::new([0, 10, 0, 0, 0, 20, 0, 0, 2, 0, 1, 0]);
-    let refusal = plan.run(&[0; 22], 11).expect_err("a clash");
-    assert_eq!(refusal, Refusal::Clash { tick: 10, flow: 2 });
-    assert_eq!(refusal.to_string(), "tick 10, flow 2: its operands do not fit together: clash (34)");
-    let error: Box<dyn Error> = Box::new(refusal);
+    let error = plan.run(&[0; 22], 11).expect_err("a clash");
+    assert_eq!(error.to_string(), "tick 10, flow 2: its operands do not fit together: clash (34)");
+    assert_eq!(Refusal::from(error.clone()), Refusal::Clash { tick: 10, flow: 2 });
+    let RunError::Clash(clash) = &error else { panic!("a clash") };
+    assert_eq!((clash.to_string(), RunError::from(clash.clone())), (error.to_string(), error.clone()));
+    let error: Box<dyn Error> = Box::new(error);
     assert!(error.source().is_none());
+    let error = plan.run(&[], 1).expect_err("no log");
+    assert_eq!(error.to_string(), "the log has not one word per tick and input (32)");
+    assert_eq!(Refusal::from(error), Refusal::BadLogLength);
 }
 
 /// Each number has its own refusal, which gives the number back.

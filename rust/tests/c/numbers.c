@@ -1,0 +1,231 @@
+/*
+ * Reaches every number of the header by its name through a real call, and every limit. Parts of answers, lengths and
+ * contents are chosen to differ from each other, so that none can stand for another; buffers are filled before each
+ * call, and what a call has to leave as it was is looked at too.
+ */
+#include <stdio.h>
+#include <string.h>
+
+#include "baarqidho.h"
+
+#define LENGTH(array) (sizeof(array) / sizeof((array)[0]))
+#define FILLING 0xA5
+
+/* What the calls write into; each uses one or both. */
+static uint8_t bytes[BAARQIDHO_MAX_TICKS + 1];
+static uint32_t words[BAARQIDHO_MAX_TICKS + 1];
+
+/* The answer of the last call, and what it was. */
+static uint32_t number, flow, tick, count;
+static const char *call;
+static int is_wrong;
+
+static void begin(const char *name)
+{
+    call = name;
+    number = flow = tick = count = 99;
+    memset(bytes, FILLING, sizeof bytes);
+    memset(words, FILLING, sizeof words);
+}
+
+static void same(const char *part, uint32_t found, uint32_t expected)
+{
+    if (found != expected) {
+        fprintf(stderr, "%s: %s is %lu, expected %lu\n", call, part, (unsigned long)found, (unsigned long)expected);
+        is_wrong = 1;
+    }
+}
+
+static void answers(uint32_t of_number, uint32_t of_flow, uint32_t of_tick, uint32_t of_count)
+{
+    same("number", number, of_number);
+    same("flow", flow, of_flow);
+    same("tick", tick, of_tick);
+    same("count", count, of_count);
+}
+
+/* The buffers have exactly these bytes and words, and are as they were behind them. */
+static void wrote(const uint8_t *of_bytes, size_t bytes_len, const uint32_t *of_words, size_t words_len)
+{
+    uint32_t filling;
+    size_t place;
+
+    memset(&filling, FILLING, sizeof filling);
+    for (place = 0; place < LENGTH(bytes); place++)
+        same("a byte", bytes[place], place < bytes_len ? of_bytes[place] : FILLING);
+    for (place = 0; place < LENGTH(words); place++)
+        same("a word", words[place], place < words_len ? of_words[place] : filling);
+}
+
+static void refuses(uint32_t of_number, uint32_t of_flow)
+{
+    answers(of_number, of_flow, 0, 0);
+    wrote(NULL, 0, NULL, 0);
+}
+
+/* Input (10, 0), and slower 2 of it. */
+static const uint8_t packed_plan[] = {0x02, 0x00, 0x05, 0x00, 0x02, 0x40, 0x08};
+static const uint32_t plan[] = {0, 10, 0, 0, 9, 0, 2, 0};
+
+static void reads(const char *name, const uint8_t *packed, size_t packed_len, size_t words_len)
+{
+    begin(name);
+    number = baarqidho_read(packed, packed_len, words, words_len, &flow, &tick, &count);
+}
+
+/* A read of the plan's bytes with another one at a place. */
+static void reads_with(const char *name, size_t place, uint8_t byte)
+{
+    uint8_t packed[sizeof packed_plan];
+
+    memcpy(packed, packed_plan, sizeof packed);
+    packed[place] = byte;
+    reads(name, packed, sizeof packed, LENGTH(words));
+}
+
+static void all_of_read(void)
+{
+    reads("read", packed_plan, sizeof packed_plan, LENGTH(plan));
+    answers(BAARQIDHO_OK, 0, 0, 2);
+    wrote(NULL, 0, plan, LENGTH(plan));
+    reads("read into too little", packed_plan, sizeof packed_plan, 2 * BAARQIDHO_ROW_WORDS - 1);
+    refuses(BAARQIDHO_OUTPUT_TOO_SHORT, 0);
+    reads_with("read, count 65", 0, BAARQIDHO_MAX_FLOWS + 1);
+    refuses(BAARQIDHO_BAD_COUNT, 0);
+    reads("read, bits end", packed_plan, sizeof packed_plan - 1, LENGTH(words));
+    refuses(BAARQIDHO_ENDS_TOO_EARLY, 1);
+    reads_with("read, kind 17", 4, 0x04);
+    refuses(BAARQIDHO_UNKNOWN_KIND, 1);
+    reads_with("read, k 0", 6, 0x00);
+    refuses(BAARQIDHO_FIELD_OUT_OF_RANGE, 1);
+    reads_with("read, operand itself", 5, 0x41);
+    refuses(BAARQIDHO_BAD_OPERAND, 1);
+    reads_with("read, filling 1", 6, 0x09);
+    refuses(BAARQIDHO_NOT_THE_END, 0);
+}
+
+static void writes(const char *name, uint32_t plan_count, const uint32_t *of, size_t words_len, size_t packed_len)
+{
+    begin(name);
+    number = baarqidho_write(plan_count, of, words_len, bytes, packed_len, &flow, &tick, &count);
+}
+
+static void all_of_write(void)
+{
+    uint32_t longest[BAARQIDHO_MAX_FLOWS * BAARQIDHO_ROW_WORDS];
+    size_t row;
+
+    writes("write", 2, plan, LENGTH(plan), sizeof packed_plan);
+    answers(BAARQIDHO_OK, 0, 0, sizeof packed_plan);
+    wrote(packed_plan, sizeof packed_plan, NULL, 0);
+    writes("write into too little", 2, plan, LENGTH(plan), sizeof packed_plan - 1);
+    refuses(BAARQIDHO_OUTPUT_TOO_SHORT, 0);
+    writes("write, count 3", 3, plan, LENGTH(plan), sizeof bytes);
+    refuses(BAARQIDHO_BAD_COUNT, 0);
+
+    for (row = 0; row < LENGTH(longest); row += BAARQIDHO_ROW_WORDS) {
+        longest[row] = 1;
+        longest[row + 1] = 7;
+        longest[row + 2] = longest[row + 3] = 4095;
+    }
+    writes("write, the longest", BAARQIDHO_MAX_FLOWS, longest, LENGTH(longest), BAARQIDHO_PACKED_MAX);
+    answers(BAARQIDHO_OK, 0, 0, BAARQIDHO_PACKED_MAX);
+}
+
+static void checks(const char *name, const uint32_t *of, size_t words_len, size_t clocks_len)
+{
+    begin(name);
+    number = baarqidho_check((uint32_t)(words_len / BAARQIDHO_ROW_WORDS), of, words_len, words, clocks_len,
+                             &flow, &tick, &count);
+}
+
+/* Inputs (10, 0) and (20, 0), and their sum. */
+static const uint32_t differing[] = {0, 10, 0, 0, 0, 20, 0, 0, 2, 0, 1, 0};
+
+static void all_of_check(void)
+{
+    /* Inputs (4, 1), (4, 1), when, when-not, and the tail of a sampled flow. */
+    static const uint32_t sampled[] = {0, 4, 1, 0, 0, 4, 1, 0, 13, 0, 1, 0, 14, 2, 2, 0, 12, 2, 0, 0};
+    static const uint32_t clocks[] = {4, 1, 0, 0, 0, 0, 0, 4, 1, 0, 0, 0, 0, 0,
+                                      4, 1, 1, 3, 0, 0, 0, 4, 1, 2, 3, 4, 0, 0};
+    static const uint32_t beyond[] = {0, 1, 0, 0, 0, 66, 0, 0, 0, 1, 0, 0, 9, 1, 63, 0};
+
+    checks("check", sampled, 4 * BAARQIDHO_ROW_WORDS, 4 * BAARQIDHO_CLOCK_WORDS);
+    answers(BAARQIDHO_OK, 0, 0, 4);
+    wrote(NULL, 0, clocks, LENGTH(clocks));
+    checks("check into too little", sampled, 4 * BAARQIDHO_ROW_WORDS, 4 * BAARQIDHO_CLOCK_WORDS - 1);
+    refuses(BAARQIDHO_OUTPUT_TOO_SHORT, 0);
+    checks("check, clocks differ", differing, LENGTH(differing), LENGTH(words));
+    refuses(BAARQIDHO_CLOCKS_DIFFER, 2);
+    checks("check, period 4158", beyond, LENGTH(beyond), LENGTH(words));
+    refuses(BAARQIDHO_BEYOND_LIMITS, 3);
+    checks("check, tail of a sampled flow", sampled, LENGTH(sampled), LENGTH(words));
+    refuses(BAARQIDHO_NOT_PLAIN, 4);
+}
+
+static void runs(const char *name, const uint32_t *of, size_t words_len, const uint32_t *log, size_t log_len,
+                 uint32_t ticks, size_t marks_len, size_t values_len)
+{
+    begin(name);
+    number = baarqidho_run((uint32_t)(words_len / BAARQIDHO_ROW_WORDS), of, words_len, log, log_len, ticks,
+                           bytes, marks_len, words, values_len, &flow, &tick, &count);
+}
+
+static void all_of_run(void)
+{
+    static const uint32_t constant[] = {1, 5, 1, 0};
+    static const uint32_t log[] = {71, 72, 0, 0, 0, 0, 0, 0, 0, 0, 0, 0, 0, 0, 0, 0, 0, 0, 0, 0, 73, 74};
+    static const uint8_t marks[] = {1, 1, 1, 0, 0, 0, 0, 0, 0, 0, 0, 0, 0, 0, 0, 0,
+                                    0, 0, 0, 0, 0, 0, 0, 0, 0, 0, 0, 0, 0, 0, 1, 0};
+    static const uint32_t values[] = {71, 72, 143, 0, 0, 0, 0, 0, 0, 0, 0, 0, 0, 0, 0, 0,
+                                      0,  0,  0,   0, 0, 0, 0, 0, 0, 0, 0, 0, 0, 0, 73, 0};
+
+    runs("run", differing, LENGTH(differing), log, 20, 10, 31, 32);
+    answers(BAARQIDHO_OK, 0, 0, 10);
+    wrote(marks, 30, values, 30);
+    runs("run, a clash", differing, LENGTH(differing), log, 22, 11, 33, 34);
+    answers(BAARQIDHO_CLASH, 2, 10, 0);
+    wrote(marks, 32, values, 32);
+    runs("run, all ticks", constant, LENGTH(constant), log, 0, BAARQIDHO_MAX_TICKS, LENGTH(bytes), LENGTH(words));
+    answers(BAARQIDHO_OK, 0, 0, BAARQIDHO_MAX_TICKS);
+    runs("run, too many ticks", constant, LENGTH(constant), log, 0, BAARQIDHO_MAX_TICKS + 1, LENGTH(bytes),
+         LENGTH(words));
+    refuses(BAARQIDHO_TOO_MANY_TICKS, 0);
+    runs("run, log too long", differing, LENGTH(differing), log, 21, 10, 31, 32);
+    refuses(BAARQIDHO_BAD_LOG_LENGTH, 0);
+    runs("run, marks too short", differing, LENGTH(differing), log, 20, 10, 29, 32);
+    refuses(BAARQIDHO_TRACE_TOO_SHORT, 0);
+    runs("run, values too short", differing, LENGTH(differing), log, 20, 10, 31, 29);
+    refuses(BAARQIDHO_TRACE_TOO_SHORT, 0);
+}
+
+static void lists(const char *name, const uint8_t *packed, size_t packed_len, size_t text_len)
+{
+    begin(name);
+    number = baarqidho_listing(packed, packed_len, bytes, text_len, &flow, &tick, &count);
+}
+
+static void all_of_listing(void)
+{
+    static const char text[] = "ok 2\n0 10 0 -\n1 20 0 -\n";
+    static const char refusal[] = "no 12 1\n";
+
+    lists("listing", packed_plan, sizeof packed_plan, BAARQIDHO_LISTING_MAX);
+    answers(BAARQIDHO_OK, 0, 0, sizeof text - 1);
+    wrote((const uint8_t *)text, sizeof text - 1, NULL, 0);
+    lists("listing of a refusal", packed_plan, sizeof packed_plan - 1, BAARQIDHO_LISTING_MAX);
+    answers(BAARQIDHO_OK, 0, 0, sizeof refusal - 1);
+    wrote((const uint8_t *)refusal, sizeof refusal - 1, NULL, 0);
+    lists("listing into too little", packed_plan, sizeof packed_plan, BAARQIDHO_LISTING_MAX - 1);
+    refuses(BAARQIDHO_OUTPUT_TOO_SHORT, 0);
+}
+
+int main(void)
+{
+    all_of_read();
+    all_of_write();
+    all_of_check();
+    all_of_run();
+    all_of_listing();
+    return is_wrong;
+}

@@ -1,0 +1,83 @@
+//! Small plans with whole traces that were worked out by hand.
+
+use tests::compare::{pattern_byte, pattern_word, run, written_up_to, Outcome};
+use tests::implementation::{Parts, ALL};
+use tests::Plan;
+
+/// A trace in writing: ticks parted by `|`, and in each tick the value of every flow, `.` where it is absent and `_`
+/// where its cell is left as it was.
+fn in_writing(outcome: &Outcome, flows: usize, ticks: usize) -> String {
+    let cell = |place: usize| match (outcome.bytes[place], outcome.words[place]) {
+        (1, value) => value.to_string(),
+        (0, 0) => ".".to_string(),
+        cell if cell == (pattern_byte(place), pattern_word(place)) => "_".to_string(),
+        (mark, value) => format!("{mark}:{value}"),
+    };
+    let tick = |tick| (flows * tick..flows * (tick + 1)).map(cell).collect::<Vec<_>>().join(" ");
+    (0..ticks).map(tick).collect::<Vec<_>>().join(" | ")
+}
+
+/// A run over a log, with more room than it needs, gives these parts and this trace, and leaves all behind it.
+fn gives(rows: &[[u32; 4]], log: &[u32], parts: Parts, trace: &str) {
+    let ticks = trace.split('|').count();
+    let cells = ticks * rows.len();
+    let outcome = run(&ALL, &Plan::of(rows), log, ticks as u32, (cells + 2, cells + 1));
+    assert_eq!((outcome.parts, &in_writing(&outcome, rows.len(), ticks)[..]), (parts, trace), "{rows:?}");
+    assert!(written_up_to(&outcome, cells - trace.matches('_').count()), "{rows:?}");
+}
+
+/// A run over a log ends with this trace.
+pub fn ends_with(rows: &[[u32; 4]], log: &[u32], trace: &str) {
+    gives(rows, log, (0, 0, 0, trace.split('|').count() as u32), trace);
+}
+
+/// A run over a log clashes at this tick and flow, and leaves this trace.
+pub fn clashes_with(rows: &[[u32; 4]], log: &[u32], tick: u32, flow: u32, trace: &str) {
+    gives(rows, log, (34, flow, tick, 0), trace);
+}
+
+#[test]
+fn registers() {
+    // A source above the register, so that it counts, and a register that is its own source.
+    let rows = [[0, 1, 0, 0], [7, 0, 0, 2], [2, 0, 1, 0], [7, 8, 0, 3]];
+    ends_with(&rows, &[1, 1, 1], "1 0 1 8 | 1 1 2 8 | 1 2 3 8");
+}
+
+#[test]
+fn head_and_tail() {
+    let log = [20, 21, 22, 23, 24, 25];
+    ends_with(&[[0, 1, 1, 0], [11, 0, 42, 0]], &log, ". 42 | 21 21 | 22 22 | 23 23 | 24 24 | 25 25");
+    ends_with(&[[0, 2, 3, 0], [11, 0, 42, 1]], &log, ". . | . 42 | . . | 23 23 | . . | 25 25");
+    ends_with(&[[0, 2, 0, 0], [12, 0, 0, 0]], &log, "20 . | . . | 22 22 | . . | 24 24 | . .");
+}
+
+#[test]
+fn later() {
+    let rows = [[0, 1, 0, 0], [10, 0, 0, 0], [10, 0, 2, 0], [10, 0, 4095, 0]];
+    ends_with(&rows, &[10, 11, 12], "10 10 . . | 11 11 . . | 12 12 10 .");
+}
+
+#[test]
+fn faster_and_slower() {
+    let log = [10, 11, 12, 13, 14, 15, 16];
+    let rows = [[0, 3, 0, 0], [8, 0, 3, 1], [9, 0, 2, 0]];
+    ends_with(&rows, &log, "10 10 10 | . 10 . | . 10 . | 13 13 . | . 13 . | . 13 . | 16 16 16");
+    ends_with(&[[0, 4095, 0, 0], [8, 0, 3, 1]], &log[..5], "10 10 | . 10 | . 10 | . . | . .");
+}
+
+#[test]
+fn sums_and_comparisons() {
+    let input = [0, 1, 0, 0];
+    let rows = [input, input, [2, 0, 1, 0], [3, 0, 1, 0], [4, 0, 1, 0], [5, 0, 1, 0], [6, 0, 1, 0]];
+    ends_with(
+        &rows,
+        &[0, 1, 4_294_967_295, 1, 7, 7],
+        "0 1 1 4294967295 1 0 1 | 4294967295 1 0 4294967294 0 0 4294967295 | 7 7 14 0 0 1 7",
+    );
+}
+
+#[test]
+fn sources() {
+    ends_with(&[[1, 5, 2, 1]], &[], ". | 5 | . | 5");
+    ends_with(&[[0, 1, 0, 0]], &[1, 2], "1 | 2");
+}
