@@ -5,9 +5,8 @@ ghost use lib.ListN.{length};
 ghost use Rattle.table.specs.Packed.{readAnswer, wordsAfter, writeAnswer, bytesAfter};
 ghost use Rattle.checker.specs.Answers.{checkAnswer, clocksAfter};
 ghost use Rattle.semantics.specs.Answers.{runAnswer, marksAfter, valuesAfter};
-ghost use Rattle.lister.specs.Listing.{textAfter};
-ghost use Rattle.exports.specs.Parts.{Given, listingAnswer};
-use lister::Listed;
+ghost use Rattle.lister.specs.Listing.{listingAnswer, textAfter};
+ghost use Rattle.exports.specs.Parts.{Given};
 use table::Answer;
 
 // Gives an answer's parts out: the number returned, the others through pointers.
@@ -108,9 +107,6 @@ pub extern "C" fn baarqidho_listing(
         r (now (flow .exit)) (now (tick .exit)) (now (count .exit)) ⌝ }
     ensures stored { λ r. ⌜ now (text .exit) ≡ textAfter (now (packed .entry)) (now (text .entry)) ⌝ }
 {
-    let listed = lister::listing(packed, text);
-    match listed {
-        Listed::Bytes(size) => give(Answer::success(size as u32), flow, tick, count),
-        Listed::NoRoom => give(Answer::refusal(10, 0), flow, tick, count),
-    }
+    let answer = lister::parts(lister::listing(packed, text));
+    give(answer, flow, tick, count)
 }

@@ -1,5 +1,4 @@
-mod Laying
-mod Decimal
 mod Lines
 mod Joined
 mod Texts
+pub mod Sizes

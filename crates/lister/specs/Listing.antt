@@ -1,25 +1,22 @@
 -- The listing of a packed table, byte by byte.
-use Prim.Native.Nat.{ℕ, zero, suc, _+_, _*_, _/_, _%_, _≤_}
-use mathlib.Core.Bool.{Bool, true, false, cond}
+use Prim.Native.Nat.{ℕ, suc, _+_, _*_}
+use mathlib.Core.Bool.{Bool, true, false}
 use mathlib.Core.List.{List, [], _∷_, _++_}
 use lib.ListN.{length}
-use lib.Dec.{ltb, leb}
-use Rattle.table.specs.Answers.{Result, good, refused, then, number, over}
+use lib.Dec.{leb}
+use Rattle.text.specs.Text.{lineFeed, space, decimal}
+use Rattle.table.specs.declared.Answer.{Answer}
+use Rattle.table.specs.Answers.{Result, good, refused, unless, then, number, noRoom, success, refusal, answer, leaves}
 use Rattle.table.specs.Rows.{maxFlows}
 use Rattle.table.specs.Plain.{joined}
 use Rattle.table.specs.Packed.{unpacked}
 use Rattle.checker.specs.Clocks.{Condition, Clock}
-use Rattle.checker.specs.Answers.{checking}
+use Rattle.checker.specs.Rules.{maxConditions}
+use Rattle.checker.specs.Answers.{clockSize, checking}
 use Rattle.lister.specs.declared.Listed.{Listed}
 use Rattle.lister.specs.declared.Listed.the-variants.{Bytes, NoRoom}
 
--- ASCII: line feed, space, plus, minus, c
-abbrev pub lineFeed : ℕ
-lineFeed = 10
-
-abbrev pub space : ℕ
-space = 32
-
+-- ASCII: plus, minus, c
 abbrev pub plus : ℕ
 plus = 43
 
@@ -35,18 +32,6 @@ okay = 111 ∷ 107 ∷ space ∷ []
 
 abbrev pub no : List ℕ
 no = 110 ∷ 111 ∷ space ∷ []
-
-abbrev pub digit : ℕ → ℕ
-digit n = 48 + n
-
--- at most k decimal digits of n, the leading ones not 0
-unfoldable pub digitsIn : ℕ → ℕ → List ℕ
-digitsIn zero n = []
-digitsIn (suc k) n = cond (ltb n 10) (digit n ∷ []) (digitsIn k (n / 10) ++ (digit (n % 10) ∷ []))
-
--- n in decimal: it has at most n + 1 digits
-unfoldable pub decimal : ℕ → List ℕ
-decimal n = digitsIn (suc n) n
 
 -- a number and a space
 abbrev pub field : ℕ → List ℕ
@@ -90,28 +75,31 @@ resultText (refused why f) = refusalText (number why) f
 
 -- what reading and then the check come to, with room for the clocks of any table
 unfoldable pub checked : List ℕ → Result (List Clock)
-checked packed = then (unpacked packed) λ ws. checking (length ws) (joined ws) (7 * maxFlows)
+checked packed = then (unpacked packed) λ ws. checking (length ws) (joined ws) (clockSize * maxFlows)
 
 unfoldable pub listingOf : List ℕ → List ℕ
 listingOf packed = resultText (checked packed)
 
--- Room for every listing: `ok 64` and its line feed, and 64 lines of at most 30 bytes, such as
+-- Room for every listing: `ok 64` and its line feed, and a line for each flow. The longest line is one such as
 -- `63 4095 4095 c10+c11-c12+c13-` and its line feed.
+abbrev pub longestLine : ℕ
+longestLine = 14 + 4 * maxConditions
+
 abbrev pub longest : ℕ
-longest = 1926
+longest = 6 + longestLine * maxFlows
 
--- What the listing answers with so much room, and leaves in the buffer.
-abbrev pub listed : List ℕ → ℕ → Listed
-listed packed room = fits (leb longest room)
-  where
-    fits : Bool → Listed
-    fits true = Bytes (length (listingOf packed))
-    fits false = NoRoom
+-- what the listing comes to where there is room for so many bytes
+unfoldable pub listing : List ℕ → ℕ → Result (List ℕ)
+listing packed room = unless (leb longest room) noRoom 0 (good (listingOf packed))
 
--- no listing is longer than the longest
-abbrev pub Short : Listed → Type 0
-Short (Bytes n) = n ≤ longest
-Short NoRoom = Unit {0}
+-- the four parts of each case of what the listing answers
+abbrev pub parts : Listed → Answer
+parts (Bytes n) = success n
+parts NoRoom = refusal noRoom 0
+
+-- What it answers, and leaves in the lent text.
+abbrev pub listingAnswer : List ℕ → ℕ → Answer
+listingAnswer packed room = answer length (listing packed room)
 
 abbrev pub textAfter : List ℕ → List ℕ → List ℕ
-textAfter packed old = cond (leb longest (length old)) (over (listingOf packed) old) old
+textAfter packed old = leaves (λ bs. bs) (listing packed (length old)) old

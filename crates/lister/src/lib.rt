@@ -1,38 +1,39 @@
 // The listing of a packed table, as text.
 ghost use mathlib.Core.Path.{_≡_};
 ghost use mathlib.Core.List.{[], _∷_};
-ghost use Prim.Native.Nat.{_+_, _*_, _%_, _≤_};
+ghost use Prim.Native.Nat.{_*_, _%_, _≤_, _<_};
 ghost use lib.ListN.{length, drop};
 ghost use lib.Dec.{eqb};
-ghost use Rattle.lister.specs.Listing.{decimal, field, space, sign, refusalText, checked, listed, textAfter, Short};
+ghost use Rattle.text.specs.Text.{space, Wrote};
 ghost use Rattle.table.specs.Answers.{answer, leaves};
-ghost use Rattle.checker.specs.Answers.{clocksWords};
-ghost use Rattle.lister.specs.Private.Words.{Wrote, wordText, wordsText, countedText, sevenText, sevensText, tableText};
+ghost use Rattle.table.specs.Rows.{maxFlows};
+ghost use Rattle.checker.specs.Answers.{clockSize, clocksWords};
+ghost use Rattle.lister.specs.Listing.{field, sign, refusalText, checked, longest, parts, listingAnswer, textAfter};
+ghost use Rattle.lister.specs.Private.Words.{wordText, wordsText, countedText, clockText, clocksText, tableText};
 use table::Answer;
 use table::Reading;
 use table::word_at;
+use text::put;
+use text::put_decimal;
 
-// Room for every listing: six bytes, and 64 lines of at most 30.
-pub const LONGEST: usize = 1926;
+// The words of a row and of a clock, and the most flows of a table.
+const ROW_SIZE: usize = 4;
+
+const CLOCK_SIZE: usize = 7;
+
+const MAX_FLOWS: usize = 64;
+
+// Room for every listing: six bytes, and a line of at most 30 for each flow.
+pub const LONGEST: usize = 6 + 30 * MAX_FLOWS;
 
 // What the listing answers: how many bytes it wrote, or that the text has too little room.
 pub enum Listed {
-    Bytes(usize),
+    Bytes(u32),
     NoRoom,
-}
-
-// Writes a byte, and answers the place after it.
-fn put(text: &mut [u8], at: usize, byte: u8) -> usize
-    requires { ⌜ at + 1 ≤ length (now text) ⌝ }
-    ensures { λ r. ⌜ Wrote at (byte ∷ []) (now (text .entry)) r (now (text .exit)) ⌝ }
-{
-    text[at] = byte;
-    at + 1
 }
 
 // Writes two letters and a space.
 fn put_tag(text: &mut [u8], at: usize, first: u8, second: u8) -> usize
-    requires { ⌜ at + 3 ≤ length (now text) ⌝ }
     ensures { λ r. ⌜ Wrote at (first ∷ second ∷ space ∷ []) (now (text .entry)) r (now (text .exit)) ⌝ }
 {
     let next = put(text, at, first);
@@ -40,21 +41,8 @@ fn put_tag(text: &mut [u8], at: usize, first: u8, second: u8) -> usize
     put(text, last, b' ')
 }
 
-// Writes a number in decimal.
-fn put_decimal(text: &mut [u8], at: usize, n: u32) -> usize
-    requires { ⌜ at + length (decimal n) ≤ length (now text) ⌝ }
-    ensures { λ r. ⌜ Wrote at (decimal n) (now (text .entry)) r (now (text .exit)) ⌝ }
-{
-    if n < 10 {
-        return put(text, at, 48 + (n as u8));
-    }
-    let next = put_decimal(text, at, n / 10);
-    put(text, next, 48 + ((n % 10) as u8))
-}
-
 // Writes a number and a space.
 fn put_field(text: &mut [u8], at: usize, n: u32) -> usize
-    requires { ⌜ at + length (field n) ≤ length (now text) ⌝ }
     ensures { λ r. ⌜ Wrote at (field n) (now (text .entry)) r (now (text .exit)) ⌝ }
 {
     let next = put_decimal(text, at, n);
@@ -70,7 +58,6 @@ fn sign(word: u32) -> u8
 
 // Writes a condition by its word.
 fn put_condition(text: &mut [u8], at: usize, word: u32) -> usize
-    requires { ⌜ at + length (wordText word) ≤ length (now text) ⌝ }
     ensures { λ r. ⌜ Wrote at (wordText word) (now (text .entry)) r (now (text .exit)) ⌝ }
 {
     let next = put(text, at, b'c');
@@ -80,7 +67,7 @@ fn put_condition(text: &mut [u8], at: usize, word: u32) -> usize
 
 // Writes n conditions, of which the words stand from a place on.
 fn put_words(text: &mut [u8], at: usize, words: &[u32], from: usize, n: u32) -> usize
-    requires { ⌜ (from ≤ 448) × (at + length (wordsText n (drop from (now words))) ≤ length (now text)) ⌝ }
+    requires { ⌜ from ≤ clockSize * maxFlows ⌝ }
     ensures { λ r. ⌜ Wrote at (wordsText n (drop from (now (words .entry)))) (now (text .entry)) r (now (text .exit)) ⌝ }
 {
     let mut next = at;
@@ -95,7 +82,7 @@ fn put_words(text: &mut [u8], at: usize, words: &[u32], from: usize, n: u32) -> 
 
 // Writes n conditions, or a lone minus where there are none.
 fn put_conditions(text: &mut [u8], at: usize, words: &[u32], from: usize, n: u32) -> usize
-    requires { ⌜ (from ≤ 448) × (at + length (countedText n (drop from (now words))) ≤ length (now text)) ⌝ }
+    requires { ⌜ from ≤ clockSize * maxFlows ⌝ }
     ensures { λ r. ⌜ Wrote at (countedText n (drop from (now (words .entry)))) (now (text .entry)) r (now (text .exit)) ⌝ }
 {
     if n == 0 {
@@ -106,10 +93,10 @@ fn put_conditions(text: &mut [u8], at: usize, words: &[u32], from: usize, n: u32
 
 // Writes the line of flow f.
 fn put_line(text: &mut [u8], at: usize, words: &[u32], f: u32) -> usize
-    requires { ⌜ (f ≤ 63) × (at + length (sevenText f (drop (7 * f) (now words))) ≤ length (now text)) ⌝ }
-    ensures { λ r. ⌜ Wrote at (sevenText f (drop (7 * f) (now (words .entry)))) (now (text .entry)) r (now (text .exit)) ⌝ }
+    requires { ⌜ f < maxFlows ⌝ }
+    ensures { λ r. ⌜ Wrote at (clockText f (drop (clockSize * f) (now (words .entry)))) (now (text .entry)) r (now (text .exit)) ⌝ }
 {
-    let from = 7 * (f as usize);
+    let from = CLOCK_SIZE * (f as usize);
     let period = word_at(words, from);
     let phase = word_at(words, from + 1);
     let n = word_at(words, from + 2);
@@ -122,8 +109,8 @@ fn put_line(text: &mut [u8], at: usize, words: &[u32], f: u32) -> usize
 
 // Writes a line for each of n flows.
 fn put_lines(text: &mut [u8], at: usize, words: &[u32], n: u32) -> usize
-    requires { ⌜ (n ≤ 64) × (at + length (sevensText n 0 (now words)) ≤ length (now text)) ⌝ }
-    ensures { λ r. ⌜ Wrote at (sevensText n 0 (now (words .entry))) (now (text .entry)) r (now (text .exit)) ⌝ }
+    requires { ⌜ n ≤ maxFlows ⌝ }
+    ensures { λ r. ⌜ Wrote at (clocksText n 0 (now (words .entry))) (now (text .entry)) r (now (text .exit)) ⌝ }
 {
     let mut next = at;
     let mut f: u32 = 0;
@@ -136,7 +123,7 @@ fn put_lines(text: &mut [u8], at: usize, words: &[u32], n: u32) -> usize
 
 // Writes the listing of a table that was accepted.
 fn put_table(text: &mut [u8], words: &[u32], n: u32) -> usize
-    requires { ⌜ (n ≤ 64) × (length (tableText n (now words)) ≤ length (now text)) ⌝ }
+    requires { ⌜ n ≤ maxFlows ⌝ }
     ensures { λ r. ⌜ Wrote 0 (tableText n (now (words .entry))) (now (text .entry)) r (now (text .exit)) ⌝ }
 {
     let tagged = put_tag(text, 0, b'o', b'k');
@@ -147,9 +134,8 @@ fn put_table(text: &mut [u8], words: &[u32], n: u32) -> usize
 
 // Writes the one line of a refusal.
 fn put_refusal(text: &mut [u8], number: u32, flow: u32) -> usize
-    requires { ⌜ 32 ≤ length (now text) ⌝ }
     ensures { λ r. ⌜ Wrote 0 (refusalText number flow) (now (text .entry)) r (now (text .exit)) ⌝ }
-    ensures { λ r. ⌜ r ≤ 25 ⌝ }
+    ensures { λ _. ⌜ length (refusalText number flow) ≤ longest ⌝ }
 {
     let tagged = put_tag(text, 0, b'n', b'o');
     let numbered = put_field(text, tagged, number);
@@ -159,32 +145,43 @@ fn put_refusal(text: &mut [u8], number: u32, flow: u32) -> usize
 
 // Reads a packed table, stops where that fails, and checks the table.
 fn checked(packed: &[u8], clocks: &mut [u32]) -> Answer
-    requires { ⌜ length (now clocks) ≡ 448 ⌝ }
+    requires { ⌜ length (now clocks) ≡ clockSize * maxFlows ⌝ }
     ensures { λ r. ⌜ r ≡ answer length (checked (now (packed .entry))) ⌝ }
     ensures { λ _. ⌜ now (clocks .exit) ≡ leaves clocksWords (checked (now (packed .entry))) (now (clocks .entry)) ⌝ }
 {
-    let mut words = [0u32; 256];
+    let mut words = [0u32; ROW_SIZE * MAX_FLOWS];
     let reading = table::read(packed, &mut words);
     let Reading::Table { count } = reading else {
         return table::parts(reading);
     };
-    let size = 4 * (count as usize);
+    let size = ROW_SIZE * (count as usize);
     checker::check(count, &words[..size], clocks)
 }
 
 // The listing of a packed table: its clocks, or the one line of a refusal by reading or by the check.
 pub fn listing(packed: &[u8], text: &mut [u8]) -> Listed
-    ensures answered { λ r. ⌜ r ≡ listed (now (packed .entry)) (length (now (text .entry))) ⌝ }
-    ensures written { λ _. ⌜ now (text .exit) ≡ textAfter (now (packed .entry)) (now (text .entry)) ⌝ }
-    ensures short { λ r. ⌜ Short r ⌝ }
+    ensures answered { λ r. ⌜ parts r ≡ listingAnswer (now (packed .entry)) (length (now (text .entry))) ⌝ }
+    ensures stored { λ r. ⌜ now (text .exit) ≡ textAfter (now (packed .entry)) (now (text .entry)) ⌝ }
 {
     if text.len() < LONGEST {
         return Listed::NoRoom;
     }
-    let mut clocks = [0u32; 448];
+    let mut clocks = [0u32; CLOCK_SIZE * MAX_FLOWS];
     let answer = checked(packed, &mut clocks);
     if answer.number != 0 {
-        return Listed::Bytes(put_refusal(text, answer.number, answer.flow));
+        let refused = put_refusal(text, answer.number, answer.flow);
+        return Listed::Bytes(refused as u32);
     }
-    Listed::Bytes(put_table(text, &clocks, answer.count))
+    let accepted = put_table(text, &clocks, answer.count);
+    Listed::Bytes(accepted as u32)
+}
+
+// The four parts of what the listing answers.
+pub fn parts(listed: Listed) -> Answer
+    ensures { λ r. ⌜ r ≡ parts listed ⌝ }
+{
+    match listed {
+        Listed::Bytes(size) => Answer::success(size),
+        Listed::NoRoom => Answer::refusal(10, 0),
+    }
 }

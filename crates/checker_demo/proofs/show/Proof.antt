@@ -1,12 +1,12 @@
--- `checker_demo::show` meets its contract. Assumes nothing.
-use mathlib.Core.Path.{sym}
-use Prim.Native.Nat.{_≤_}
-use native.Mathlib.Omega.{arith}
-use lib.Seq.{length-take-le}
-use lib.ListN.{length}
+-- `checker_demo::show` meets its contract. A listing is no longer than the text that it is written into. Assumes nothing.
+use mathlib.Core.Path.{sym, _∙_, ap}
+use lib.ListN.{replicate}
+use denote.Ref.{now}
 use borrow.Author.Needs.{needs}
 use Rattle.checker_demo.proofs.show.Statement.{statement}
 use Rattle.checker_demo.proofs.show.Tie as tie
+use Rattle.lister.specs.Listing.{longest, parts}
+use Rattle.lister.proofs.Sizes.{size-fits}
 
 slice-aggregate-listing : tie.Need-slice-aggregate-listing
 slice-aggregate-listing c = search needs
@@ -23,23 +23,28 @@ enum-told c = search needs
 returns : tie.Need-returns
 returns c = search needs
 
-returns-2 : tie.Need-returns-2
-returns-2 c = search needs
+cast-end : tie.Need-cast-end
+cast-end c = search needs
 
 array-share-prefix-text : tie.Need-array-share-prefix-text
-array-share-prefix-text c = search needs
+array-share-prefix-text c =
+    let given = c .before .listed .given .1 in
+    let before = c .before .before .before .before in
+    let l = before .listing .ensures in
+    size-fits (now (before .before .before .before .args .packed)) (replicate longest 0) (ap parts (sym given) ∙ l .0) (l .1) .0
 
 slice-aggregate-write-all : tie.Need-slice-aggregate-write-all
-slice-aggregate-write-all c = let g = c .before .before .before .listed .given in
-    let l = c .before .before .before .before .before .before .listing in
-    let h : g .0 .0 ≤ length (l .last .1 .0) = omega (arith, l .kept .1 .0) in
-    sym (length-take-le (g .0 .0) (l .last .1 .0) h)
+slice-aggregate-write-all c =
+    let given = c .before .before .listed .given .1 in
+    let before = c .before .before .before .before .before in
+    let l = before .listing .ensures in
+    size-fits (now (before .before .before .before .args .packed)) (replicate longest 0) (ap parts (sym given) ∙ l .0) (l .1) .1
 
 write-all-requires : tie.Need-write-all-requires
 write-all-requires c κs = search needs
 
-returns-3 : tie.Need-returns-3
-returns-3 c = search needs
+returns-2 : tie.Need-returns-2
+returns-2 c = search needs
 
 pub show-spec : {M : Type 1} → statement M
 show-spec =
@@ -50,8 +55,8 @@ show-spec =
     enum-known-listed
     enum-told
     returns
-    returns-2
+    cast-end
     array-share-prefix-text
     slice-aggregate-write-all
     write-all-requires
-    returns-3)
+    returns-2)

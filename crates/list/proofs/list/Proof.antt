@@ -1,11 +1,10 @@
--- `list::list` meets its contract: a listing is no longer than the text that it is written into. Assumes nothing.
-use mathlib.Core.Path.{sym, subst}
-use Prim.Native.Nat.{_≤_}
-use native.Mathlib.Omega.{arith}
-use lib.Seq.{length-take-le}
-use lib.ListN.{length}
+-- `list::list` meets its contract. A listing is no longer than the text that it is written into. Assumes nothing.
+use mathlib.Core.Path.{sym, _∙_, ap}
+use lib.ListN.{replicate}
+use denote.Ref.{now}
 use borrow.Author.Needs.{needs}
-use Rattle.lister.specs.Listing.{longest, Short}
+use Rattle.lister.specs.Listing.{longest, parts}
+use Rattle.lister.proofs.Sizes.{size-fits}
 use Rattle.list.proofs.list.Statement.{statement}
 use Rattle.list.proofs.list.Tie as tie
 
@@ -24,21 +23,22 @@ enum-told c = search needs
 returns : tie.Need-returns
 returns c = search needs
 
+cast-end : tie.Need-cast-end
+cast-end c = search needs
+
 array-share-prefix-text : tie.Need-array-share-prefix-text
 array-share-prefix-text c =
-    let g = c .before .listed .given in
-    let l = c .before .before .before .before .listing in
-    let s : g .0 .0 ≤ longest = subst Short (g .1) (l .ensures .1 .1) in
-    let h : g .0 .0 ≤ length (l .last .1 .0) = omega (arith, l .kept .1 .0) in
-    h
+    let given = c .before .listed .given .1 in
+    let before = c .before .before .before .before in
+    let l = before .listing .ensures in
+    size-fits (now (before .before .before .before .args .packed)) (replicate longest 0) (ap parts (sym given) ∙ l .0) (l .1) .0
 
 slice-aggregate-write-all : tie.Need-slice-aggregate-write-all
 slice-aggregate-write-all c =
-    let g = c .before .before .listed .given in
-    let l = c .before .before .before .before .before .listing in
-    let s : g .0 .0 ≤ longest = subst Short (g .1) (l .ensures .1 .1) in
-    let h : g .0 .0 ≤ length (l .last .1 .0) = omega (arith, l .kept .1 .0) in
-    sym (length-take-le (g .0 .0) (l .last .1 .0) h)
+    let given = c .before .before .listed .given .1 in
+    let before = c .before .before .before .before .before in
+    let l = before .listing .ensures in
+    size-fits (now (before .before .before .before .args .packed)) (replicate longest 0) (ap parts (sym given) ∙ l .0) (l .1) .1
 
 write-all-requires : tie.Need-write-all-requires
 write-all-requires c κs = search needs
@@ -64,6 +64,7 @@ list-spec =
     enum-known-listed
     enum-told
     returns
+    cast-end
     array-share-prefix-text
     slice-aggregate-write-all
     write-all-requires

@@ -8,9 +8,10 @@ use lib.Seq.{length-take-le}
 use denote.Ref.{now}
 use borrow.Author.Needs.{needs}
 use Rattle.table.specs.Answers.{refused, answer, leaves, parts, refusal}
-use Rattle.lister.specs.Listing.{checked}
-use Rattle.checker.specs.Answers.{clocksWords}
+use Rattle.table.specs.Rows.{maxFlows}
 use Rattle.table.proofs.ReadLaws.{opened}
+use Rattle.checker.specs.Answers.{clocksWords}
+use Rattle.lister.specs.Listing.{checked}
 use Rattle.lister.proofs.Joined.{reading-whole, read-table, read-refused, checked-refused, checked-words}
 use Rattle.lister.proofs.checked.Statement.{statement}
 use Rattle.lister.proofs.checked.Tie as tie
@@ -31,10 +32,11 @@ parts-requires : tie.Need-parts-requires
 parts-requires c κs = search needs
 
 returns : tie.Need-returns
-returns c = let a = c .before .before .before .before .before .before .before .before .args in
-    let bs : List ℕ = now (a .packed) in
-    let old : List ℕ = now (a .clocks) in
-    let r = c .before .before .before .before .read in
+returns c =
+    let before = c .before .before .before .before in
+    let start = before .before .before .before .before in
+    let bs : List ℕ = now (start .args .packed) in
+    let r = before .read in
     let g = c .before .enum-told .given in
     let x = read-refused bs (g .0 .0) (g .0 .1 .0) (ap parts (sym (g .1)) ∙ r .ensures .0) in
     let e : checked bs ≡ refused (x .0) (x .1) = checked-refused bs (x .0) (x .1) (x .2) in
@@ -48,16 +50,22 @@ mul-size : tie.Need-mul-size
 mul-size c = search needs
 
 array-share-prefix-words : tie.Need-array-share-prefix-words
-array-share-prefix-words c = let r = c .before .before .before .before .read in
+array-share-prefix-words c =
+    let before = c .before .before .before .before in
+    let r = before .read in
     let g = c .before .reading .given in
-    let x = read-table (now (c .before .before .before .before .before .before .before .before .args .packed)) (g .0 .0) (ap parts (sym (g .1)) ∙ r .ensures .0) in
-    omega (arith, r .kept .1 .0, x .2, opened (now (c .before .before .before .before .before .before .before .before .args .packed)) (x .0) (x .1) .few)
+    let bs : List ℕ = now (before .before .before .before .before .args .packed) in
+    let x = read-table bs (g .0 .0) (ap parts (sym (g .1)) ∙ r .ensures .0) in
+    omega (arith, r .kept .1 .0, x .2, opened bs (x .0) (x .1) .few)
 
 slice-aggregate-check : tie.Need-slice-aggregate-check
-slice-aggregate-check c = let r = c .before .before .before .before .before .read in
+slice-aggregate-check c =
+    let before = c .before .before .before .before .before in
+    let r = before .read in
     let g = c .before .before .reading .given in
-    let x = read-table (now (c .before .before .before .before .before .before .before .before .before .args .packed)) (g .0 .0) (ap parts (sym (g .1)) ∙ r .ensures .0) in
-    let h : 4 * g .0 .0 ≤ length (r .last .1 .0) = omega (arith, r .kept .1 .0, x .2, opened (now (c .before .before .before .before .before .before .before .before .before .args .packed)) (x .0) (x .1) .few) in
+    let bs : List ℕ = now (before .before .before .before .before .args .packed) in
+    let x = read-table bs (g .0 .0) (ap parts (sym (g .1)) ∙ r .ensures .0) in
+    let h : 4 * g .0 .0 ≤ length (r .last .1 .0) = omega (arith, r .kept .1 .0, x .2, opened bs (x .0) (x .1) .few) in
     sym (length-take-le (4 * g .0 .0) (r .last .1 .0) h)
 
 check-requires : tie.Need-check-requires
@@ -67,14 +75,17 @@ same-length : tie.Need-same-length
 same-length c = search needs
 
 returns-2 : tie.Need-returns-2
-returns-2 c = let r = c .before .before .before .before .before .before .before .before .before .read in
+returns-2 c =
+    let before = c .before .before .before .before .before .before .before .before .before in
+    let start = before .before .before .before .before in
+    let r = before .read in
     let g = c .before .before .before .before .before .before .reading .given in
-    let a = c .before .before .before .before .before .before .before .before .before .before .before .before .before .args in
-    let bs : List ℕ = now (a .packed) in
+    let bs : List ℕ = now (start .args .packed) in
+    let old : List ℕ = now (start .args .clocks) in
     let k = c .before .before .check in
     let x = read-table bs (g .0 .0) (ap parts (sym (g .1)) ∙ r .ensures .0) in
-    let e = checked-words bs (replicate 256 0) (r .last .1 .0) (x .0) (g .0 .0) (length (now (a .clocks))) (x .1) (x .2) refl (c .before .before .before .before .before .before .before .before .before .before .before .before .before .pre) (r .ensures .1) in
-    (k .ensures .0 ∙ ap (answer length) e, k .ensures .1 ∙ ap (λ z. leaves clocksWords z (now (a .clocks))) e)
+    let e = checked-words bs (replicate (4 * maxFlows) 0) (x .0) (length old) (x .1) (x .2) refl (start .pre) (r .ensures .1) in
+    (k .ensures .0 ∙ ap (answer length) e, k .ensures .1 ∙ ap (λ z. leaves clocksWords z old) e)
 
 pub checked-spec : {M : Type 1} → statement M
 checked-spec =

@@ -1,22 +1,18 @@
 -- `lister::listing` meets its contract. Assumes nothing.
-use mathlib.Core.Path.{ap₂, sym, _∙_, ap}
-use mathlib.Core.List.{List}
-use Prim.Native.Nat.{ℕ}
+use Prim.Native.Nat.{_*_}
 use native.Mathlib.Omega.{arith}
-use lib.ListN.{length}
+use lib.ListN.{replicate}
 use denote.Ref.{now}
 use borrow.Author.Needs.{needs}
-use Rattle.table.specs.Answers.{answer}
-use Rattle.lister.specs.Listing.{checked, refusalText}
-use Rattle.table.proofs.AnswerLaws.{answer-zero, answer-other}
-use Rattle.lister.proofs.Texts.{listing-refused, listing-table, no-room, all-room}
+use Rattle.text.proofs.Writing.{no-further}
+use Rattle.table.specs.Rows.{maxFlows}
+use Rattle.checker.specs.Answers.{clockSize}
+use Rattle.lister.proofs.Texts.{refusal-listed, table-listed, no-room, all-room}
 use Rattle.lister.proofs.listing.Statement.{statement}
 use Rattle.lister.proofs.listing.Tie as tie
 
 returns : tie.Need-returns
-returns c =
-    let x = no-room (now (c .before .before .before .args .packed)) (now (c .before .before .before .args .text)) (c .if1 .taken) in
-    (x .0, (x .1, tt))
+returns c = no-room _ _ (c .if1 .taken)
 
 slice-aggregate-checked : tie.Need-slice-aggregate-checked
 slice-aggregate-checked c = search needs
@@ -27,46 +23,55 @@ checked-requires c κs = search needs
 put-refusal-requires : tie.Need-put-refusal-requires
 put-refusal-requires c κs = search needs
 
+cast-t13 : tie.Need-cast-t13
+cast-t13 c =
+    let w = c .before .before .put-refusal .ensures in
+    omega (arith, no-further (w .0), w .1)
+
 same-length : tie.Need-same-length
 same-length c = search needs
 
 returns-2 : tie.Need-returns-2
-returns-2 c = let a = c .before .before .before .before .before .before .before .before .before .before .before .before .args in
-    let bs : List ℕ = now (a .packed) in
-    let old : List ℕ = now (a .text) in
-    let k = c .before .before .before .before .before .before .before .checked in
-    let x = answer-other length (checked bs) (λ z. c .before .before .before .before .if2 .taken (ap (λ w. w .number) (k .ensures .0) ∙ z)) in
-    let q = k .ensures .0 ∙ ap (answer length) (x .2) in
-    let e = ap₂ refusalText (ap (λ w. w .number) q) (ap (λ w. w .flow) q) ∙ sym (listing-refused bs (x .0) (x .1) (x .2)) in
-    let y = all-room bs old _ _ _ (c .before .before .before .before .before .before .before .before .before .if1 .left) e (c .before .before .put-refusal .ensures .0) in
-    (y .0, (y .1, omega (arith, c .before .before .put-refusal .ensures .1)))
+returns-2 c =
+    let w = c .before .before .put-refusal .ensures in
+    let test = c .before .before .before .before in
+    let k = test .before .before .before .checked in
+    let entry = test .before .before .before .before .before in
+    let bs = now (entry .before .before .before .args .packed) in
+    all-room bs (entry .if1 .left) (w .1) (refusal-listed bs (k .result) (k .ensures .0) (test .if2 .taken)) (w .0)
 
 slice-aggregate-put-table : tie.Need-slice-aggregate-put-table
 slice-aggregate-put-table c = search needs
 
 put-table-requires : tie.Need-put-table-requires
-put-table-requires c κs = let a = c .before .before .before .before .before .before .before .before .before .before .args in
-    let bs : List ℕ = now (a .packed) in
-    let old : List ℕ = now (a .text) in
-    let k = c .before .before .before .before .before .checked in
-    let z = answer-zero length (checked bs) (ap (λ w. w .number) (sym (k .ensures .0)) ∙ c .before .before .if2 .left) in
-    let n = ap (λ w. w .count) (k .ensures .0 ∙ ap (answer length) (z .1)) in
-    let t = listing-table bs (z .0) (k .result .count) _ (k .last .1 .0) (z .1) n (k .ensures .1) in
-    (t .0, omega (arith, t .1, c .before .before .before .before .before .before .before .if1 .left))
+put-table-requires c κs =
+    let test = c .before .before in
+    let k = test .before .before .before .checked in
+    let entry = test .before .before .before .before .before in
+    let bs = now (entry .before .before .before .args .packed) in
+    let t = table-listed bs (k .result) (k .ensures .0) (replicate (clockSize * maxFlows) 0) (k .last .1 .0) (test .if2 .left) (k .ensures .1) in
+    t .0
+
+cast-t18 : tie.Need-cast-t18
+cast-t18 c =
+    let test = c .before .before .before .before .before in
+    let k = test .before .before .before .checked in
+    let entry = test .before .before .before .before .before in
+    let bs = now (entry .before .before .before .args .packed) in
+    let t = table-listed bs (k .result) (k .ensures .0) (replicate (clockSize * maxFlows) 0) (k .last .1 .0) (test .if2 .left) (k .ensures .1) in
+    omega (arith, no-further (c .before .before .put-table .ensures), t .1)
 
 same-length-2 : tie.Need-same-length-2
 same-length-2 c = search needs
 
 returns-3 : tie.Need-returns-3
-returns-3 c = let a = c .before .before .before .before .before .before .before .before .before .before .before .before .before .args in
-    let bs : List ℕ = now (a .packed) in
-    let old : List ℕ = now (a .text) in
-    let k = c .before .before .before .before .before .before .before .before .checked in
-    let z = answer-zero length (checked bs) (ap (λ w. w .number) (sym (k .ensures .0)) ∙ c .before .before .before .before .before .if2 .left) in
-    let n = ap (λ w. w .count) (k .ensures .0 ∙ ap (answer length) (z .1)) in
-    let t = listing-table bs (z .0) (k .result .count) _ (k .last .1 .0) (z .1) n (k .ensures .1) in
-    let y = all-room bs old _ _ _ (c .before .before .before .before .before .before .before .before .before .before .if1 .left) (t .2) (c .before .before .put-table .ensures) in
-    (y .0, (y .1, omega (arith, t .1, c .before .before .put-table .ensures .0)))
+returns-3 c =
+    let test = c .before .before .before .before .before in
+    let k = test .before .before .before .checked in
+    let entry = test .before .before .before .before .before in
+    let bs = now (entry .before .before .before .args .packed) in
+    let t = table-listed bs (k .result) (k .ensures .0) (replicate (clockSize * maxFlows) 0) (k .last .1 .0) (test .if2 .left) (k .ensures .1) in
+    all-room bs (entry .if1 .left) (t .1) (t .2) (c .before .before .put-table .ensures)
 
 pub listing-spec : {M : Type 1} → statement M
 listing-spec =
@@ -76,9 +81,11 @@ listing-spec =
     slice-aggregate-checked
     checked-requires
     put-refusal-requires
+    cast-t13
     same-length
     returns-2
     slice-aggregate-put-table
     put-table-requires
+    cast-t18
     same-length-2
     returns-3)

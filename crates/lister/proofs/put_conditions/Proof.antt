@@ -6,26 +6,24 @@ use Rattle.lister.proofs.put_conditions.Statement.{statement}
 use Rattle.lister.proofs.put_conditions.Tie as tie
 
 put-requires : tie.Need-put-requires
-unfolding countedText
-put-requires c κs = let e = eq-eqb (c .before .before .before .before .args .n) 0 (c .before .if1 .taken) in rw e at (c .before .before .before .before .pre .1)
+put-requires c κs = search needs
 
 same-length : tie.Need-same-length
 same-length c = search needs
 
 returns : tie.Need-returns
 unfolding countedText
-returns c = let e = eq-eqb (c .before .before .before .before .before .before .before .args .n) 0 (c .before .before .before .before .if1 .taken) in rw e (c .before .before .put .ensures)
+returns c = rw (eq-eqb (c .before .before .before .before .before .before .before .args .n) 0 (c .before .before .before .before .if1 .taken)) (c .before .before .put .ensures)
 
 put-words-requires : tie.Need-put-words-requires
-unfolding countedText
-put-words-requires c κs = let e = ne-eqb (c .before .before .before .before .args .n) 0 (c .before .if1 .left) in (c .before .before .before .before .pre .0, rw e at (c .before .before .before .before .pre .1))
+put-words-requires c κs = search needs
 
 same-length-2 : tie.Need-same-length-2
 same-length-2 c = search needs
 
 returns-2 : tie.Need-returns-2
 unfolding countedText
-returns-2 c = let e = ne-eqb (c .before .before .before .before .before .before .before .args .n) 0 (c .before .before .before .before .if1 .left) in rw e (c .before .before .put-words .ensures)
+returns-2 c = rw (ne-eqb (c .before .before .before .before .before .before .before .args .n) 0 (c .before .before .before .before .if1 .left)) (c .before .before .put-words .ensures)
 
 pub put-conditions-spec : {M : Type 1} → statement M
 put-conditions-spec =

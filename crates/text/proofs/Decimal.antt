@@ -7,7 +7,7 @@ use mathlib.Core.List.{List, [], _∷_, _++_}
 use lib.ListN.{length, length-append}
 use lib.Dec.{ltb}
 use borrow.Author.Tests.{ltb-true, ltb-false, lt-ltb, le-ltb}
-use Rattle.lister.specs.Listing.{digit, digitsIn, decimal}
+use Rattle.text.specs.Text.{digit, digitsIn, decimal}
 
 digits-more : (k n : ℕ) → 10 ≤ n → digitsIn (suc k) n ≡ digitsIn k (n / 10) ++ (digit (n % 10) ∷ [])
 unfolding digitsIn
