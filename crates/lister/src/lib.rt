@@ -10,18 +10,16 @@ ghost use Rattle.table.specs.Rows.{maxFlows};
 ghost use Rattle.checker.specs.Answers.{clockSize, clocksWords};
 ghost use Rattle.lister.specs.Listing.{field, sign, refusalText, checked, longest, parts, listingAnswer, textAfter};
 ghost use Rattle.lister.specs.Private.Words.{wordText, wordsText, countedText, clockText, clocksText, tableText};
+use checker::CLOCK_SIZE;
+use checker::CLOCKS;
 use table::Answer;
+use table::ROW_SIZE;
 use table::Reading;
 use table::word_at;
 use text::put;
 use text::put_decimal;
 
-// The words of a row and of a clock, and the most flows of a table.
-const ROW_SIZE: usize = 4;
-
-const CLOCK_SIZE: usize = 7;
-
-const MAX_FLOWS: usize = 64;
+const MAX_FLOWS: usize = table::MAX_FLOWS as usize;
 
 // Room for every listing: six bytes, and a line of at most 30 for each flow.
 pub const LONGEST: usize = 6 + 30 * MAX_FLOWS;
@@ -166,7 +164,7 @@ pub fn listing(packed: &[u8], text: &mut [u8]) -> Listed
     if text.len() < LONGEST {
         return Listed::NoRoom;
     }
-    let mut clocks = [0u32; CLOCK_SIZE * MAX_FLOWS];
+    let mut clocks = [0u32; CLOCKS];
     let answer = checked(packed, &mut clocks);
     if answer.number != 0 {
         let refused = put_refusal(text, answer.number, answer.flow);
