@@ -1,8 +1,8 @@
 -- The flows that a row names: its operands, beat and source, by field, through the one list of kinds.
 use Prim.Native.Nat.{ℕ}
 use mathlib.Core.Bool.{Bool, true, false, _&&_, _||_}
-use lib.Dec.{eqb, ltb}
-use Rattle.table.specs.Rows.{Field, operand, source, copies, period, ticks, value, unused, Kind, kindAt, kindCount, Words}
+use lib.Dec.{eqb}
+use Rattle.table.specs.Rows.{Field, operand, source, copies, period, ticks, value, unused, Kind, kindAt, Words}
 
 -- whether a field holds a flow's number
 abbrev pub isFlow : Field → Bool
@@ -18,9 +18,8 @@ isFlow unused = false
 abbrev pub fieldNames : Field → ℕ → ℕ → Bool
 fieldNames t y x = isFlow t && eqb y x
 
-abbrev pub kindNames : Kind → Words → ℕ → Bool
-kindNames k w x = fieldNames (k .one) (w .one) x || (fieldNames (k .two) (w .two) x || fieldNames (k .three) (w .three) x)
-
--- a row names flow x; one of an unknown kind names none
+-- a row names flow x; a number that is no kind has no fields
 unfoldable pub names : Words → ℕ → Bool
-names w x = ltb (w .kind) kindCount && kindNames (kindAt (w .kind)) w x
+names w x =
+    let k : Kind = kindAt (w .kind) in
+    fieldNames (k .one) (w .one) x || (fieldNames (k .two) (w .two) x || fieldNames (k .three) (w .three) x)
