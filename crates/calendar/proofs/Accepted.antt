@@ -6,7 +6,7 @@ use mathlib.Core.Bool.{true}
 use mathlib.Core.List.{List, [], _∷_, append-nil}
 use mathlib.Core.Option.{none}
 use lib.ListN.{length}
-use Rattle.table.specs.Rows.{Row, input, constant, combine, register, faster, slower, later, head, tail, sample, merge, onRegister}
+use Rattle.table.specs.Rows.{Row, register, onRegister}
 use Rattle.table.specs.Rows.{badRegister}
 use Rattle.table.proofs.Lists.{Each, each-map, each-both}
 use Rattle.table.proofs.Registers.{RegisterOr, is-register, is-other, register-or, Passes, none-bad}

@@ -13,7 +13,7 @@ use Rattle.table.specs.declared.Answer.{Answer}
 use Rattle.table.specs.declared.Cursor.{Cursor}
 use Rattle.table.specs.declared.Record.{Record}
 use Rattle.table.specs.declared.Taking.the-variants.{Got, Short}
-use Rattle.table.specs.Answers.{number, Result, good, refused, then, answer, leaves, success, numbered, cutShort, badCount, badFilling}
+use Rattle.table.specs.Answers.{number, Result, good, refused, then, answer, leaves, success, numbered, cutShort, badCount, badFilling, refusal, noRoom}
 use Rattle.table.specs.Rows.{Row, Words, rowOf, maxFlows, rowSize}
 use Rattle.table.specs.Plain.{joined, countFits, wordsOf}
 use Rattle.table.specs.Bits.{bits, fromBits}
@@ -103,7 +103,7 @@ rows-counted m bs = go (takeRows m m 0 bs) refl
     go (refused why f) e = refl
 
 module _ (s : List ℕ) where
-  pub no-count : takeAt (bits s) 0 countWidth ≡ takingParts Short → answer length (unpacked s) ≡ numbered 12 0
+  pub no-count : takeAt (bits s) 0 countWidth ≡ takingParts Short → answer length (unpacked s) ≡ refusal cutShort 0
   unfolding unpacked
   no-count e = rw (too-short (bits s) 0 countWidth (omega arith) (omega arith) (omega arith) e 0)
 
@@ -114,7 +114,7 @@ module _ (s : List ℕ) where
     pub count-there : countWidth ≤ length (bits s)
     count-there = omega (arith, h .within)
 
-    pub bad-count : countFits m ≡ false → answer length (unpacked s) ≡ numbered 11 0
+    pub bad-count : countFits m ≡ false → answer length (unpacked s) ≡ refusal badCount 0
     unfolding unpacked
     bad-count e = rw (h .field 0, e)
 
@@ -190,7 +190,7 @@ whole-taken s m d =
 
 -- too few words
 pub read-full : (s old : List ℕ) (m : ℕ) → Whole s m → length old < rowSize * m
-    → (numbered 10 0 ≡ readAnswer s (length old)) × (old ≡ wordsAfter s old)
+    → (refusal noRoom 0 ≡ readAnswer s (length old)) × (old ≡ wordsAfter s old)
 unfolding reading
 read-full s old m d h = rw (d .is, d .size, lt-leb (rowSize * m) (length old) h) (refl, refl)
 

@@ -11,7 +11,7 @@ use lib.ListN.{length, drop, getElem?, length-append}
 use lib.Seq.{drop-drop}
 use borrow.Author.Tests.{leb-true, ltb-true, ltb-false}
 use Rattle.table.specs.Places.{longestRecord}
-use Rattle.table.specs.Answers.{Refusal, unknownKind, outOfRange, misplaced, Result, good, refused, unless, then, answer, numbered}
+use Rattle.table.specs.Answers.{Refusal, unknownKind, outOfRange, misplaced, Result, good, refused, unless, then, answer, numbered, number}
 use Rattle.table.specs.Rows.{Row, width, ranged, placed, Kind, kinds, Words, each, known, fieldsOf, rowOf, rowSize, kindAt, kindCount}
 use Rattle.table.specs.Plain.{split, rowsFrom, tableOf, rowWords}
 use Rattle.table.specs.Packed.{rowBits, rowsBits, kindWidth}
@@ -52,7 +52,7 @@ kind-lt m f w e = go (try (ltb (w .kind) kindCount))
     go : Tried (ltb (w .kind) kindCount) → w .kind < kindCount
     go (passed p) = ltb-true (w .kind) kindCount p
     go (failed p) =
-        let z : verdict (rowOf m f w) ≡ 13 = rw (kind-gone (w .kind) (ltb-false (w .kind) kindCount p)) in
+        let z : verdict (rowOf m f w) ≡ number unknownKind = rw (kind-gone (w .kind) (ltb-false (w .kind) kindCount p)) in
         absurd (omega arith)
 
 -- the answer counts the same rows, whatever they are

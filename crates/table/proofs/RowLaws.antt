@@ -7,7 +7,7 @@ use native.Mathlib.Omega.{arith}
 use lib.ListN.{length}
 use Rattle.table.specs.declared.Cursor.{Cursor}
 use Rattle.table.specs.declared.Taking.the-variants.{Got, Short}
-use Rattle.table.specs.Answers.{cutShort, unknownKind}
+use Rattle.table.specs.Answers.{cutShort, unknownKind, number}
 use Rattle.table.specs.Rows.{width, rowOf, kindAt, kindCount}
 use Rattle.table.specs.Packed.{takeFields, takeRow, kindWidth}
 use Rattle.table.specs.Private.Codes.{rowLength}
@@ -18,7 +18,7 @@ use Rattle.table.proofs.Records.{row-le}
 use Rattle.table.proofs.Windows.{Had, had, too-short}
 
 module _ (bs : List Bool) (at : ℕ) (room : at + longestRecord ≤ lastPlace) (inside : at ≤ length bs) where
-  pub no-kind : takeAt bs at kindWidth ≡ takingParts Short → Missing bs at 12
+  pub no-kind : takeAt bs at kindWidth ≡ takingParts Short → Missing bs at (number cutShort)
   unfolding takeRow
   no-kind e = record { why = cutShort; is = refl; taken = λ m f. rw (too-short bs at kindWidth (omega arith) (omega arith) inside e f) }
 
@@ -27,7 +27,7 @@ module _ (bs : List Bool) (at : ℕ) (room : at + longestRecord ≤ lastPlace) (
     hk : Had bs at kindWidth n p
     hk = had bs at kindWidth n p k
 
-    pub bad-kind : kindCount ≤ n → Missing bs at 13
+    pub bad-kind : kindCount ≤ n → Missing bs at (number unknownKind)
     unfolding takeRow
     bad-kind h = record { why = unknownKind; is = refl; taken = λ m f. rw (hk .field f, kind-gone n h) }
 
@@ -37,7 +37,7 @@ module _ (bs : List Bool) (at : ℕ) (room : at + longestRecord ≤ lastPlace) (
       unfolding rowLength
       lengths = row-le n known
 
-      pub no-one : takeAt bs (p .at) (width (kindAt n .one)) ≡ takingParts Short → Missing bs at 12
+      pub no-one : takeAt bs (p .at) (width (kindAt n .one)) ≡ takingParts Short → Missing bs at (number cutShort)
       unfolding takeRow takeFields
       no-one e =
           let l : p .at ≤ lastPlace = omega (arith, hk .past) in
@@ -49,7 +49,7 @@ module _ (bs : List Bool) (at : ℕ) (room : at + longestRecord ≤ lastPlace) (
         h1 : Had bs (p .at) (width (kindAt n .one)) x q
         h1 = had bs (p .at) (width (kindAt n .one)) x q one
 
-        pub no-two : takeAt bs (q .at) (width (kindAt n .two)) ≡ takingParts Short → Missing bs at 12
+        pub no-two : takeAt bs (q .at) (width (kindAt n .two)) ≡ takingParts Short → Missing bs at (number cutShort)
         unfolding takeRow takeFields
         no-two e =
             let l : q .at ≤ lastPlace = omega (arith, hk .past, h1 .past, lengths) in
@@ -61,7 +61,7 @@ module _ (bs : List Bool) (at : ℕ) (room : at + longestRecord ≤ lastPlace) (
           h2 : Had bs (q .at) (width (kindAt n .two)) y r
           h2 = had bs (q .at) (width (kindAt n .two)) y r two
 
-          pub no-three : takeAt bs (r .at) (width (kindAt n .three)) ≡ takingParts Short → Missing bs at 12
+          pub no-three : takeAt bs (r .at) (width (kindAt n .three)) ≡ takingParts Short → Missing bs at (number cutShort)
           unfolding takeRow takeFields
           no-three e =
               let l : r .at ≤ lastPlace = omega (arith, hk .past, h1 .past, h2 .past, lengths) in

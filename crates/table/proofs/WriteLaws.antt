@@ -10,7 +10,7 @@ use lib.Dec.{eqb}
 use lib.ListN.{length, getD, drop, length-append}
 use borrow.Author.Tests.{le-leb, lt-leb}
 use Rattle.table.specs.declared.Answer.{Answer}
-use Rattle.table.specs.Answers.{Result, good, refused, then, answer, success, numbered, badCount}
+use Rattle.table.specs.Answers.{Result, good, refused, then, answer, success, numbered, badCount, refusal, noRoom}
 use Rattle.table.specs.Rows.{Row, width, Words, rowOf, rowSize, kindAt, kindCount}
 use Rattle.table.specs.Plain.{split, rowsFrom, countFits, tableOf, rowWords}
 use Rattle.table.specs.Bits.{toBits, bits, byteCount, bytes}
@@ -144,7 +144,7 @@ module _ (m size : ℕ) (words old : List ℕ) (ok : answer (λ rs. m) (tableOf 
 
   -- too few bytes
   pub write-full : length old < size
-      → (numbered 10 0 ≡ writeAnswer m words (length old)) × (old ≡ bytesAfter m words old)
+      → (refusal noRoom 0 ≡ writeAnswer m words (length old)) × (old ≡ bytesAfter m words old)
   unfolding writing
   write-full h =
       rw (table-good m words ok .1, lt-leb (length (packed (split m words))) (length old) (omega (arith, bytes-size))) (refl, refl)
