@@ -16,15 +16,17 @@ use table::word_at;
 use text::put;
 use text::put_decimal;
 
-// The words of a row and of a clock, and the most flows of a table.
+// The words of a row and of a clock, the most flows of a table and the most conditions of a clock.
 const ROW_SIZE: usize = 4;
 
 const CLOCK_SIZE: usize = 7;
 
 const MAX_FLOWS: usize = 64;
 
-// Room for every listing: six bytes, and a line of at most 30 for each flow.
-pub const LONGEST: usize = 6 + 30 * MAX_FLOWS;
+const MAX_CONDITIONS: usize = 4;
+
+// Room for every listing: a first line of six bytes, and a line for each flow.
+pub const LONGEST: usize = 6 + (14 + 4 * MAX_CONDITIONS) * MAX_FLOWS;
 
 // What the listing answers: how many bytes it wrote, or that the text has too little room.
 pub enum Listed {
