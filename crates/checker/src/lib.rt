@@ -43,7 +43,9 @@ enum Verdict {
     Refused(u32),
 }
 
-// How many words a clock has, and the clocks of the most flows.
+// The most conditions of a clock, how many words a clock has, and the clocks of the most flows.
+pub const MAX_CONDITIONS: u32 = 4;
+
 pub const CLOCK_SIZE: usize = 7;
 
 pub const CLOCKS: usize = CLOCK_SIZE * (table::MAX_FLOWS as usize);

@@ -1,5 +1,6 @@
 // The rules of the kinds, over clocks by value.
 use super::Clock;
+use super::MAX_CONDITIONS;
 use super::Verdict;
 use table::BEYOND_LIMITS;
 use table::CLOCKS_DIFFER;
@@ -180,7 +181,7 @@ fn under(k: Clock, word: u32) -> Verdict
     ensures { λ r. ⌜ r ≡ under k word ⌝ }
 {
     let n = k.count;
-    if 3 < n {
+    if MAX_CONDITIONS <= n {
         return Verdict::Refused(BEYOND_LIMITS);
     }
     Verdict::Is(Clock {

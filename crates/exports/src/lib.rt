@@ -54,7 +54,7 @@ pub extern "C" fn baarqidho_write(
     give(answer, flow, tick, count)
 }
 
-// Checks a table in plain form: the count of flows, and seven words of clock a flow.
+// Checks a table in plain form: the count of flows, and the words of a clock for each flow.
 #[no_mangle]
 pub extern "C" fn baarqidho_check(
     flows: u32,

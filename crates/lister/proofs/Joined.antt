@@ -22,7 +22,7 @@ use Rattle.table.proofs.RoundTrip.{length-joined}
 use Rattle.checker.proofs.Bounds.{checked-within}
 use Rattle.lister.specs.Listing.{checked}
 
--- the words of 64 rows are room for any table
+-- the words of the most rows are room for any table
 pub reading-whole : (bs : List ℕ) → reading bs (4 * maxFlows) ≡ unpacked bs
 unfolding reading
 reading-whole bs = go (unpacked bs) refl

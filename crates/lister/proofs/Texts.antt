@@ -48,24 +48,23 @@ unfolding wordsText conditionsFrom
 words-text [] rest = refl
 words-text (c ∷ cs) rest = ap₂ _++_ (word-condition c) (words-text cs rest)
 
--- the words of conditions in a clock, and what stands after them
-counted-text : (cs : List Condition) (rest : List ℕ) → length cs ≤ maxConditions
-    → countedText (length cs) (take maxConditions (map conditionWord cs ++ (0 ∷ 0 ∷ 0 ∷ 0 ∷ [])) ++ rest) ≡ conditionsText cs
+-- the words of conditions in a clock, unused ones too, and what stands after them
+counted-text : (cs : List Condition) (unused rest : List ℕ) → length cs ≤ maxConditions
+    → countedText (length cs) (take maxConditions (map conditionWord cs ++ unused) ++ rest) ≡ conditionsText cs
 unfolding countedText
-counted-text [] rest l = refl
-counted-text (c ∷ cs) rest l =
-    let zeros : List ℕ = 0 ∷ 0 ∷ 0 ∷ 0 ∷ [] in
+counted-text [] unused rest l = refl
+counted-text (c ∷ cs) unused rest l =
     let ws : List ℕ = map conditionWord (c ∷ cs) in
     let n : ℕ = maxConditions - length ws in
     let size : maxConditions ≡ length ws + n = omega (arith, length-map (c ∷ cs) conditionWord) in
-    let e : take maxConditions (ws ++ zeros) ++ rest ≡ ws ++ (take n zeros ++ rest) =
-    ap (λ (i : ℕ). take i (ws ++ zeros) ++ rest) size ∙ ap (λ (w : List ℕ). w ++ rest) (take-append-add ws zeros n) ∙ append-assoc ws (take n zeros) rest in
-    rw (ne-eqb (suc (length cs)) 0 (λ z. omega arith)) (ap (wordsText (length (c ∷ cs))) e ∙ words-text (c ∷ cs) (take n zeros ++ rest))
+    let e : take maxConditions (ws ++ unused) ++ rest ≡ ws ++ (take n unused ++ rest) =
+    ap (λ (i : ℕ). take i (ws ++ unused) ++ rest) size ∙ ap (λ (w : List ℕ). w ++ rest) (take-append-add ws unused n) ∙ append-assoc ws (take n unused) rest in
+    rw (ne-eqb (suc (length cs)) 0 (λ z. omega arith)) (ap (wordsText (length (c ∷ cs))) e ∙ words-text (c ∷ cs) (take n unused ++ rest))
 
 clock-line : (f : ℕ) (k : Clock) (rest : List ℕ) → length (k .conditions) ≤ maxConditions → clockText f (clockWords k ++ rest) ≡ lineText f k
 unfolding clockText lineText
 clock-line f k rest l =
-    ap (λ (w : List ℕ). field f ++ (field (k .period) ++ (field (k .phase) ++ (w ++ (lineFeed ∷ []))))) (counted-text (k .conditions) rest l)
+    ap (λ (w : List ℕ). field f ++ (field (k .period) ++ (field (k .phase) ++ (w ++ (lineFeed ∷ []))))) (counted-text (k .conditions) _ rest l)
 
 clocks-lines : (f : ℕ) (ks : List Clock) (rest : List ℕ) → AllWithin ks → clocksText (length ks) f (clocksWords ks ++ rest) ≡ linesFrom f ks
 unfolding clocksText linesFrom clocksWords

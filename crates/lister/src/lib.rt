@@ -21,8 +21,10 @@ use text::put_decimal;
 
 const MAX_FLOWS: usize = table::MAX_FLOWS as usize;
 
-// Room for every listing: six bytes, and a line of at most 30 for each flow.
-pub const LONGEST: usize = 6 + 30 * MAX_FLOWS;
+const MAX_CONDITIONS: usize = checker::MAX_CONDITIONS as usize;
+
+// Room for every listing: a first line of six bytes, and a line for each flow.
+pub const LONGEST: usize = 6 + (14 + 4 * MAX_CONDITIONS) * MAX_FLOWS;
 
 // What the listing answers: how many bytes it wrote, or that the text has too little room.
 pub enum Listed {
