@@ -8,7 +8,7 @@ use lib.Seq.{length-take-le}
 use denote.Ref.{now}
 use borrow.Author.Needs.{needs}
 use Rattle.table.specs.Answers.{refused, answer, leaves, parts, refusal}
-use Rattle.table.specs.Rows.{maxFlows}
+use Rattle.table.specs.Rows.{maxFlows, rowSize}
 use Rattle.table.proofs.ReadLaws.{opened}
 use Rattle.checker.specs.Answers.{clocksWords}
 use Rattle.lister.specs.Listing.{checked}
@@ -65,8 +65,8 @@ slice-aggregate-check c =
     let g = c .before .before .reading .given in
     let bs : List ℕ = now (before .before .before .before .before .args .packed) in
     let x = read-table bs (g .0 .0) (ap parts (sym (g .1)) ∙ r .ensures .0) in
-    let h : 4 * g .0 .0 ≤ length (r .last .1 .0) = omega (arith, r .kept .1 .0, x .2, opened bs (x .0) (x .1) .few) in
-    sym (length-take-le (4 * g .0 .0) (r .last .1 .0) h)
+    let h : rowSize * g .0 .0 ≤ length (r .last .1 .0) = omega (arith, r .kept .1 .0, x .2, opened bs (x .0) (x .1) .few) in
+    sym (length-take-le (rowSize * g .0 .0) (r .last .1 .0) h)
 
 check-requires : tie.Need-check-requires
 check-requires c κs = search needs
@@ -84,7 +84,7 @@ returns-2 c =
     let old : List ℕ = now (start .args .clocks) in
     let k = c .before .before .check in
     let x = read-table bs (g .0 .0) (ap parts (sym (g .1)) ∙ r .ensures .0) in
-    let e = checked-words bs (replicate (4 * maxFlows) 0) (x .0) (length old) (x .1) (x .2) refl (start .pre) (r .ensures .1) in
+    let e = checked-words bs (replicate (rowSize * maxFlows) 0) (x .0) (length old) (x .1) (x .2) refl (start .pre) (r .ensures .1) in
     (k .ensures .0 ∙ ap (answer length) e, k .ensures .1 ∙ ap (λ z. leaves clocksWords z old) e)
 
 pub checked-spec : {M : Type 1} → statement M
