@@ -10,12 +10,13 @@ use lib.ListN.{length, getD, length-append, List·getD-append, List·getD-eq-def
 use lib.Seq.{getD-append-add}
 use lib.Dec.{eqb, leb}
 use borrow.Author.Tests.{eqb-true, eqb-false, leb-true, leb-false}
-use Rattle.table.specs.Rows.{Row, later}
+use Rattle.table.specs.Rows.{Row, later, kinds, decode}
 use Rattle.table.proofs.Tests.{Tried, passed, failed, try}
-use Rattle.table.proofs.Tables.{Fits, rowAt, Table}
+use Rattle.table.specs.Tables.{Fits, rowAt}
+use Rattle.table.proofs.Tables.{Table}
 use Rattle.semantics.specs.Cells.{absent, back}
 use Rattle.semantics.specs.Runs.{Ticks, history, inputs, cells, Regular}
-use Rattle.runner.specs.Private.Carried.{Held, heldIn, cellAt, decode, Fetched}
+use Rattle.runner.specs.Private.Carried.{Held, heldIn, cellAt, Fetched}
 use Rattle.runner.specs.Private.Ready.{Carries, Collected, AllCarry, Ready, Wrote, Listed}
 use Rattle.runner.proofs.Cells.{mark-at, value-at, cell-back}
 use Rattle.semantics.proofs.Traces.{history-length, cells-length}
@@ -55,7 +56,7 @@ pub record Collecting (n : ℕ) (list : List ℕ) (rows : List Row) (past : Tick
 
 module _ (n count : ℕ) (words list : List ℕ) (rows : List Row) (T : Table n words rows) (I : Listed 10 n words list count) where
   later-at : (j : ℕ) → j < count → rowAt rows (getD list j 0) ≡ later (getD words (4 * getD list j 0 + 1) 0) (getD words (4 * getD list j 0 + 2) 0)
-  unfolding decode
+  unfolding kinds
   later-at j h =
       sym (row-of n words rows T (getD list j 0) (I .within j h) .made)
       ∙ ap (λ (k : ℕ). decode k (getD words (4 * getD list j 0 + 1) 0) (getD words (4 * getD list j 0 + 2) 0) (getD words (4 * getD list j 0 + 3) 0)) (I .kind j h)
@@ -87,11 +88,15 @@ module _ (n count : ℕ) (words list : List ℕ) (rows : List Row) (T : Table n 
           there i b =
               subst (λ (w : Held). Collected (rowAt rows (getD list i 0)) (history past) w) (sym (F .others (getD list i 0) (λ e. omega (arith, I .rising i j b h)))) (L .done i b)
 
+          now-collected : Collected (rowAt rows (getD list j 0)) (history past) (heldIn s′ (4 * getD list j 0))
+          now-collected a d e p =
+              let q : later (getD words (4 * getD list j 0 + 1) 0) (getD words (4 * getD list j 0 + 2) 0) ≡ later a d = sym (later-at j h) ∙ e in
+              let x : getD words (4 * getD list j 0 + 1) 0 ≡ a = cc in
+              let y : getD words (4 * getD list j 0 + 2) 0 ≡ d = cc in
+              rw (← x, ← y) (fetched n t past ms₀ vs₀ ms vs z r W _ _ (getD list j 0) s s′ (operand-low j h) F (omega arith))
+
           here : (i : ℕ) → i ≡ j → Collected (rowAt rows (getD list i 0)) (history past) (heldIn s′ (4 * getD list i 0))
-          here i u =
-              subst (λ (m : ℕ). Collected (rowAt rows (getD list m 0)) (history past) (heldIn s′ (4 * getD list m 0))) (sym u)
-              (subst (λ (row : Row). Collected row (history past) (heldIn s′ (4 * getD list j 0))) (sym (later-at j h))
-              (fetched n t past ms₀ vs₀ ms vs z r W (getD words (4 * getD list j 0 + 1) 0) (getD words (4 * getD list j 0 + 2) 0) (getD list j 0) s s′ (operand-low j h) F))
+          here i u = subst (λ (m : ℕ). Collected (rowAt rows (getD list m 0)) (history past) (heldIn s′ (4 * getD list m 0))) (sym u) now-collected
 
       pub ends : count ≤ j → j ≤ count → Ready rows past t at s
       unfolding AllCarry

@@ -9,22 +9,19 @@ use lib.ListN.{length, getD, set, drop, length-append, List·getD-append}
 use lib.Seq.{drop-cons, drop-length}
 use native.Mathlib.Nat.{eq-or-lt-of-le}
 use Rattle.table.specs.Rows.{Row, tail}
-use Rattle.table.proofs.Tables.{rowAt, Table}
+use Rattle.table.specs.Tables.{rowAt}
+use Rattle.table.proofs.Tables.{Table}
 use Rattle.runner.specs.declared.operators.Outcome.{Outcome}
 use Rattle.runner.specs.declared.ticks.Ticked.the-variants as ticked
 use Rattle.semantics.specs.Cells.{Cell, absent, present, value}
 use Rattle.semantics.specs.Operators.{Step, is, clashes}
 use Rattle.semantics.specs.Runs.{Tick, Ticks, cellIn, history, inputs, cellOf, TickEnd, filled, stopped, onStep, flowsFrom}
 use Rattle.semantics.specs.Answers.{markByte}
-use Rattle.runner.specs.Private.Carried.{clashMark, outcomeOf, Held, heldIn, cellsIn, decode, stepOf, nextOf, Did}
+use Rattle.runner.specs.Private.Carried.{clashMark, outcomeOf, Held, heldIn, cellsIn, wordsAt, madeOf, stepOf, nextOf, Did}
 use Rattle.runner.specs.Private.Ready.{Carries, Collected, Follows, AllCarry, AllFollow, Ready, Wrote, FlowsEnd}
 use Rattle.runner.proofs.Cells.{wrote-more, here-is}
 use Rattle.runner.proofs.Tabled.{Row-at, row-of}
 use Rattle.runner.proofs.Steps.{row-steps, row-follows, follows-on}
-
--- the words of a row in their place
-abbrev pub fields : List ℕ → ℕ → Row
-fields words f = decode (getD words (4 * f) 0) (getD words (4 * f + 1) 0) (getD words (4 * f + 2) 0) (getD words (4 * f + 3) 0)
 
 -- what an outcome tells of the step
 clash-told : (x : Step) → outcomeOf x .mark ≡ clashMark → x ≡ clashes
@@ -88,13 +85,13 @@ module _ (n : ℕ) (words log : List ℕ) (rows : List Row) (T : Table n words r
       collected = subst (λ (w : Held). Collected (rowAt rows f) (history past) w) (sym (G .left f (omega arith))) (R .collected f (omega (arith, T .size)))
 
       -- the code's step is a step from the cells so far
-      near : stepOf (fields words f) t log at (cellsIn ms vs f) (heldIn s (4 * f)) ≡ stepOf (rowAt rows f) (length past) log at (cellIn (G .now)) (heldIn s (4 * f))
+      near : stepOf (madeOf (wordsAt words f)) t log at (cellsIn ms vs f) (heldIn s (4 * f)) ≡ stepOf (rowAt rows f) (length past) log at (cellIn (G .now)) (heldIn s (4 * f))
       near =
           ap (λ (r : Row). stepOf r t log at (cellsIn ms vs f) (heldIn s (4 * f))) (row .made)
           ∙ ap (λ (i : ℕ → Cell). stepOf (rowAt rows f) t log at i (heldIn s (4 * f))) (here-is (G .now) ms₀ vs₀ ms vs (G .wrote) f (G .size))
           ∙ ap (λ (i : ℕ). stepOf (rowAt rows f) i log at (cellIn (G .now)) (heldIn s (4 * f))) (sym (R .ticks))
 
-      next-near : nextOf (fields words f) t (cellsIn ms vs f) (heldIn s (4 * f)) ≡ nextOf (rowAt rows f) (length past) (cellIn (G .now)) (heldIn s (4 * f))
+      next-near : nextOf (madeOf (wordsAt words f)) t (cellsIn ms vs f) (heldIn s (4 * f)) ≡ nextOf (rowAt rows f) (length past) (cellIn (G .now)) (heldIn s (4 * f))
       next-near =
           ap (λ (r : Row). nextOf r t (cellsIn ms vs f) (heldIn s (4 * f))) (row .made)
           ∙ ap (λ (i : ℕ → Cell). nextOf (rowAt rows f) t i (heldIn s (4 * f))) (here-is (G .now) ms₀ vs₀ ms vs (G .wrote) f (G .size))
@@ -106,7 +103,7 @@ module _ (n : ℕ) (words log : List ℕ) (rows : List Row) (T : Table n words r
           (R .place ∙ ap (λ (i : ℕ). i * inputs rows) (sym (R .ticks))) (G .size)
 
       module _ (s′ : List ℕ) (r : Outcome)
-          (D : Did (stepOf (fields words f) t log at (cellsIn ms vs f) (heldIn s (4 * f))) (nextOf (fields words f) t (cellsIn ms vs f) (heldIn s (4 * f))) (4 * f) s s′ r) where
+          (D : Did (stepOf (madeOf (wordsAt words f)) t log at (cellsIn ms vs f) (heldIn s (4 * f))) (nextOf (madeOf (wordsAt words f)) t (cellsIn ms vs f) (heldIn s (4 * f))) (4 * f) s s′ r) where
         pub stops : r .mark ≡ clashMark → FlowsEnd rows t past (flowsFrom rows log past [] rows) ms₀ vs₀ ms vs s′ (ticked.Stopped f)
         stops e =
             let c : cellOf rows log past (G .now) (rowAt rows f) ≡ clashes = sym step-is ∙ sym near ∙ clash-told _ (ap (λ (o : Outcome). o .mark) (sym (D .answer)) ∙ e) in
@@ -120,7 +117,7 @@ module _ (n : ℕ) (words log : List ℕ) (rows : List Row) (T : Table n words r
         grows c g a l k = sym (List·getD-append (G .now) (c ∷ []) absent a (omega (arith, G .size)))
 
         -- the cell that a step came to stands in the parts
-        grown : (c : Cell) (ms′ vs′ : List ℕ) → stepOf (fields words f) t log at (cellsIn ms vs f) (heldIn s (4 * f)) ≡ is c → f < length ms₀ → f < length vs₀ → ms′ ≡ set ms f (markByte c) → vs′ ≡ set vs f (value c)
+        grown : (c : Cell) (ms′ vs′ : List ℕ) → stepOf (madeOf (wordsAt words f)) t log at (cellsIn ms vs f) (heldIn s (4 * f)) ≡ is c → f < length ms₀ → f < length vs₀ → ms′ ≡ set ms f (markByte c) → vs′ ≡ set vs f (value c)
             → Going rows log past t s₀ ms₀ vs₀ s′ ms′ vs′ (f + 1)
         grown c ms′ vs′ e lm lv em ev =
             let o : stepOf (rowAt rows f) (length past) log at (cellIn (G .now)) (heldIn s (4 * f)) ≡ is c = sym near ∙ e in
@@ -140,7 +137,7 @@ module _ (n : ℕ) (words log : List ℕ) (rows : List Row) (T : Table n words r
                 follows-on n g t rows past (G .now) (G .now ++ (c ∷ [])) (heldIn s′ (4 * g)) (rowAt rows g) (row-of n words rows T g (omega arith) .fits) (λ a k. grows c g a (omega arith) k)
                 (subst (λ (w : Held). Follows rows g (rowAt rows g) t (G .now) past w) (sym (held-before _ _ f g s s′ r D l)) (G .followed g l))
 
-            same : (c : Cell) → stepOf (fields words f) t log at (cellsIn ms vs f) (heldIn s (4 * f)) ≡ is c → {g : ℕ} → g ≡ f → Follows rows g (rowAt rows g) t (G .now ++ (c ∷ [])) past (heldIn s′ (4 * g))
+            same : (c : Cell) → stepOf (madeOf (wordsAt words f)) t log at (cellsIn ms vs f) (heldIn s (4 * f)) ≡ is c → {g : ℕ} → g ≡ f → Follows rows g (rowAt rows g) t (G .now ++ (c ∷ [])) past (heldIn s′ (4 * g))
             same c e q =
                 subst (λ (i : ℕ). Follows rows i (rowAt rows i) t (G .now ++ (c ∷ [])) past (heldIn s′ (4 * i))) (sym q)
                 (follows-on n f t rows past (G .now) (G .now ++ (c ∷ [])) (heldIn s′ (4 * f)) (rowAt rows f) (row .fits) (λ a k. grows c f a (omega arith) k)

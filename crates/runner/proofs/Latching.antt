@@ -7,36 +7,43 @@ use mathlib.Core.Bool.{Bool, true, false, cond, Bool·beq}
 use mathlib.Core.Logic.{_⊎_, inl, inr, ⊎-elim}
 use mathlib.Core.List.{List, [], _∷_}
 use mathlib.Core.Option.{Option, none, some}
-use lib.ListN.{length, getD, set}
+use lib.ListN.{length, getD, set, drop}
+use lib.Seq.{drop-cons, drop-length}
 use lib.Dec.{eqb, ltb}
 use borrow.Author.Tests.{eq-eqb, ne-eqb, eqb-true, eqb-false, ltb-true, ltb-false}
-use Rattle.table.specs.Rows.{Row, register, onRegister, badRegister}
+use Rattle.table.specs.Rows.{Row, tail, register, kinds, decode, onRegister, badRegister}
 use Rattle.table.proofs.Tests.{Tried, passed, failed, try}
-use Rattle.table.proofs.Tables.{Fits, rowAt, Table}
+use Rattle.table.specs.Tables.{Fits, rowAt}
+use Rattle.table.proofs.Tables.{Table}
 use Rattle.runner.specs.declared.ticks.Ticked.the-variants as ticked
 use Rattle.semantics.specs.Cells.{Cell, absent, present, mark, value, History, latest}
 use Rattle.semantics.specs.Operators.{valueOr}
 use Rattle.semantics.specs.Runs.{Tick, Ticks, cellIn, history, sourceMeets}
 use Rattle.semantics.specs.Answers.{markByte}
-use Rattle.runner.specs.Private.Carried.{Held, heldIn, decode}
+use Rattle.runner.specs.Private.Carried.{Held, heldIn, stateSize}
 use Rattle.runner.specs.Private.Ready.{Carries, Follows, AllCarry, AllFollow, Wrote, LatchEnd, Listed}
 use Rattle.runner.proofs.Words.{stored, stored-other}
 use Rattle.runner.proofs.Cells.{mark-at, value-at}
 use Rattle.runner.proofs.Tabled.{row-of}
 
--- the lowest register that does not pass
-none-bad : (test : ℕ → ℕ → Bool) (f : ℕ) (rows : List Row) → ((g : ℕ) → g < length rows → onRegister test (rowAt rows g) ≡ true) → badRegister test f rows ≡ none
+-- the rows before g have no register that does not pass: the lowest one is the lowest from g on
+passed-by : (test : ℕ → ℕ → Bool) (f g : ℕ) (rows : List Row) → g ≤ length rows → ((h : ℕ) → h < g → onRegister test (rowAt rows h) ≡ true)
+    → badRegister test f rows ≡ badRegister test (f + g) (drop g rows)
 unfolding badRegister
-none-bad test f [] p = refl
-none-bad test f (r ∷ rows) p = rw (p 0 (omega arith)) (none-bad test (suc f) rows (λ g l. p (suc g) (omega arith)))
+passed-by test f zero rows l p = ap (λ (i : ℕ). badRegister test i rows) (sym (add-zero f))
+passed-by test f (suc g) [] l p = absurd (omega arith)
+passed-by test f (suc g) (r ∷ rows) l p =
+    rw (p 0 (omega arith))
+    (passed-by test (suc f) g rows (omega arith) (λ h k. p (suc h) (omega arith)) ∙ ap (λ (i : ℕ). badRegister test i (drop g rows)) (omega arith))
 
-first-bad : (test : ℕ → ℕ → Bool) (f g : ℕ) (rows : List Row) → g < length rows → onRegister test (rowAt rows g) ≡ false → ((h : ℕ) → h < g → onRegister test (rowAt rows h) ≡ true)
-    → badRegister test f rows ≡ some (f + g)
+none-bad : (test : ℕ → ℕ → Bool) (rows : List Row) → ((g : ℕ) → g < length rows → onRegister test (rowAt rows g) ≡ true) → badRegister test 0 rows ≡ none
 unfolding badRegister
-first-bad test f g [] l e p = absurd (omega arith)
-first-bad test f zero (r ∷ rows) l e p = rw (e) (ap some (sym (add-zero f)))
-first-bad test f (suc g) (r ∷ rows) l e p =
-    rw (p 0 (omega arith)) (first-bad test (suc f) g rows (omega arith) e (λ h k. p (suc h) (omega arith)) ∙ ap some (omega arith))
+none-bad test rows p = passed-by test 0 (length rows) rows (omega arith) p ∙ rw (drop-length rows)
+
+first-bad : (test : ℕ → ℕ → Bool) (g : ℕ) (rows : List Row) → g < length rows → onRegister test (rowAt rows g) ≡ false → ((h : ℕ) → h < g → onRegister test (rowAt rows h) ≡ true)
+    → badRegister test 0 rows ≡ some g
+unfolding badRegister
+first-bad test g rows l e p = passed-by test 0 g rows (omega arith) p ∙ rw (drop-cons rows g (tail 0) l, e, zero-add g)
 
 -- equal marks are equal presences
 marks-meet : (c d : Cell) → Bool·beq (mark c) (mark d) ≡ eqb (markByte c) (markByte d)
@@ -61,7 +68,7 @@ module _ (n count : ℕ) (words list : List ℕ) (rows : List Row) (T : Table n 
   other-row test g l k = row-of n words rows T g l .no-register k test
 
   register-at : (j : ℕ) → j < count → rowAt rows (getD list j 0) ≡ register (getD words (4 * getD list j 0 + 1) 0) (getD words (4 * getD list j 0 + 2) 0) (getD words (4 * getD list j 0 + 3) 0)
-  unfolding decode
+  unfolding kinds
   register-at j h =
       sym (row-of n words rows T (getD list j 0) (I .within j h) .made)
       ∙ ap (λ (k : ℕ). decode k (getD words (4 * getD list j 0 + 1) 0) (getD words (4 * getD list j 0 + 2) 0) (getD words (4 * getD list j 0 + 3) 0)) (I .kind j h)
@@ -91,7 +98,7 @@ module _ (n count : ℕ) (words list : List ℕ) (rows : List Row) (T : Table n 
       pub ends : count ≤ j → j ≤ count → LatchEnd rows t past cells (badRegister (sourceMeets cells) 0 rows) s ticked.Full
       unfolding AllCarry AllFollow Follows
       ends l k =
-          subst (λ (o : Option ℕ). LatchEnd rows t past cells o s ticked.Full) (sym (none-bad (sourceMeets cells) 0 rows met))
+          subst (λ (o : Option ℕ). LatchEnd rows t past cells o s ticked.Full) (sym (none-bad (sourceMeets cells) rows met))
           (refl, carry)
         where
           split : (g : ℕ) → g < n → ((i : ℕ) × (i < j) × (getD list i 0 ≡ g)) ⊎ (getD words (4 * g) 0 ≡ 7 → ⊥)
@@ -142,7 +149,7 @@ module _ (n count : ℕ) (words list : List ℕ) (rows : List Row) (T : Table n 
         unfolding f
         stops e =
             subst (λ (o : Option ℕ). LatchEnd rows t past cells o s (ticked.Stopped f))
-            (sym (first-bad (sourceMeets cells) 0 f rows (omega (arith, T .size, below)) (meets ∙ ne-eqb _ _ e) lower ∙ ap some (zero-add f)))
+            (sym (first-bad (sourceMeets cells) f rows (omega (arith, T .size, below)) (meets ∙ ne-eqb _ _ e) lower))
             (refl, omega (arith, T .size, below))
           where
             lower : (g : ℕ) → g < f → onRegister (sourceMeets cells) (rowAt rows g) ≡ true
@@ -166,7 +173,7 @@ module _ (n count : ℕ) (words list : List ℕ) (rows : List Row) (T : Table n 
             ∙ subst (λ (r : Row). Follows rows f r t cells past (heldIn s₀ (4 * f))) is-register (F f (omega (arith, T .size, below)))
 
         -- the register's word after the tick
-        latched : (s′ : List ℕ) → length s ≡ 256 → s′ ≡ set s (4 * f) (cond (eqb (getD ms (getD words (4 * f + 3) 0) 0) 0) (getD s (4 * f) 0) (getD vs (getD words (4 * f + 3) 0) 0))
+        latched : (s′ : List ℕ) → length s ≡ stateSize → s′ ≡ set s (4 * f) (cond (eqb (getD ms (getD words (4 * f + 3) 0) 0) 0) (getD s (4 * f) 0) (getD vs (getD words (4 * f + 3) 0) 0))
             → Carries rows f (rowAt rows f) (suc t) (history (cells ∷ past)) (heldIn s′ (4 * f))
         unfolding Carries history
         latched s′ l q =
@@ -180,7 +187,7 @@ module _ (n count : ℕ) (words list : List ℕ) (rows : List Row) (T : Table n 
             ∙ ap (λ (i : ℕ). cond (eqb (markByte (cellIn cells a)) 0) (getD s (4 * f) 0) i) v
             ∙ latest-is (getD words (4 * f + 1) 0) (getD s (4 * f) 0) (cellIn cells a) (history past a) old)
 
-        pub goes-on : (s′ : List ℕ) → length s ≡ 256 → getD ms (getD words (4 * getD list j 0 + 3) 0) 0 ≡ getD ms (getD words (4 * getD list j 0 + 2) 0) 0
+        pub goes-on : (s′ : List ℕ) → length s ≡ stateSize → getD ms (getD words (4 * getD list j 0 + 3) 0) 0 ≡ getD ms (getD words (4 * getD list j 0 + 2) 0) 0
             → s′ ≡ set s (4 * getD list j 0) (cond (eqb (getD ms (getD words (4 * getD list j 0 + 3) 0) 0) 0) (getD s (4 * getD list j 0) 0) (getD vs (getD words (4 * getD list j 0 + 3) 0) 0))
             → Latching n t words list rows cells past s₀ s′ (j + 1)
         unfolding f

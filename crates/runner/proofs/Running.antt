@@ -6,7 +6,7 @@ use native.Mathlib.Numerals.{add-one}
 use native.Mathlib.Omega.{arith}
 use mathlib.Core.List.{List, [], _∷_, _++_}
 use lib.ListN.{length}
-use Rattle.table.specs.Answers.{over}
+use Rattle.table.specs.Answers.{number, clash}
 use Rattle.table.specs.Rows.{Row}
 use Rattle.runner.specs.declared.ticks.Ticked.{Ticked}
 use Rattle.runner.specs.declared.ticks.Ticked.the-variants as ticked
@@ -59,18 +59,18 @@ module _ (n : ℕ) (rows : List Row) (log ms₀ vs₀ : List ℕ) where
               next now e w z C = subst (λ (i : ℕ). Running n i rows log ms₀ vs₀ s′ ms′ vs′) (sym (add-one t)) (extended n rows log ms₀ vs₀ t (R .past) (R .ticks) (R .regular) s′ ms′ vs′ now e w z C)
 
       pub stops : (f : ℕ) → r ≡ ticked.Stopped f → t < ticks → TickAt rows t (R .past) (tickOf rows log (R .past)) ms₀ vs₀ ms′ vs′ s′ r
-          → RanTo (run rows log ticks) ticks ms₀ vs₀ ms′ vs′ (record { number = 34; flow = f; tick = t; count = 0 }) × (f < n)
+          → RanTo (run rows log ticks) ticks ms₀ vs₀ ms′ vs′ (record { number = number clash; flow = f; tick = t; count = 0 }) × (f < n)
       stops f q h d = go (tickOf rows log (R .past)) refl d
         where
           go : (x : TickEnd) → tickOf rows log (R .past) ≡ x → TickAt rows t (R .past) x ms₀ vs₀ ms′ vs′ s′ r
-              → RanTo (run rows log ticks) ticks ms₀ vs₀ ms′ vs′ (record { number = 34; flow = f; tick = t; count = 0 }) × (f < n)
+              → RanTo (run rows log ticks) ticks ms₀ vs₀ ms′ vs′ (record { number = number clash; flow = f; tick = t; count = 0 }) × (f < n)
           go (filled now) e d = full-or-stopped (sym (d .0) ∙ q)
           go (stopped g now) e d =
               let u : f ≡ g = same-flow (sym q ∙ d .0) in
               let v : ticks ≡ (ticks - suc t) + suc t = omega arith in
               let x : run rows log ticks ≡ clashed t g now (R .past) = ap (run rows log) v ∙ stays rows log (suc t) t g now (R .past) (ticks - suc t) (unroll ∙ ap (onTick t (R .past)) e) in (
-                subst (λ (y : Ran). RanTo y ticks ms₀ vs₀ ms′ vs′ (record { number = 34; flow = f; tick = t; count = 0 })) (sym x)
-                    (record { answer = ap (λ (i : ℕ). record { number = 34; flow = i; tick = t; count = 0 }) u; wrote = d .1 }),
+                subst (λ (y : Ran). RanTo y ticks ms₀ vs₀ ms′ vs′ (record { number = number clash; flow = f; tick = t; count = 0 })) (sym x)
+                    (record { answer = ap (λ (i : ℕ). record { number = number clash; flow = i; tick = t; count = 0 }) u; wrote = d .1 }),
                 omega (arith, d .2, size),
               )
 

@@ -4,24 +4,25 @@ use Prim.Native.Nat.{ℕ, zero, suc, _+_, _*_, _≤_, _<_}
 use native.Mathlib.Nat.{eq-or-lt-of-le, zero-mod}
 use native.Mathlib.Numerals.{add-one}
 use native.Mathlib.Omega.{arith}
-use mathlib.Core.Bool.{cond}
+use mathlib.Core.Bool.{Bool, true, false}
 use mathlib.Core.Logic.{⊎-elim}
 use mathlib.Core.List.{List, [], _∷_}
 use lib.ListN.{length, getD, take, replicate}
 use lib.Seq.{take-all, take-length}
 use lib.Dec.{eqb}
 use Rattle.table.specs.Rows.{Row, input, constant, combine, register, faster, slower, later, head, tail, sample, merge}
-use Rattle.table.proofs.Tables.{Fits, rowAt, Table}
+use Rattle.table.specs.Bits.{bit}
+use Rattle.table.specs.Tables.{Fits, rowAt}
+use Rattle.table.proofs.Tables.{Table}
 use Rattle.semantics.specs.Cells.{count, latest}
 use Rattle.semantics.specs.Runs.{history, inputs, isInput}
-use Rattle.runner.specs.Private.Carried.{Held, held, heldIn, startOf, Started}
+use Rattle.runner.specs.Private.Carried.{Held, held, heldIn, stateSize, wordsAt, madeOf, startWord, startOf, Started}
 use Rattle.runner.specs.Private.Ready.{unseen, never, Carries, AllCarry}
 use Rattle.runner.proofs.Tabled.{Row-at, row-of}
 use Rattle.runner.proofs.Histories.{timed-starts}
-use Rattle.runner.proofs.Flowing.{fields}
 
 row-starts : (m f : ℕ) (rows : List Row) (row : Row) → Fits m f row → Carries rows f row 0 (history []) (startOf row (inputs (take f rows)) (held 0 0 0))
-unfolding Carries startOf history latest count
+unfolding Carries startWord history latest count
 row-starts m f rows (input n p) l = (timed-starts n p, refl)
 row-starts m f rows (constant v n p) l = timed-starts n p
 row-starts m f rows (combine op a b) l = tt
@@ -35,30 +36,21 @@ row-starts m f rows (sample u a c) l = tt
 row-starts m f rows (merge c a b) l = tt
 
 -- the inputs before a row
-inputs-step : (rows : List Row) (f : ℕ) → f < length rows → inputs (take (suc f) rows) ≡ inputs (take f rows) + isInput (rowAt rows f)
+inputs-step : (rows : List Row) (f : ℕ) → f < length rows → inputs (take (suc f) rows) ≡ inputs (take f rows) + bit (isInput (rowAt rows f))
 unfolding inputs
 inputs-step [] f l = absurd (omega arith)
 inputs-step (r ∷ rows) zero l = omega arith
 inputs-step (r ∷ rows) (suc f) l = omega (arith, inputs-step rows f (omega arith))
 
-is-low : (r : Row) → isInput r ≤ 1
-is-low (input n p) = omega arith
-is-low (constant v n p) = omega arith
-is-low (combine op a b) = omega arith
-is-low (register v b a) = omega arith
-is-low (faster a k g) = omega arith
-is-low (slower a k) = omega arith
-is-low (later a d) = omega arith
-is-low (head a v s) = omega arith
-is-low (tail a) = omega arith
-is-low (sample u a c) = omega arith
-is-low (merge c a b) = omega arith
+pub bit-low : (b : Bool) → bit b ≤ 1
+bit-low true = omega arith
+bit-low false = omega arith
 
 pub inputs-few : (rows : List Row) (f : ℕ) → inputs (take f rows) ≤ f
 unfolding inputs
 inputs-few rows zero = omega arith
 inputs-few [] (suc f) = omega arith
-inputs-few (r ∷ rows) (suc f) = omega (arith, is-low r, inputs-few rows f)
+inputs-few (r ∷ rows) (suc f) = omega (arith, bit-low (isInput r), inputs-few rows f)
 
 pub inputs-all : (rows : List Row) → inputs rows ≤ length rows
 inputs-all rows = subst (λ (l : List Row). inputs l ≤ length rows) (take-length rows) (inputs-few rows (length rows))
@@ -74,7 +66,7 @@ module _ (n : ℕ) (words : List ℕ) (rows : List Row) (T : Table n words rows)
   zeros (suc k) zero = refl
   zeros (suc k) (suc i) = zeros k i
 
-  pub starts : (s : List ℕ) → s ≡ replicate 256 0 → Starting rows s 0 0
+  pub starts : (s : List ℕ) → s ≡ replicate stateSize 0 → Starting rows s 0 0
   unfolding inputs
   starts s e =
       record {
@@ -83,11 +75,11 @@ module _ (n : ℕ) (words : List ℕ) (rows : List Row) (T : Table n words rows)
         clear = λ g l m. ap (λ (u : List ℕ). heldIn u (4 * g)) e ∙ simp zeros;
       }
 
-  pub goes-on : (s s′ : List ℕ) (f j j′ : ℕ) → f < n → Starting rows s f j → Started (startOf (fields words f) j (heldIn s (4 * f))) f s s′ → j′ ≡ j + cond (eqb (getD words (4 * f) 0) 0) 1 0 → Starting rows s′ (f + 1) j′
+  pub goes-on : (s s′ : List ℕ) (f j j′ : ℕ) → f < n → Starting rows s f j → Started (startOf (madeOf (wordsAt words f)) j (heldIn s (4 * f))) f s s′ → j′ ≡ j + bit (eqb (getD words (4 * f) 0) 0) → Starting rows s′ (f + 1) j′
   goes-on s s′ f j j′ l S D e =
       let r : Row-at n words (rowAt rows f) f = row-of n words rows T f l in
       record {
-        before = omega (arith, e, S .before, r .is-input, ap (λ (i : ℕ). inputs (take i rows)) (add-one f), inputs-step rows f (omega (arith, T .size)));
+        before = omega (arith, e, S .before, ap bit (r .is-input), ap (λ (i : ℕ). inputs (take i rows)) (add-one f), inputs-step rows f (omega (arith, T .size)));
         set = λ g b. ⊎-elim (same r g) (below g) (eq-or-lt-of-le {n = g} {m = f} (omega arith));
         clear = λ g b m. D .others g (λ u. omega arith) ∙ S .clear g (omega arith) m;
       }

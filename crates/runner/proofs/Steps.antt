@@ -7,7 +7,7 @@ use lib.ListN.{length, getD, take}
 use lib.Dec.{eqb}
 use borrow.Author.Tests.{ne-eqb}
 use Rattle.table.specs.Rows.{Row, input, constant, combine, register, faster, slower, later, head, tail, sample, merge}
-use Rattle.table.proofs.Tables.{Fits}
+use Rattle.table.specs.Tables.{Fits}
 use Rattle.semantics.specs.Cells.{Cell, absent, present, History, back, count, latest}
 use Rattle.semantics.specs.Operators.{is, timed, registered, fasterOf, laterOf, headOf, valueOr}
 use Rattle.semantics.specs.Runs.{Tick, Ticks, cellIn, history, inputs, cellOf}
@@ -42,7 +42,7 @@ module _ (m f : ℕ) (rows : List Row) (log : List ℕ) (past : Ticks) (now : Ti
       subst (λ (t : ℕ). fasterStep t (cellIn now a) w ≡ fasterOf k g (cellIn now a) (history past a)) (history-length past a)
       (faster-steps k g (l .1 .from) (l .2 .from) (history past a) w (cellIn now a) c)
   row-steps (slower a k) l c o e s = slower-steps k (history past a) w c (cellIn now a)
-  row-steps (later a d) l c o e s = laters d (cellIn now a) (history past a) w o
+  row-steps (later a d) l c o e s = laters d (cellIn now a) (history past a) w (o a d refl)
   row-steps (head a v i) l c o e s =
       subst (λ (t : ℕ). headStep t (cellIn now a) v i w ≡ headOf v i (cellIn now a) (history past a)) (history-length past a)
       (head-steps v i (history past a) w (cellIn now a) c)

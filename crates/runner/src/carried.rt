@@ -3,7 +3,7 @@
 ghost use mathlib.Core.Path.{_≡_};
 ghost use Prim.Native.Nat.{ℕ, _+_, _*_, _≤_, _<_, _^_};
 ghost use lib.ListN.{length, getD};
-ghost use Rattle.runner.specs.Private.Carried.{outcomeOf, cellsIn, heldIn, Did, timedStep, timedNext, fasterStep, fasterNext, begun, slowerStep, slowerNext, laterStep, afterStep, afterNext, headStep, headNext, tailStep, tailNext};
+ghost use Rattle.runner.specs.Private.Carried.{outcomeOf, cellsIn, heldSize, heldIn, Did, timedStep, timedNext, fasterStep, fasterNext, begun, slowerStep, slowerNext, laterStep, afterStep, afterNext, headStep, headNext, tailStep, tailNext};
 ghost use Rattle.semantics.specs.Operators.{is};
 ghost use Rattle.semantics.specs.Cells.{absent, present};
 use crate::operators::ABSENT;
@@ -19,7 +19,7 @@ pub(crate) fn input(
     state: &mut [u32],
     i: usize,
 ) -> Outcome
-    requires { ⌜ (i + 4 ≤ length (now state)) × (t < 2 ^ 24) × (period < 2 ^ 12) × (at < 2 ^ 40) ⌝ }
+    requires { ⌜ (i + heldSize ≤ length (now state)) × (t < 2 ^ 24) × (period < 2 ^ 12) × (at < 2 ^ 40) ⌝ }
     ensures { λ r. ⌜ Did (timedStep t (getD (now (log .entry)) (at + heldIn (now (state .entry)) i .y) 0) (heldIn (now (state .entry)) i))
         (timedNext t period (heldIn (now (state .entry)) i)) i (now (state .entry)) (now (state .exit)) r ⌝ }
 {
@@ -37,7 +37,7 @@ pub(crate) fn input(
 
 // Constant: carries the next tick at which it is present.
 pub(crate) fn constant(t: u32, value: u32, period: u32, state: &mut [u32], i: usize) -> Outcome
-    requires { ⌜ (i + 4 ≤ length (now state)) × (t < 2 ^ 24) × (period < 2 ^ 12) ⌝ }
+    requires { ⌜ (i + heldSize ≤ length (now state)) × (t < 2 ^ 24) × (period < 2 ^ 12) ⌝ }
     ensures { λ r. ⌜ Did (timedStep t value (heldIn (now (state .entry)) i)) (timedNext t period (heldIn (now (state .entry)) i)) i
         (now (state .entry)) (now (state .exit)) r ⌝ }
 {
@@ -51,7 +51,7 @@ pub(crate) fn constant(t: u32, value: u32, period: u32, state: &mut [u32], i: us
 
 // A presence of a faster row's operand: its value, the next copy's tick and the tick of the next presence are carried.
 fn begin(t: u32, v: u32, k: u32, gap: u32, state: &mut [u32], i: usize) -> Outcome
-    requires { ⌜ (i + 4 ≤ length (now state)) × (t < 2 ^ 24) × (k < 2 ^ 6) × (gap < 2 ^ 12) ⌝ }
+    requires { ⌜ (i + heldSize ≤ length (now state)) × (t < 2 ^ 24) × (k < 2 ^ 6) × (gap < 2 ^ 12) ⌝ }
     ensures { λ r. ⌜ Did (is (present v)) (begun t v k gap) i (now (state .entry)) (now (state .exit)) r ⌝ }
 {
     state[i] = v;
@@ -62,7 +62,7 @@ fn begin(t: u32, v: u32, k: u32, gap: u32, state: &mut [u32], i: usize) -> Outco
 
 // The copy of a faster row's latest presence, at its tick.
 fn copied(t: u32, gap: u32, state: &mut [u32], i: usize) -> Outcome
-    requires { ⌜ (i + 4 ≤ length (now state)) × (t < 2 ^ 24) × (gap < 2 ^ 12) ⌝ }
+    requires { ⌜ (i + heldSize ≤ length (now state)) × (t < 2 ^ 24) × (gap < 2 ^ 12) ⌝ }
     ensures { λ r. ⌜ ((k : ℕ)
         → Did (fasterStep t absent (heldIn (now (state .entry)) i)) (fasterNext t absent k gap (heldIn (now (state .entry)) i)) i
         (now (state .entry)) (now (state .exit)) r) ⌝ }
@@ -99,7 +99,7 @@ pub(crate) fn faster(
     requires { ⌜ (a < f)
         × (f ≤ length (now marks))
         × (f ≤ length (now values))
-        × (i + 4 ≤ length (now state))
+        × (i + heldSize ≤ length (now state))
         × (t < 2 ^ 24)
         × (k < 2 ^ 6)
         × (gap < 2 ^ 12) ⌝ }
@@ -134,7 +134,7 @@ pub(crate) fn slower(
     state: &mut [u32],
     i: usize,
 ) -> Outcome
-    requires { ⌜ (a < f) × (f ≤ length (now marks)) × (f ≤ length (now values)) × (i + 4 ≤ length (now state)) × (1 ≤ k) ⌝ }
+    requires { ⌜ (a < f) × (f ≤ length (now marks)) × (f ≤ length (now values)) × (i + heldSize ≤ length (now state)) × (1 ≤ k) ⌝ }
     ensures { λ r. ⌜ Did (slowerStep (cellsIn (now (marks .entry)) (now (values .entry)) f a) (heldIn (now (state .entry)) i))
         (slowerNext (cellsIn (now (marks .entry)) (now (values .entry)) f a) k (heldIn (now (state .entry)) i)) i
         (now (state .entry)) (now (state .exit)) r ⌝ }
@@ -182,7 +182,7 @@ pub(crate) fn later(
     state: &[u32],
     i: usize,
 ) -> Outcome
-    requires { ⌜ (a < f) × (f ≤ length (now marks)) × (f ≤ length (now values)) × (i + 4 ≤ length (now state)) ⌝ }
+    requires { ⌜ (a < f) × (f ≤ length (now marks)) × (f ≤ length (now values)) × (i + heldSize ≤ length (now state)) ⌝ }
     ensures { λ r. ⌜ r ≡ outcomeOf (laterStep (cellsIn (now (marks .entry)) (now (values .entry)) f a) d (heldIn (now (state .entry)) i)) ⌝ }
 {
     if d == 0 {
@@ -200,7 +200,7 @@ pub(crate) fn later(
 
 // A presence of a head row's operand, after tick s.
 fn after(t: u32, x: u32, s: u32, state: &mut [u32], i: usize) -> Outcome
-    requires { ⌜ (i + 4 ≤ length (now state)) × (t < 2 ^ 24) × (s < t) ⌝ }
+    requires { ⌜ (i + heldSize ≤ length (now state)) × (t < 2 ^ 24) × (s < t) ⌝ }
     ensures { λ r. ⌜ Did (afterStep t x (heldIn (now (state .entry)) i)) (afterNext t s (heldIn (now (state .entry)) i)) i (now (state .entry))
         (now (state .exit)) r ⌝ }
 {
@@ -232,7 +232,7 @@ pub(crate) fn head(
     state: &mut [u32],
     i: usize,
 ) -> Outcome
-    requires { ⌜ (a < f) × (f ≤ length (now marks)) × (f ≤ length (now values)) × (i + 4 ≤ length (now state)) × (t < 2 ^ 24) ⌝ }
+    requires { ⌜ (a < f) × (f ≤ length (now marks)) × (f ≤ length (now values)) × (i + heldSize ≤ length (now state)) × (t < 2 ^ 24) ⌝ }
     ensures { λ r. ⌜ Did (headStep t (cellsIn (now (marks .entry)) (now (values .entry)) f a) v s (heldIn (now (state .entry)) i))
         (headNext t (cellsIn (now (marks .entry)) (now (values .entry)) f a) s (heldIn (now (state .entry)) i)) i
         (now (state .entry)) (now (state .exit)) r ⌝ }
@@ -262,7 +262,7 @@ pub(crate) fn tail(
     state: &mut [u32],
     i: usize,
 ) -> Outcome
-    requires { ⌜ (a < f) × (f ≤ length (now marks)) × (f ≤ length (now values)) × (i + 4 ≤ length (now state)) ⌝ }
+    requires { ⌜ (a < f) × (f ≤ length (now marks)) × (f ≤ length (now values)) × (i + heldSize ≤ length (now state)) ⌝ }
     ensures { λ r. ⌜ Did (tailStep (cellsIn (now (marks .entry)) (now (values .entry)) f a) (heldIn (now (state .entry)) i))
         (tailNext (cellsIn (now (marks .entry)) (now (values .entry)) f a) (heldIn (now (state .entry)) i)) i
         (now (state .entry)) (now (state .exit)) r ⌝ }

@@ -6,6 +6,7 @@ ghost use lib.ListN.{length};
 ghost use Rattle.semantics.specs.Runs.{Ticks, inputs, cells, tickOf, Regular};
 ghost use Rattle.semantics.specs.Runs as runs;
 ghost use Rattle.runner.specs.Called.{Called};
+ghost use Rattle.runner.specs.Private.Carried.{stateSize};
 ghost use Rattle.runner.specs.Private.Ready.{rowsIn, Plain, AllCarry, Ready, Wrote, Listed, TickAt, RanTo};
 
 mod carried;
@@ -13,8 +14,10 @@ mod operators;
 mod state;
 mod ticks;
 
+use crate::state::STATE_SIZE;
 use crate::ticks::Ticked;
 use table::Answer;
+use table::MAX_FLOWS;
 
 const MOST_TICKS: u32 = 65535;
 
@@ -35,7 +38,7 @@ fn tick_at(
     requires { ⌜ (Plain n (now words))
         × (first + n ≤ length (now marks))
         × (first + n ≤ length (now values))
-        × (length (now state) ≡ 256)
+        × (length (now state) ≡ stateSize)
         × (Listed 7 n (now words) (now registers) count)
         × (t < 2 ^ 24)
         × (at < 2 ^ 40) ⌝ }
@@ -78,7 +81,7 @@ fn turn(
     requires { ⌜ (Plain n (now words))
         × (t * n + n ≤ length (now marks))
         × (t * n + n ≤ length (now values))
-        × (length (now state) ≡ 256)
+        × (length (now state) ≡ stateSize)
         × (Listed 7 n (now words) (now registers) «register_count»)
         × (Listed 10 n (now words) (now laters) «later_count»)
         × (t < 2 ^ 24)
@@ -127,7 +130,7 @@ fn run_ticks(
     requires { ⌜ (Plain n (now words))
         × (ticks * n ≤ length (now marks))
         × (ticks * n ≤ length (now values))
-        × (length (now state) ≡ 256)
+        × (length (now state) ≡ stateSize)
         × (Listed 7 n (now words) (now registers) «register_count»)
         × (Listed 10 n (now words) (now laters) «later_count»)
         × (ticks < 2 ^ 24)
@@ -156,7 +159,7 @@ fn run_ticks(
         match done {
             Ticked::Stopped(f) => {
                 return Answer {
-                    number: 34,
+                    number: table::CLASH,
                     flow: f as u32,
                     tick: t,
                     count: 0,
@@ -183,15 +186,15 @@ fn run_from(
     requires { ⌜ (Plain n (now words))
         × (ticks * n ≤ length (now marks))
         × (ticks * n ≤ length (now values))
-        × (length (now state) ≡ 256)
+        × (length (now state) ≡ stateSize)
         × (ticks < 2 ^ 24)
         × (inputs ≡ runs.inputs (rowsIn n (now words)))
         × (AllCarry (rowsIn n (now words)) 0 [] (now state)) ⌝ }
     ensures { λ r. ⌜ RanTo (runs.run (rowsIn n (now (words .entry))) (now (log .entry)) ticks) ticks (now (marks .entry)) (now (values .entry))
         (now (marks .exit)) (now (values .exit)) r ⌝ }
 {
-    let mut registers = [0u32; 64];
-    let mut laters = [0u32; 64];
+    let mut registers = [0u32; MAX_FLOWS as usize];
+    let mut laters = [0u32; MAX_FLOWS as usize];
     let register_count = state::listed(7, n, words, &mut registers);
     let later_count = state::listed(10, n, words, &mut laters);
     run_ticks(
@@ -224,19 +227,19 @@ fn run_plain(
         (now (values .exit)) r ⌝ }
 {
     if MOST_TICKS < ticks {
-        return Answer::refusal(31, 0);
+        return Answer::refusal(table::TOO_MANY_TICKS, 0);
     }
-    let mut state = [0u32; 256];
+    let mut state = [0u32; STATE_SIZE];
     let inputs = state::start(n, words, &mut state) as usize;
     if log.len() != (ticks as usize) * inputs {
-        return Answer::refusal(32, 0);
+        return Answer::refusal(table::WRONG_LOG, 0);
     }
     let cells = (ticks as usize) * n;
     if marks.len() < cells {
-        return Answer::refusal(33, 0);
+        return Answer::refusal(table::SHORT_TRACE, 0);
     }
     if values.len() < cells {
-        return Answer::refusal(33, 0);
+        return Answer::refusal(table::SHORT_TRACE, 0);
     }
     run_from(n, words, log, inputs, ticks, &mut state, marks, values)
 }

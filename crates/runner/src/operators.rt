@@ -3,9 +3,9 @@ ghost use mathlib.Core.Path.{_≡_};
 ghost use Prim.Native.Nat.{_≤_, _<_};
 ghost use lib.ListN.{length};
 ghost use Rattle.table.specs.Bits.{bit};
-ghost use Rattle.table.specs.Rows.{larger};
+ghost use Rattle.table.specs.Rows.{Op, larger};
 ghost use Rattle.semantics.specs.Operators.{below, apply, combined, sampled, neither, alone, merged};
-ghost use Rattle.runner.specs.Private.Carried.{outcomeOf, cellsIn, Held, opOf, registerStep};
+ghost use Rattle.runner.specs.Private.Carried.{outcomeOf, cellsIn, Combines, Held, registerStep};
 ghost use Rattle.semantics.specs.Cells.{present};
 
 // What a row comes to at a tick: the mark and the value of its cell, or the mark of a clash.
@@ -32,7 +32,7 @@ fn below(x: u32, y: u32) -> bool
 }
 
 // 1 where a test is passed, else 0.
-fn bit(b: bool) -> u32
+pub(crate) fn bit(b: bool) -> u32
     ensures { λ r. ⌜ r ≡ bit b ⌝ }
 {
     if b { 1 } else { 0 }
@@ -47,7 +47,8 @@ fn larger(x: u32, y: u32) -> u32
 
 // The value of kinds 2 to 6.
 fn apply(kind: u32, x: u32, y: u32) -> u32
-    ensures { λ r. ⌜ r ≡ apply (opOf kind) x y ⌝ }
+    requires { ⌜ (2 ≤ kind) × (kind ≤ 6) ⌝ }
+    ensures { λ r. ⌜ ((op : Op) → Combines kind op → r ≡ apply op x y) ⌝ }
 {
     match kind {
         2 => std::num::wrapping_add_u32(x, y),
@@ -60,10 +61,12 @@ fn apply(kind: u32, x: u32, y: u32) -> u32
 
 // Kinds 2 to 6: present when both operands are.
 pub(crate) fn combined(kind: u32, marks: &[u8], values: &[u32], f: usize, a: u32, b: u32) -> Outcome
-    requires { ⌜ (a < f) × (b < f) × (f ≤ length (now marks)) × (f ≤ length (now values)) ⌝ }
-    ensures { λ r. ⌜ r ≡ outcomeOf (combined (opOf kind)
+    requires { ⌜ (a < f) × (b < f) × (f ≤ length (now marks)) × (f ≤ length (now values)) × (2 ≤ kind) × (kind ≤ 6) ⌝ }
+    ensures { λ r. ⌜ ((op : Op)
+        → Combines kind op
+        → r ≡ outcomeOf (combined op
         (cellsIn (now (marks .entry)) (now (values .entry)) f a)
-        (cellsIn (now (marks .entry)) (now (values .entry)) f b)) ⌝ }
+        (cellsIn (now (marks .entry)) (now (values .entry)) f b))) ⌝ }
 {
     let i = a as usize;
     let j = b as usize;

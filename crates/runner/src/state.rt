@@ -5,18 +5,26 @@ ghost use mathlib.Core.Bool.{cond};
 ghost use mathlib.Core.List.{List, []};
 ghost use lib.Dec.{eqb};
 ghost use lib.ListN.{length, getD, set, replicate};
+ghost use Rattle.table.specs.Rows.{maxFlows, kindCount, decode, rowSize};
 ghost use Rattle.semantics.specs.Runs.{Ticks, inputs, cells, Regular};
-ghost use Rattle.runner.specs.Private.Carried.{heldIn, decode, Started, startOf, Fetched};
+ghost use Rattle.runner.specs.Private.Carried.{heldSize, stateSize, heldIn, startWord, startOf, Started, Fetched};
 ghost use Rattle.runner.specs.Private.Ready.{rowsIn, Plain, AllCarry, Ready, Wrote, Listed};
+use crate::operators;
+use table::ROW_SIZE;
+
+// How many words are kept for what a row carries, and for all rows.
+pub(crate) const HELD_SIZE: usize = 4;
+
+pub(crate) const STATE_SIZE: usize = HELD_SIZE * (table::MAX_FLOWS as usize);
 
 // Row f is added to the list where it is of the kind.
 fn listed_with(kind: u32, words: &[u32], f: usize, list: &mut [u32], found: usize) -> usize
-    requires { ⌜ (f < 64) × (4 * f < length (now words)) × (found < length (now list)) ⌝ }
+    requires { ⌜ (f < maxFlows) × (rowSize * f < length (now words)) × (found < length (now list)) ⌝ }
     ensures { λ r. ⌜ (now (list .exit)
-        ≡ cond (eqb (getD (now (words .entry)) (4 * f) 0) kind) (set (now (list .entry)) found f) (now (list .entry)))
-        × (r ≡ cond (eqb (getD (now (words .entry)) (4 * f) 0) kind) (found + 1) found) ⌝ }
+        ≡ cond (eqb (getD (now (words .entry)) (rowSize * f) 0) kind) (set (now (list .entry)) found f) (now (list .entry)))
+        × (r ≡ cond (eqb (getD (now (words .entry)) (rowSize * f) 0) kind) (found + 1) found) ⌝ }
 {
-    if words[4 * f] == kind {
+    if words[ROW_SIZE * f] == kind {
         list[found] = f as u32;
         found + 1
     } else {
@@ -26,7 +34,7 @@ fn listed_with(kind: u32, words: &[u32], f: usize, list: &mut [u32], found: usiz
 
 // The numbers of the rows of a kind, in ascending order, and how many there are.
 pub(crate) fn listed(kind: u32, n: usize, words: &[u32], list: &mut [u32]) -> usize
-    requires { ⌜ (n ≤ 64) × (length (now words) ≡ 4 * n) × (n ≤ length (now list)) ⌝ }
+    requires { ⌜ (n ≤ maxFlows) × (length (now words) ≡ rowSize * n) × (n ≤ length (now list)) ⌝ }
     ensures { λ r. ⌜ Listed kind n (now (words .entry)) (now (list .exit)) r ⌝ }
 {
     let mut f = 0;
@@ -38,53 +46,48 @@ pub(crate) fn listed(kind: u32, n: usize, words: &[u32], list: &mut [u32]) -> us
     found
 }
 
-// The words that row f carries into tick 0, where j inputs stand before it.
-fn start_row(kind: u32, p: u32, q: u32, r: u32, f: usize, j: u32, state: &mut [u32])
-    requires { ⌜ (f < 64) × (length (now state) ≡ 256) ⌝ }
-    ensures { λ _. ⌜ Started (startOf (decode kind p q r) j (heldIn (now (state .entry)) (4 * f))) f (now (state .entry)) (now (state .exit)) ⌝ }
+// The first word that a row carries into tick 0: the phase of an input or a constant, the initial value of a register.
+fn first_word(kind: u32, p: u32, q: u32, r: u32) -> u32
+    requires { ⌜ kind < kindCount ⌝ }
+    ensures { λ w. ⌜ w ≡ startWord (decode kind p q r) ⌝ }
 {
-    let i = 4 * f;
     match kind {
-        0 => {
-            state[i] = q;
-            state[i + 1] = j;
-        }
-        1 => {
-            state[i] = r;
-        }
-        7 => {
-            state[i] = p;
-        }
-        _ => {}
+        0 => q,
+        1 => r,
+        7 => p,
+        _ => 0,
     }
 }
 
-// 1 where a row is an input, else 0.
-fn input_bit(kind: u32) -> u32
-    ensures { λ r. ⌜ r ≡ cond (eqb kind 0) 1 0 ⌝ }
+// The words that row f carries into tick 0, where j inputs stand before it.
+fn start_row(kind: u32, p: u32, q: u32, r: u32, f: usize, j: u32, state: &mut [u32])
+    requires { ⌜ (kind < kindCount) × (f < maxFlows) × (length (now state) ≡ stateSize) ⌝ }
+    ensures { λ _. ⌜ Started (startOf (decode kind p q r) j (heldIn (now (state .entry)) (heldSize * f))) f (now (state .entry)) (now (state .exit)) ⌝ }
 {
-    if kind == 0 { 1 } else { 0 }
+    let i = HELD_SIZE * f;
+    state[i] = first_word(kind, p, q, r);
+    state[i + 1] = j;
 }
 
 // The words that the rows carry into tick 0, and the count of inputs.
 pub(crate) fn start(n: usize, words: &[u32], state: &mut [u32]) -> u32
-    requires { ⌜ (Plain n (now words)) × (now state ≡ replicate 256 0) ⌝ }
+    requires { ⌜ (Plain n (now words)) × (now state ≡ replicate stateSize 0) ⌝ }
     ensures { λ r. ⌜ (r ≡ inputs (rowsIn n (now (words .entry)))) × (AllCarry (rowsIn n (now (words .entry))) 0 [] (now (state .exit))) ⌝ }
 {
     let mut f = 0;
     let mut j = 0;
     while f < n {
-        let kind = words[4 * f];
+        let kind = words[ROW_SIZE * f];
         start_row(
             kind,
-            words[4 * f + 1],
-            words[4 * f + 2],
-            words[4 * f + 3],
+            words[ROW_SIZE * f + 1],
+            words[ROW_SIZE * f + 2],
+            words[ROW_SIZE * f + 3],
             f,
             j,
             state,
         );
-        j = j + input_bit(kind);
+        j = j + operators::bit(kind == 0);
         f = f + 1;
     }
     j
@@ -101,21 +104,21 @@ fn collect_row(
     values: &[u32],
     state: &mut [u32],
 )
-    requires { ⌜ (n ≤ 64)
+    requires { ⌜ (n ≤ maxFlows)
         × (a < n)
-        × (f < 64)
+        × (f < maxFlows)
         × (t < 2 ^ 24)
         × (t * n + n ≤ length (now marks))
         × (t * n + n ≤ length (now values))
-        × (length (now state) ≡ 256) ⌝ }
+        × (length (now state) ≡ stateSize) ⌝ }
     ensures { λ _. ⌜ Fetched n a d f t (now (marks .entry)) (now (values .entry)) (now (state .entry)) (now (state .exit)) ⌝ }
 {
     if d <= t {
         let place = ((t - d) as usize) * n + a;
-        state[4 * f] = marks[place] as u32;
-        state[4 * f + 1] = values[place];
+        state[HELD_SIZE * f] = marks[place] as u32;
+        state[HELD_SIZE * f + 1] = values[place];
     } else {
-        state[4 * f] = 0;
+        state[HELD_SIZE * f] = 0;
     }
 }
 
@@ -134,7 +137,7 @@ pub(crate) fn collect(
         × (t < 2 ^ 24)
         × (t * n + n ≤ length (now marks))
         × (t * n + n ≤ length (now values))
-        × (length (now state) ≡ 256)
+        × (length (now state) ≡ stateSize)
         × (Listed 10 n (now words) (now laters) count) ⌝ }
     ensures { λ _. ⌜ ((past : Ticks) (ms vs : List ℕ) (at : ℕ)
         → length past ≡ t
@@ -149,8 +152,8 @@ pub(crate) fn collect(
         let f = laters[j] as usize;
         collect_row(
             n,
-            words[4 * f + 1] as usize,
-            words[4 * f + 2],
+            words[ROW_SIZE * f + 1] as usize,
+            words[ROW_SIZE * f + 2],
             f,
             t,
             marks,

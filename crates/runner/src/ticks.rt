@@ -4,10 +4,10 @@ ghost use mathlib.Core.Bool.{cond};
 ghost use mathlib.Core.List.{List, []};
 ghost use lib.Dec.{eqb};
 ghost use Prim.Native.Nat.{ℕ, _+_, _*_, _≤_, _<_, _^_};
-ghost use lib.ListN.{length, set};
-ghost use Rattle.table.proofs.Tables.{Fits};
-ghost use Rattle.runner.specs.Private.Carried.{cellsIn, heldIn, decode, stepOf, nextOf, Did};
-ghost use Rattle.table.specs.Rows.{badRegister};
+ghost use lib.ListN.{length, getD, set};
+ghost use Rattle.table.specs.Rows.{Op, maxFlows, rowSize, badRegister};
+ghost use Rattle.semantics.specs.Operators.{combined};
+ghost use Rattle.runner.specs.Private.Carried.{outcomeOf, cellsIn, wordsAt, madeOf, Legal, Combines, heldSize, stateSize, heldIn, stepOf, nextOf, Did};
 ghost use Rattle.semantics.specs.Runs.{Tick, Ticks, flowsFrom, sourceMeets, tickOf};
 ghost use Rattle.runner.specs.Private.Ready.{rowsIn, Plain, Ready, AllFollow, Wrote, FlowsEnd, LatchEnd, TickDone, Listed};
 use crate::carried;
@@ -15,6 +15,8 @@ use crate::operators;
 use crate::operators::CLASH;
 use crate::operators::CLASHED;
 use crate::operators::Outcome;
+use crate::state::HELD_SIZE;
+use table::ROW_SIZE;
 
 // What a tick comes to: all of it, or a clash that names a flow.
 pub enum Ticked {
@@ -22,56 +24,108 @@ pub enum Ticked {
     Stopped(usize),
 }
 
-// What row f comes to at tick t: one decision over the kind. A known kind is its own remainder; that lets the compiler make one jump of the
-// decision and of the one over kinds 2 to 6 in it.
-fn outcome(
+// Kinds 2 to 6, of the two flows whose numbers stand in words at one and two.
+fn pair(
     kind: u32,
-    p: u32,
-    q: u32,
-    r: u32,
-    t: u32,
+    words: &[u32],
+    one: usize,
+    two: usize,
+    marks: &[u8],
+    values: &[u32],
     f: usize,
+) -> Outcome
+    requires { ⌜ (one < length (now words))
+        × (two < length (now words))
+        × (getD (now words) one 0 < f)
+        × (getD (now words) two 0 < f)
+        × (f ≤ length (now marks))
+        × (f ≤ length (now values))
+        × (2 ≤ kind)
+        × (kind ≤ 6) ⌝ }
+    ensures { λ r. ⌜ ((op : Op)
+        → Combines kind op
+        → r ≡ outcomeOf (combined op
+        (cellsIn (now (marks .entry)) (now (values .entry)) f (getD (now (words .entry)) one 0))
+        (cellsIn (now (marks .entry)) (now (values .entry)) f (getD (now (words .entry)) two 0)))) ⌝ }
+{
+    operators::combined(kind, marks, values, f, words[one], words[two])
+}
+
+// What row f comes to at tick t: one decision over the kind. That no other kind reaches it is told beforehand, and each field is read where it
+// is needed: so the compiler makes one jump of the decision and of the one over kinds 2 to 6 in it.
+fn outcome(
+    words: &[u32],
+    f: usize,
+    t: u32,
     log: &[u32],
     at: usize,
     state: &mut [u32],
     marks: &[u8],
     values: &[u32],
 ) -> Outcome
-    requires { ⌜ (f < 64)
-        × (kind < 16)
-        × (Fits 64 f (decode kind p q r))
+    requires { ⌜ (f < maxFlows)
+        × (rowSize * f + rowSize ≤ length (now words))
+        × (Legal f (wordsAt (now words) f))
         × (f ≤ length (now marks))
         × (f ≤ length (now values))
-        × (length (now state) ≡ 256)
+        × (length (now state) ≡ stateSize)
         × (t < 2 ^ 24)
         × (at < 2 ^ 40) ⌝ }
     ensures { λ o. ⌜ Did
-        (stepOf (decode kind p q r) t (now (log .entry)) at (cellsIn (now (marks .entry)) (now (values .entry)) f)
-        (heldIn (now (state .entry)) (4 * f)))
-        (nextOf (decode kind p q r) t (cellsIn (now (marks .entry)) (now (values .entry)) f)
-        (heldIn (now (state .entry)) (4 * f)))
-        (4 * f) (now (state .entry)) (now (state .exit)) o ⌝ }
+        (stepOf (madeOf (wordsAt (now (words .entry)) f)) t (now (log .entry)) at (cellsIn (now (marks .entry)) (now (values .entry)) f)
+        (heldIn (now (state .entry)) (heldSize * f)))
+        (nextOf (madeOf (wordsAt (now (words .entry)) f)) t (cellsIn (now (marks .entry)) (now (values .entry)) f)
+        (heldIn (now (state .entry)) (heldSize * f)))
+        (heldSize * f) (now (state .entry)) (now (state .exit)) o ⌝ }
 {
-    let i = 4 * f;
-    let code = kind % table::KINDS;
-    match code {
-        15 => operators::merged(marks, values, f, p, q, r),
-        14 => operators::sampled(false, marks, values, f, p, q),
-        13 => operators::sampled(true, marks, values, f, p, q),
-        12 => carried::tail(marks, values, f, p, state, i),
-        11 => carried::head(t, marks, values, f, p, q, r, state, i),
-        10 => carried::later(q, marks, values, f, p, state, i),
-        9 => carried::slower(marks, values, f, p, q, state, i),
-        8 => carried::faster(t, marks, values, f, p, q, r, state, i),
-        7 => operators::registered(marks, values, f, q, state[i]),
-        1 => carried::constant(t, p, q, state, i),
-        0 => carried::input(t, p, log, at, state, i),
-        2..=6 => match code {
-            2 => operators::combined(2, marks, values, f, p, q),
-            3 => operators::combined(3, marks, values, f, p, q),
-            4 => operators::combined(4, marks, values, f, p, q),
-            5 => operators::combined(5, marks, values, f, p, q),
-            _ => operators::combined(6, marks, values, f, p, q),
+    let row = ROW_SIZE * f;
+    let one = row + 1;
+    let two = row + 2;
+    let three = row + 3;
+    let i = HELD_SIZE * f;
+    let kind = words[row];
+    if table::KINDS <= kind {
+        return CLASH;
+    }
+    match kind {
+        15 => operators::merged(marks, values, f, words[one], words[two], words[three]),
+        14 => operators::sampled(false, marks, values, f, words[one], words[two]),
+        13 => operators::sampled(true, marks, values, f, words[one], words[two]),
+        12 => carried::tail(marks, values, f, words[one], state, i),
+        11 => carried::head(
+            t,
+            marks,
+            values,
+            f,
+            words[one],
+            words[two],
+            words[three],
+            state,
+            i,
+        ),
+        10 => carried::later(words[two], marks, values, f, words[one], state, i),
+        9 => carried::slower(marks, values, f, words[one], words[two], state, i),
+        8 => carried::faster(
+            t,
+            marks,
+            values,
+            f,
+            words[one],
+            words[two],
+            words[three],
+            state,
+            i,
+        ),
+        7 => operators::registered(marks, values, f, words[two], state[i]),
+        1 => carried::constant(t, words[one], words[two], state, i),
+        0 => carried::input(t, words[one], log, at, state, i),
+        2..=6 => match kind {
+            2 => pair(2, words, one, two, marks, values, f),
+            3 => pair(3, words, one, two, marks, values, f),
+            4 => pair(4, words, one, two, marks, values, f),
+            5 => pair(5, words, one, two, marks, values, f),
+            6 => pair(6, words, one, two, marks, values, f),
+            _ => CLASH,
         },
         16..=4294967295 => CLASH,
     }
@@ -100,7 +154,7 @@ fn flows(
     requires { ⌜ (Plain n (now words))
         × (n ≤ length (now marks))
         × (n ≤ length (now values))
-        × (length (now state) ≡ 256)
+        × (length (now state) ≡ stateSize)
         × (t < 2 ^ 24)
         × (at < 2 ^ 40) ⌝ }
     ensures { λ r. ⌜ ((past : Ticks)
@@ -111,19 +165,7 @@ fn flows(
 {
     let mut f = 0;
     while f < n {
-        let o = outcome(
-            words[4 * f],
-            words[4 * f + 1],
-            words[4 * f + 2],
-            words[4 * f + 3],
-            t,
-            f,
-            log,
-            at,
-            state,
-            marks,
-            values,
-        );
+        let o = outcome(words, f, t, log, at, state, marks, values);
         if o.mark == CLASHED {
             return Ticked::Stopped(f);
         }
@@ -154,7 +196,7 @@ fn latch(
     requires { ⌜ (Plain n (now words))
         × (n ≤ length (now marks))
         × (n ≤ length (now values))
-        × (length (now state) ≡ 256)
+        × (length (now state) ≡ stateSize)
         × (Listed 7 n (now words) (now registers) count) ⌝ }
     ensures { λ r. ⌜ ((past : Ticks) (cells : Tick) (ms vs : List ℕ) (t : ℕ)
         → length cells ≡ n
@@ -166,12 +208,12 @@ fn latch(
     let mut j = 0;
     while j < count {
         let f = registers[j] as usize;
-        let b = words[4 * f + 2] as usize;
-        let a = words[4 * f + 3] as usize;
+        let b = words[ROW_SIZE * f + 2] as usize;
+        let a = words[ROW_SIZE * f + 3] as usize;
         if marks[a] != marks[b] {
             return Ticked::Stopped(f);
         }
-        state[4 * f] = latched(state[4 * f], marks[a], values[a]);
+        state[HELD_SIZE * f] = latched(state[HELD_SIZE * f], marks[a], values[a]);
         j = j + 1;
     }
     Ticked::Full
@@ -193,7 +235,7 @@ pub(crate) fn tick(
     requires { ⌜ (Plain n (now words))
         × (n ≤ length (now marks))
         × (n ≤ length (now values))
-        × (length (now state) ≡ 256)
+        × (length (now state) ≡ stateSize)
         × (Listed 7 n (now words) (now registers) count)
         × (t < 2 ^ 24)
         × (at < 2 ^ 40) ⌝ }

@@ -2,11 +2,13 @@
 -- contract says nothing of them.
 use mathlib.Core.Path.{_≡_}
 use Prim.Native.Nat.{ℕ, _+_, _*_, _-_, _<_, _≤_}
-use mathlib.Core.Bool.{true, false, cond}
+use mathlib.Core.Bool.{cond}
 use mathlib.Core.List.{List}
 use lib.ListN.{getD}
 use lib.Dec.{eqb, ltb, leb}
-use Rattle.table.specs.Rows.{Row, Op, add, subtract, less, equal, larger, input, constant, combine, register, faster, slower, later, head, tail, sample, merge}
+use Rattle.table.specs.Rows.{Row, Op, input, constant, combine, register, faster, slower, later, head, tail, sample, merge}
+use Rattle.table.specs.Rows.{maxFlows, kindCount, kindAt, decode, rowSize, Words}
+use Rattle.table.specs.Tables.{FieldsFit}
 use Rattle.runner.specs.declared.operators.Outcome.{Outcome}
 use Rattle.semantics.specs.Cells.{Cell, absent, present, value}
 use Rattle.semantics.specs.Answers.{markByte}
@@ -28,7 +30,35 @@ outcomeOf clashes = record { mark = clashMark; value = 0 }
 abbrev pub cellsIn : List ℕ → List ℕ → ℕ → ℕ → Cell
 cellsIn ms vs f a = cond (ltb a f) (cellAt (getD ms a 0) (getD vs a 0)) absent
 
--- a row's words
+-- Row f's words as the code reads them, and the row that they make.
+abbrev pub wordsAt : List ℕ → ℕ → Words
+wordsAt words f =
+    record {
+      kind = getD words (rowSize * f) 0;
+      one = getD words (rowSize * f + 1) 0;
+      two = getD words (rowSize * f + 2) 0;
+      three = getD words (rowSize * f + 3) 0;
+    }
+
+abbrev pub madeOf : Words → Row
+madeOf w = decode (w .kind) (w .one) (w .two) (w .three)
+
+-- they are those of a table that is not refused
+abbrev pub Legal : ℕ → Words → Type 0
+Legal f w = (w .kind < kindCount) × FieldsFit maxFlows f (kindAt (w .kind)) (w .one) (w .two) (w .three)
+
+-- a kind of row that combines two flows by an operator
+abbrev pub Combines : ℕ → Op → Type 0
+Combines k op = (a b z : ℕ) → decode k a b z ≡ combine op a b
+
+-- How many words are kept for what a row carries, of which three are used at most, and for all rows.
+abbrev pub heldSize : ℕ
+heldSize = 4
+
+abbrev pub stateSize : ℕ
+stateSize = heldSize * maxFlows
+
+-- what a row carries
 pub record Held : Type 0 where
   pub x : ℕ
   pub y : ℕ
@@ -39,25 +69,6 @@ held x y z = record { x = x; y = y; z = z }
 
 abbrev pub heldIn : List ℕ → ℕ → Held
 heldIn s i = held (getD s i 0) (getD s (i + 1) 0) (getD s (i + 2) 0)
-
--- kinds 2 to 6 by number
-abbrev pub opOf : ℕ → Op
-opOf k = cond (eqb k 2) add (cond (eqb k 3) subtract (cond (eqb k 4) less (cond (eqb k 5) equal larger)))
-
--- the row of a kind that is 15 or below
-unfoldable pub decode : ℕ → ℕ → ℕ → ℕ → Row
-decode k p q r =
-    cond (eqb k 0) (input p q)
-    (cond (eqb k 1) (constant p q r)
-    (cond (ltb k 7) (combine (opOf k) p q)
-    (cond (eqb k 7) (register p q r)
-    (cond (eqb k 8) (faster p q r)
-    (cond (eqb k 9) (slower p q)
-    (cond (eqb k 10) (later p q)
-    (cond (eqb k 11) (head p q r)
-    (cond (eqb k 12) (tail p)
-    (cond (eqb k 13) (sample true p q)
-    (cond (eqb k 14) (sample false p q) (merge p q r)))))))))))
 
 -- Input, constant: x is the next tick at which it is present; of an input, y is its number among the inputs.
 abbrev pub timedStep : ℕ → ℕ → Held → Step
@@ -161,26 +172,30 @@ pub record Did (step : Step) (next : Held) (i : ℕ) (s s′ : List ℕ) (r : Ou
   pub before : (j : ℕ) → j < i → getD s′ j 0 ≡ getD s j 0
   pub after : (j : ℕ) → i + 3 ≤ j → getD s′ j 0 ≡ getD s j 0
 
--- A row's words at the start, where j inputs stand before it.
-unfoldable pub startOf : Row → ℕ → Held → Held
-startOf (input n p) j h = held p j (h .z)
-startOf (constant v n p) j h = held p (h .y) (h .z)
-startOf (combine op a b) j h = h
-startOf (register v b a) j h = held v (h .y) (h .z)
-startOf (faster a k g) j h = h
-startOf (slower a k) j h = h
-startOf (later a d) j h = h
-startOf (head a v s) j h = h
-startOf (tail a) j h = h
-startOf (sample u a c) j h = h
-startOf (merge c a b) j h = h
+-- The first word that a row carries into tick 0.
+unfoldable pub startWord : Row → ℕ
+startWord (input n p) = p
+startWord (constant v n p) = p
+startWord (combine op a b) = 0
+startWord (register v b a) = v
+startWord (faster a k g) = 0
+startWord (slower a k) = 0
+startWord (later a d) = 0
+startWord (head a v s) = 0
+startWord (tail a) = 0
+startWord (sample u a c) = 0
+startWord (merge c a b) = 0
+
+-- and all of them, where j inputs stand before it
+abbrev pub startOf : Row → ℕ → Held → Held
+startOf row j h = held (startWord row) j (h .z)
 
 -- row f's words are set, and no other row's
 pub record Started (next : Held) (f : ℕ) (s s′ : List ℕ) : Type 0 where
-  pub carried : heldIn s′ (4 * f) ≡ next
-  pub others : (g : ℕ) → (g ≡ f → ⊥) → heldIn s′ (4 * g) ≡ heldIn s (4 * g)
+  pub carried : heldIn s′ (heldSize * f) ≡ next
+  pub others : (g : ℕ) → (g ≡ f → ⊥) → heldIn s′ (heldSize * g) ≡ heldIn s (heldSize * g)
 
 -- row f's words have the cell of flow a at d ticks before tick t, absent where there is no such tick
 pub record Fetched (n a d f t : ℕ) (ms vs s s′ : List ℕ) : Type 0 where
-  pub cell : cellAt (heldIn s′ (4 * f) .x) (heldIn s′ (4 * f) .y) ≡ cond (leb d t) (cellAt (getD ms ((t - d) * n + a) 0) (getD vs ((t - d) * n + a) 0)) absent
-  pub others : (g : ℕ) → (g ≡ f → ⊥) → heldIn s′ (4 * g) ≡ heldIn s (4 * g)
+  pub cell : cellAt (heldIn s′ (heldSize * f) .x) (heldIn s′ (heldSize * f) .y) ≡ cond (leb d t) (cellAt (getD ms ((t - d) * n + a) 0) (getD vs ((t - d) * n + a) 0)) absent
+  pub others : (g : ℕ) → (g ≡ f → ⊥) → heldIn s′ (heldSize * g) ≡ heldIn s (heldSize * g)

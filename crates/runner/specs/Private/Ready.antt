@@ -9,16 +9,16 @@ use lib.ListN.{length, getD, take}
 use lib.Dec.{eqb}
 use Rattle.table.specs.declared.Answer.{Answer}
 use Rattle.table.specs.Answers.{good, over}
-use Rattle.table.specs.Rows.{Row, input, constant, combine, register, faster, slower, later, head, tail, sample, merge, onRegister}
+use Rattle.table.specs.Rows.{Row, input, constant, combine, register, faster, slower, later, head, tail, sample, merge, rowSize, onRegister}
 use Rattle.table.specs.Plain.{tableOf, rowsIn as accepted}
-use Rattle.table.proofs.Tables.{rowAt}
+use Rattle.table.specs.Tables.{rowAt}
 use Rattle.runner.specs.declared.ticks.Ticked.{Ticked}
 use Rattle.runner.specs.declared.ticks.Ticked.the-variants as ticked
 use Rattle.semantics.specs.Cells.{Cell, absent, present, value, History, back, count, latest, onGrid}
 use Rattle.semantics.specs.Operators.{valueOr}
 use Rattle.semantics.specs.Runs.{Tick, Ticks, history, inputs, TickEnd, filled, stopped, Ran, cells, trace}
 use Rattle.semantics.specs.Answers.{markByte, ranAnswer}
-use Rattle.runner.specs.Private.Carried.{Held, heldIn, cellAt}
+use Rattle.runner.specs.Private.Carried.{Held, heldIn, heldSize, cellAt}
 
 -- the rows of a table in plain form
 unfoldable pub rowsIn : ℕ → List ℕ → List Row
@@ -74,17 +74,7 @@ Carries rows f (merge c a b) t hist w = Unit {0}
 
 -- what was collected for a later row
 unfoldable pub Collected : Row → (ℕ → History) → Held → Type 0
-Collected (input n p) hist w = Unit {0}
-Collected (constant v n p) hist w = Unit {0}
-Collected (combine op a b) hist w = Unit {0}
-Collected (register v b a) hist w = Unit {0}
-Collected (faster a k g) hist w = Unit {0}
-Collected (slower a k) hist w = Unit {0}
-Collected (later a d) hist w = 0 < d → cellAt (w .x) (w .y) ≡ back (hist a) (d - 1)
-Collected (head a v s) hist w = Unit {0}
-Collected (tail a) hist w = Unit {0}
-Collected (sample u a c) hist w = Unit {0}
-Collected (merge c a b) hist w = Unit {0}
+Collected row hist w = (a d : ℕ) → row ≡ later a d → 0 < d → cellAt (w .x) (w .y) ≡ back (hist a) (d - 1)
 
 -- a register's word follows its source after all flows of a tick, any other row's words with the row
 unfoldable pub Follows : List Row → ℕ → Row → ℕ → Tick → Ticks → Held → Type 0
@@ -93,17 +83,17 @@ Follows rows f row t now past w =
 
 -- the same of every row
 unfoldable pub AllCarry : List Row → ℕ → Ticks → List ℕ → Type 0
-AllCarry rows t past s = (f : ℕ) → f < length rows → Carries rows f (rowAt rows f) t (history past) (heldIn s (4 * f))
+AllCarry rows t past s = (f : ℕ) → f < length rows → Carries rows f (rowAt rows f) t (history past) (heldIn s (heldSize * f))
 
 unfoldable pub AllFollow : List Row → ℕ → Tick → Ticks → List ℕ → Type 0
-AllFollow rows t now past s = (f : ℕ) → f < length rows → Follows rows f (rowAt rows f) t now past (heldIn s (4 * f))
+AllFollow rows t now past s = (f : ℕ) → f < length rows → Follows rows f (rowAt rows f) t now past (heldIn s (heldSize * f))
 
 -- the words are ready for tick t, whose first word stands at a place in the log
 pub record Ready (rows : List Row) (past : Ticks) (t at : ℕ) (s : List ℕ) : Type 0 where
   pub ticks : length past ≡ t
   pub place : at ≡ t * inputs rows
   pub carried : AllCarry rows t past s
-  pub collected : (f : ℕ) → f < length rows → Collected (rowAt rows f) (history past) (heldIn s (4 * f))
+  pub collected : (f : ℕ) → f < length rows → Collected (rowAt rows f) (history past) (heldIn s (heldSize * f))
 
 -- cells were written from the first place on
 pub record Wrote (written : List Cell) (ms vs ms′ vs′ : List ℕ) : Type 0 where
@@ -131,9 +121,9 @@ TickDone rows t past (stopped f now) ms vs ms′ vs′ s′ r = (r ≡ ticked.St
 pub record Listed (k n : ℕ) (words list : List ℕ) (count : ℕ) : Type 0 where
   pub room : count ≤ length list
   pub within : (j : ℕ) → j < count → getD list j 0 < n
-  pub kind : (j : ℕ) → j < count → getD words (4 * getD list j 0) 0 ≡ k
+  pub kind : (j : ℕ) → j < count → getD words (rowSize * getD list j 0) 0 ≡ k
   pub rising : (i j : ℕ) → i < j → j < count → getD list i 0 < getD list j 0
-  pub all : (f : ℕ) → f < n → getD words (4 * f) 0 ≡ k → (j : ℕ) × (j < count) × (getD list j 0 ≡ f)
+  pub all : (f : ℕ) → f < n → getD words (rowSize * f) 0 ≡ k → (j : ℕ) × (j < count) × (getD list j 0 ≡ f)
 
 -- how a tick ends in the whole trace
 abbrev pub TickAt : List Row → ℕ → Ticks → TickEnd → List ℕ → List ℕ → List ℕ → List ℕ → List ℕ → Ticked → Type 0

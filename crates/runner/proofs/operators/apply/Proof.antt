@@ -1,7 +1,11 @@
 -- `apply` meets its contract. Assumes nothing.
+use mathlib.Core.Path.{_≡_, refl, sym}
+use Prim.Native.Nat.{ℕ}
 use native.Mathlib.Omega.{arith}
-use borrow.Author.Tests.{ne-eqb}
 use borrow.Author.Needs.{needs}
+use Rattle.table.specs.Rows.{Op, add, subtract, less, equal, larger, kinds}
+use Rattle.runner.specs.Private.Carried.{Combines}
+use Rattle.runner.proofs.Decoded.{op-is, six}
 use Rattle.runner.proofs.operators.apply.Statement.{statement}
 use Rattle.runner.proofs.operators.apply.Tie as tie
 
@@ -24,19 +28,27 @@ larger-requires : tie.Need-larger-requires
 larger-requires c κs = search needs
 
 returns : tie.Need-returns
-returns c = simp (c .wrapping-add-u32 .ensures, c .before .match .keys1)
+unfolding kinds
+returns c = λ op e. rw (← op-is _ 2 add op (c .before .match .keys1) (λ a b z. refl) e) (c .wrapping-add-u32 .ensures)
 
 returns-2 : tie.Need-returns-2
-returns-2 c = simp (c .before .match .keys2) (omega (arith, c .wrapping-sub-u32 .ensures))
+unfolding kinds
+returns-2 c = λ op e. rw (← op-is _ 3 subtract op (c .before .match .keys2) (λ a b z. refl) e) (omega (arith, c .wrapping-sub-u32 .ensures))
 
 returns-3 : tie.Need-returns-3
-returns-3 c = simp (c .bit .ensures, c .before .below .ensures, c .before .before .match .keys3)
+unfolding kinds
+returns-3 c = λ op e. rw (← op-is _ 4 less op (c .before .before .match .keys3) (λ a b z. refl) e) (simp (c .bit .ensures, c .before .below .ensures))
 
 returns-4 : tie.Need-returns-4
-returns-4 c = simp (c .bit2 .ensures, c .before .match .keys4)
+unfolding kinds
+returns-4 c = λ op e. rw (← op-is _ 5 equal op (c .before .match .keys4) (λ a b z. refl) e) (c .bit2 .ensures)
 
 returns-5 : tie.Need-returns-5
-returns-5 c = simp (c .larger .ensures, ne-eqb _ _ (c .before .match .rest .1), ne-eqb _ _ (c .before .match .rest .0 .1), ne-eqb _ _ (c .before .match .rest .0 .0 .1), ne-eqb _ _ (c .before .match .rest .0 .0 .0 .1))
+unfolding kinds
+returns-5 c =
+    let r = c .before .match .rest in
+    let k = six _ (c .before .before .pre .0) (c .before .before .pre .1) (r .0 .0 .0 .1) (r .0 .0 .1) (r .0 .1) (r .1) in
+    λ op e. rw (← op-is _ 6 larger op k (λ a b z. refl) e) (c .larger .ensures)
 
 pub apply-spec : {M : Type 1} → statement M
 apply-spec =

@@ -1,11 +1,11 @@
 -- `start` meets its contract. Assumes nothing.
-use Rattle.runner.proofs.Starting.{Starting, starts, goes-on, ends}
-use Rattle.runner.proofs.Tabled.{plain-table}
+use Rattle.runner.proofs.Starting.{bit-low, Starting, starts, goes-on, ends}
+use Rattle.runner.proofs.Tabled.{plain-table, row-of}
+use Rattle.runner.specs.Private.Carried.{stateSize}
 use Rattle.runner.specs.Private.Ready.{rowsIn}
 use Rattle.table.proofs.Tables.{Table}
 use lib.Dec.{eqb}
 use lib.ListN.{length, getD, length-replicate}
-use mathlib.Core.Bool.{Bool, true, false, cond}
 use Prim.Native.Nat.{ℕ, _+_, _*_, _-_, _≤_}
 use mathlib.Core.Path.{_≡_, sym, _∙_, ap}
 use native.Mathlib.Omega.{arith}
@@ -22,12 +22,13 @@ abbrev μ-loop : tie.MeasureT-loop
 table-at : (c : tie.Start Inv-loop μ-loop) → Table (c .args .n) (c .args .words .now) (rowsIn (c .args .n) (c .args .words .now))
 table-at c = plain-table (c .args .n) (c .args .words .now) (c .pre .0)
 
-bit-low : (b : Bool) → cond b 1 0 ≤ 1
-bit-low true = omega arith
-bit-low false = omega arith
-
 loop-holds : tie.Need-loop-holds Inv-loop μ-loop
-loop-holds c = let T = table-at (c .before .before) in (omega arith, T .few, T .words-size, ap length (c .before .before .pre .1) ∙ length-replicate {A = ℕ} 256 0, omega arith, starts (c .before .before .args .n) (c .before .before .args .words .now) _ T (c .before .before .args .state .now) (c .before .before .pre .1))
+loop-holds c =
+    let start = c .before .before in
+    let pre = start .pre in
+    let args = start .args in
+    let T = table-at start in
+    (omega arith, T .few, T .words-size, ap length (pre .1) ∙ length-replicate {A = ℕ} stateSize 0, omega arith, starts (args .n) (args .words .now) _ T (args .state .now) (pre .1))
 
 mul-kind : tie.Need-mul-kind Inv-loop μ-loop
 mul-kind c = omega arith
@@ -75,28 +76,57 @@ shared-slice-read-start-row-3 : tie.Need-shared-slice-read-start-row-3 Inv-loop 
 shared-slice-read-start-row-3 c = omega arith
 
 start-row-requires : tie.Need-start-row-requires Inv-loop μ-loop
-start-row-requires c κs = (omega (arith, c .before .before .before .before .before .loop-test .taken), c .before .before .before .before .before .before .loop .inv .3)
+start-row-requires c κs =
+    let start-2 = c .before .before .before .before .before .before .before .before .before in
+    let loop = c .before .before .before .before .before .before .loop in
+    let loop-test = c .before .before .before .before .before .loop-test in
+    (row-of _ _ _ (table-at (start-2)) (loop .f) (loop-test .taken) .legal .0, omega (arith, loop-test .taken), loop .inv .3)
 
-input-bit-requires : tie.Need-input-bit-requires Inv-loop μ-loop
-input-bit-requires c κs = tt
+bit-requires : tie.Need-bit-requires Inv-loop μ-loop
+bit-requires c κs = tt
 
 add-j : tie.Need-add-j Inv-loop μ-loop
-add-j c = omega (arith, c .input-bit .ensures, bit-low (eqb (getD (c .before .before .before .before .before .before .before .before .before .before .before .before .before .args .words .now) (4 * c .before .before .before .before .before .before .before .before .before .before .loop .f) 0) 0), c .before .before .before .before .before .before .before .before .before .before .loop .inv .4, c .before .before .before .before .before .before .before .before .before .before .loop .inv .1, c .before .before .before .before .before .before .before .before .before .loop-test .taken)
+add-j c =
+    let args = c .before .before .before .before .before .before .before .before .before .before .before .before .before .args in
+    let loop = c .before .before .before .before .before .before .before .before .before .before .loop in
+    let loop-test = c .before .before .before .before .before .before .before .before .before .loop-test in
+    omega (arith, c .bit .ensures, bit-low (eqb (getD (args .words .now) (4 * loop .f) 0) 0), loop .inv .4, loop .inv .1, loop-test .taken)
 
 add-f : tie.Need-add-f Inv-loop μ-loop
 add-f c = omega arith
 
 loop-less : tie.Need-loop-less Inv-loop μ-loop
-loop-less c = omega (arith, c .before .before .before .before .before .before .before .before .before .loop-test .taken)
+loop-less c =
+    let loop-test = c .before .before .before .before .before .before .before .before .before .loop-test in
+    omega (arith, loop-test .taken)
 
 loop-again : tie.Need-loop-again Inv-loop μ-loop
-loop-again c = (omega (arith, c .before .before .before .before .before .before .before .before .before .loop-test .taken), c .before .before .before .before .before .before .before .before .before .before .loop .inv .1, c .before .before .before .before .before .before .before .before .before .before .loop .inv .2, omega (arith, c .before .before .before .start-row .kept .1 .1 .1 .1 .1 .1 .0, c .before .before .before .before .before .before .before .before .before .before .loop .inv .3), omega (arith, c .input-bit .ensures, bit-low (eqb (getD (c .before .before .before .before .before .before .before .before .before .before .before .before .before .args .words .now) (4 * c .before .before .before .before .before .before .before .before .before .before .loop .f) 0) 0), c .before .before .before .before .before .before .before .before .before .before .loop .inv .4), goes-on (c .before .before .before .before .before .before .before .before .before .before .before .before .before .args .n) (c .before .before .before .before .before .before .before .before .before .before .before .before .before .args .words .now) _ (table-at (c .before .before .before .before .before .before .before .before .before .before .before .before .before)) (c .before .before .before .before .before .before .before .before .before .before .loop .state) _ (c .before .before .before .before .before .before .before .before .before .before .loop .f) (c .before .before .before .before .before .before .before .before .before .before .loop .j) _ (c .before .before .before .before .before .before .before .before .before .loop-test .taken) (c .before .before .before .before .before .before .before .before .before .before .loop .inv .5) (c .before .before .before .start-row .ensures) (ap (λ (i : ℕ). c .before .before .before .before .before .before .before .before .before .before .loop .j + i) (c .input-bit .ensures)))
+loop-again c =
+    let start = c .before .before .before .before .before .before .before .before .before .before .before .before .before in
+    let args = start .args in
+    let loop-test = c .before .before .before .before .before .before .before .before .before .loop-test in
+    let loop = c .before .before .before .before .before .before .before .before .before .before .loop in
+    let start-row = c .before .before .before .start-row in (
+      omega (arith, loop-test .taken),
+      loop .inv .1,
+      loop .inv .2,
+      omega (arith, start-row .kept .1 .1 .1 .1 .1 .1 .0, loop .inv .3),
+      omega (arith, c .bit .ensures, bit-low (eqb (getD (args .words .now) (4 * loop .f) 0) 0), loop .inv .4),
+      goes-on (args .n) (args .words .now) _ (table-at start) (loop .state) _ (loop .f) (loop .j) _ (loop-test .taken) (loop .inv .5) (start-row .ensures)
+          (ap (λ (i : ℕ). loop .j + i) (c .bit .ensures)),
+    )
 
 same-length : tie.Need-same-length Inv-loop μ-loop
-same-length c = c .before .loop .inv .3 ∙ sym (ap length (c .before .before .before .before .pre .1) ∙ length-replicate {A = ℕ} 256 0)
+same-length c =
+    let pre = c .before .before .before .before .pre in
+    c .before .loop .inv .3 ∙ sym (ap length (pre .1) ∙ length-replicate {A = ℕ} stateSize 0)
 
 returns : tie.Need-returns Inv-loop μ-loop
-returns c = ends (c .before .before .before .before .args .n) (c .before .before .before .before .args .words .now) _ (table-at (c .before .before .before .before)) (c .before .loop .state) (c .before .loop .f) (c .before .loop .j) (c .loop-test .left) (c .before .loop .inv .0) (c .before .loop .inv .5)
+returns c =
+    let start = c .before .before .before .before in
+    let args = start .args in
+    let loop = c .before .loop in
+    ends (args .n) (args .words .now) _ (table-at start) (loop .state) (loop .f) (loop .j) (c .loop-test .left) (loop .inv .0) (loop .inv .5)
 
 pub start-spec : {M : Type 1} → statement M
 start-spec =
@@ -121,7 +151,7 @@ start-spec =
     mul-start-row-6
     shared-slice-read-start-row-3
     start-row-requires
-    input-bit-requires
+    bit-requires
     add-j
     add-f
     loop-less
