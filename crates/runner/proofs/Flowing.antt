@@ -17,10 +17,10 @@ use Rattle.semantics.specs.Cells.{Cell, absent, present, value}
 use Rattle.semantics.specs.Operators.{Step, is, clashes}
 use Rattle.semantics.specs.Runs.{Tick, Ticks, cellIn, history, inputs, cellOf, TickEnd, filled, stopped, onStep, flowsFrom}
 use Rattle.semantics.specs.Answers.{markByte}
-use Rattle.runner.specs.Private.Carried.{clashMark, outcomeOf, Held, heldIn, cellsIn, wordsAt, madeOf, stepOf, nextOf, Did}
+use Rattle.runner.specs.Private.Carried.{clashMark, outcomeOf, Held, heldIn, cellsIn, stepOf, nextOf, Did}
 use Rattle.runner.specs.Private.Ready.{Carries, Collected, Follows, AllCarry, AllFollow, Ready, Wrote, FlowsEnd}
 use Rattle.runner.proofs.Cells.{wrote-more, here-is}
-use Rattle.runner.proofs.Tabled.{Row-at, row-of}
+use Rattle.runner.proofs.Tabled.{wordsAt, madeOf, Row-at, row-of}
 use Rattle.runner.proofs.Steps.{row-steps, row-follows, follows-on}
 
 -- what an outcome tells of the step
