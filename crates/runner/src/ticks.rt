@@ -7,7 +7,7 @@ ghost use Prim.Native.Nat.{ℕ, _+_, _*_, _≤_, _<_, _^_};
 ghost use lib.ListN.{length, set};
 ghost use Rattle.table.specs.Rows.{maxFlows, kindCount, kindAt, decode, badRegister};
 ghost use Rattle.table.specs.Tables.{FieldsFit};
-ghost use Rattle.runner.specs.Private.Carried.{cellsIn, heldSize, stateSize, heldIn, stepOf, nextOf, Did};
+ghost use Rattle.runner.specs.Private.Carried.{clashMark, cellsIn, heldSize, stateSize, heldIn, stepOf, nextOf, Did};
 ghost use Rattle.semantics.specs.Runs.{Tick, Ticks, flowsFrom, sourceMeets, tickOf};
 ghost use Rattle.runner.specs.Private.Ready.{rowsIn, Plain, Ready, AllFollow, Wrote, FlowsEnd, LatchEnd, TickDone, Listed};
 use crate::carried;
@@ -82,13 +82,19 @@ fn outcome(
     }
 }
 
-// A cell is written at f.
-fn put(marks: &mut [u8], values: &mut [u32], f: usize, mark: u8, value: u32)
+// The cell at f is written, unless it is a clash: whether it is one.
+fn put(marks: &mut [u8], values: &mut [u32], f: usize, mark: u8, value: u32) -> bool
     requires { ⌜ (f < length (now marks)) × (f < length (now values)) ⌝ }
-    ensures { λ _. ⌜ (now (marks .exit) ≡ set (now (marks .entry)) f mark) × (now (values .exit) ≡ set (now (values .entry)) f value) ⌝ }
+    ensures { λ r. ⌜ (r ≡ eqb mark clashMark)
+        × (now (marks .exit) ≡ cond (eqb mark clashMark) (now (marks .entry)) (set (now (marks .entry)) f mark))
+        × (now (values .exit) ≡ cond (eqb mark clashMark) (now (values .entry)) (set (now (values .entry)) f value)) ⌝ }
 {
+    if mark == CLASHED {
+        return true;
+    }
     marks[f] = mark;
     values[f] = value;
+    false
 }
 
 // The cells of the flows in ascending order. `at` is the place of the tick's first word in the log.
@@ -129,10 +135,9 @@ fn flows(
             marks,
             values,
         );
-        if o.mark == CLASHED {
+        if put(marks, values, f, o.mark, o.value) {
             return Ticked::Stopped(f);
         }
-        put(marks, values, f, o.mark, o.value);
         f = f + 1;
     }
     Ticked::Full

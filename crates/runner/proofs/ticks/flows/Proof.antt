@@ -3,6 +3,7 @@
 use mathlib.Core.Path.{_≡_, refl, sym, _∙_}
 use Prim.Native.Nat.{_*_, _-_, _≤_}
 use native.Mathlib.Omega.{arith}
+use borrow.Author.Tests.{eqb-true, eqb-false}
 use lib.ListN.{length}
 use Rattle.table.proofs.Tables.{Table}
 use Rattle.semantics.specs.Runs.{Ticks}
@@ -83,67 +84,78 @@ outcome-requires c κs =
     let loop-test = c .before .before .before .before .before .before .before .loop-test in
     let r = row-of (args .n) (args .words .now) _ (table-at start) (loop .f) (loop-test .taken) in (omega (arith, loop .inv .1, loop-test .taken), r .known, r .legal, omega (arith, loop .inv .0, loop .inv .4, pre .1), omega (arith, loop .inv .0, loop .inv .5, pre .2), loop .inv .3, pre .4, pre .5)
 
+put-requires : tie.Need-put-requires Inv-loop μ-loop
+put-requires c κs =
+    let loop = c .before .before .before .before .before .before .before .before .before .before .before .before .before .loop in
+    let below = c .before .before .before .before .before .before .before .before .before .before .before .before .loop-test .taken in
+    let pre = c .before .before .before .before .before .before .before .before .before .before .before .before .before .before .before .before .before .before .before .pre in
+    (omega (arith, loop .inv .4, below, pre .1), omega (arith, loop .inv .5, below, pre .2))
+
 same-length : tie.Need-same-length Inv-loop μ-loop
 same-length c =
-    let outcome = c .before .before .before .before .outcome in
-    let loop = c .before .before .before .before .before .before .before .before .before .before .before .before .before .loop in
-    let pre = c .before .before .before .before .before .before .before .before .before .before .before .before .before .before .before .before .before .before .before .pre in
-    omega (arith, outcome .kept, loop .inv .3, pre .3)
+    let outcome = c .before .before .before .before .before .before .before .before .before .before .outcome in
+    let loop = c .before .before .before .before .before .before .before .before .before .before .before .before .before .before .before .before .before .before .before .loop in
+    let start = c .before .before .before .before .before .before .before .before .before .before .before .before .before .before .before .before .before .before .before .before .before .before .before .before .before in
+    omega (arith, outcome .kept, loop .inv .3, start .pre .3)
 
 same-length-2 : tie.Need-same-length-2 Inv-loop μ-loop
 same-length-2 c =
-    let loop = c .before .before .before .before .before .before .before .before .before .before .before .before .before .loop in
-    loop .inv .4
+    let put = c .before .before .before .before .before .put in
+    let loop = c .before .before .before .before .before .before .before .before .before .before .before .before .before .before .before .before .before .before .before .loop in
+    omega (arith, put .kept .0, loop .inv .4)
 
 same-length-3 : tie.Need-same-length-3 Inv-loop μ-loop
 same-length-3 c =
-    let loop = c .before .before .before .before .before .before .before .before .before .before .before .before .before .loop in
-    loop .inv .5
+    let put = c .before .before .before .before .before .put in
+    let loop = c .before .before .before .before .before .before .before .before .before .before .before .before .before .before .before .before .before .before .before .loop in
+    omega (arith, put .kept .1 .0, loop .inv .5)
 
 returns : tie.Need-returns Inv-loop μ-loop
 returns c =
-    let start = c .before .before .before .before .before .before .before .before .before .before .before .before .before .before .before .before .before .before .before in
+    let start = c .before .before .before .before .before .before .before .before .before .before .before .before .before .before .before .before .before .before .before .before .before .before .before .before .before in
     let args = start .args in
-    let loop = c .before .before .before .before .before .before .before .before .before .before .before .before .before .loop in
-    let loop-test = c .before .before .before .before .before .before .before .before .before .before .before .before .loop-test in
-    let outcome = c .before .before .before .before .outcome in
-    λ past R. stops (args .n) (args .words .now) (args .log .now) _ (table-at start) past (args .t) (args .at) (args .state .now) (args .marks .now) (args .values .now) R (loop .state) (loop .marks) (loop .values) (loop .f) (loop .inv .6 past R) (loop-test .taken) _ _ (outcome .ensures) (c .if1 .taken)
-
-put-requires : tie.Need-put-requires Inv-loop μ-loop
-put-requires c κs =
-    let loop = c .before .before .before .before .before .before .before .before .before .before .before .before .before .before .before .loop in
-    let loop-test = c .before .before .before .before .before .before .before .before .before .before .before .before .before .before .loop-test in
-    let pre = c .before .before .before .before .before .before .before .before .before .before .before .before .before .before .before .before .before .before .before .before .before .pre in
-    (omega (arith, loop .inv .4, loop-test .taken, pre .1), omega (arith, loop .inv .5, loop-test .taken, pre .2))
+    let loop = c .before .before .before .before .before .before .before .before .before .before .before .before .before .before .before .before .before .before .before .loop in
+    let below = c .before .before .before .before .before .before .before .before .before .before .before .before .before .before .before .before .before .before .loop-test .taken in
+    let outcome = c .before .before .before .before .before .before .before .before .before .before .outcome in
+    let put = c .before .before .before .before .before .put in
+    let clash = sym (put .ensures .0) ∙ c .if1 .taken in
+    λ past R. stops (args .n) (args .words .now) (args .log .now) _ (table-at start) past (args .t) (args .at)
+    (args .state .now) (args .marks .now) (args .values .now) R (loop .state) (loop .marks) (loop .values) (loop .f)
+    (loop .inv .6 past R) below _ _ (outcome .ensures) _ _
+    (eqb-true _ _ clash) (rw (clash) at (put .ensures .1)) (rw (clash) at (put .ensures .2))
 
 add-f : tie.Need-add-f Inv-loop μ-loop
 add-f c =
-    let loop = c .before .before .before .before .before .before .before .before .before .before .before .before .before .before .before .before .before .before .before .before .loop in
-    let loop-test = c .before .before .before .before .before .before .before .before .before .before .before .before .before .before .before .before .before .before .before .loop-test in
-    omega (arith, loop .inv .1, loop-test .taken)
+    let loop = c .before .before .before .before .before .before .before .before .before .before .before .before .before .before .before .before .before .before .before .loop in
+    let below = c .before .before .before .before .before .before .before .before .before .before .before .before .before .before .before .before .before .before .loop-test .taken in
+    omega (arith, loop .inv .1, below)
 
 loop-less : tie.Need-loop-less Inv-loop μ-loop
 loop-less c =
-    let loop-test = c .before .before .before .before .before .before .before .before .before .before .before .before .before .before .before .before .before .before .before .loop-test in
-    omega (arith, loop-test .taken)
+    let below = c .before .before .before .before .before .before .before .before .before .before .before .before .before .before .before .before .before .before .loop-test .taken in
+    omega (arith, below)
 
 loop-again : tie.Need-loop-again Inv-loop μ-loop
 loop-again c =
-    let start = c .before .before .before .before .before .before .before .before .before .before .before .before .before .before .before .before .before .before .before .before .before .before .before .before .before .before in
+    let start = c .before .before .before .before .before .before .before .before .before .before .before .before .before .before .before .before .before .before .before .before .before .before .before .before .before in
     let args = start .args in
     let pre = start .pre in
-    let loop-test = c .before .before .before .before .before .before .before .before .before .before .before .before .before .before .before .before .before .before .before .loop-test in
-    let loop = c .before .before .before .before .before .before .before .before .before .before .before .before .before .before .before .before .before .before .before .before .loop in
-    let outcome = c .before .before .before .before .before .before .before .before .before .before .before .outcome in
-    let put = c .before .before .before .before .put in
-    let if1 = c .before .before .before .before .before .before .before .if1 in (
-      omega (arith, loop-test .taken),
-      loop .inv .1,
-      loop .inv .2,
-      omega (arith, outcome .kept .1 .1 .1 .1 .1 .1 .1 .1 .0, loop .inv .3),
-      omega (arith, put .kept .0, loop .inv .4),
-      omega (arith, put .kept .1 .0, loop .inv .5),
-      λ past R. goes-on (args .n) (args .words .now) (args .log .now) _ (table-at start) past (args .t) (args .at) (args .state .now) (args .marks .now) (args .values .now) R (loop .state) (loop .marks) (loop .values) (loop .f) (loop .inv .6 past R) (loop-test .taken) _ _ (outcome .ensures) _ _ (if1 .left) (omega (arith, loop-test .taken, pre .1)) (omega (arith, loop-test .taken, pre .2)) (put .ensures .0) (put .ensures .1),
+    let loop = c .before .before .before .before .before .before .before .before .before .before .before .before .before .before .before .before .before .before .before .loop in
+    let below = c .before .before .before .before .before .before .before .before .before .before .before .before .before .before .before .before .before .before .loop-test .taken in
+    let outcome = c .before .before .before .before .before .before .before .before .before .before .outcome in
+    let put = c .before .before .before .before .before .put in
+    let inv = loop .inv in
+    let cell = sym (put .ensures .0) ∙ c .if1 .left in (
+      omega (arith, below),
+      inv .1,
+      inv .2,
+      omega (arith, outcome .kept .1 .1 .1 .1 .1 .1 .1 .1 .0, inv .3),
+      omega (arith, put .kept .0, inv .4),
+      omega (arith, put .kept .1 .0, inv .5),
+      λ past R. goes-on (args .n) (args .words .now) (args .log .now) _ (table-at start) past (args .t) (args .at)
+          (args .state .now) (args .marks .now) (args .values .now) R (loop .state) (loop .marks) (loop .values) (loop .f)
+          (loop .inv .6 past R) below _ _ (outcome .ensures)
+          _ _ (eqb-false _ _ cell) (omega (arith, below, pre .1)) (omega (arith, below, pre .2)) (rw (cell) at (put .ensures .1)) (rw (cell) at (put .ensures .2)),
     )
 
 same-length-4 : tie.Need-same-length-4 Inv-loop μ-loop
@@ -187,11 +199,11 @@ flows-spec =
     mul-outcome-8
     shared-slice-read-outcome-4
     outcome-requires
+    put-requires
     same-length
     same-length-2
     same-length-3
     returns
-    put-requires
     add-f
     loop-less
     loop-again
