@@ -17,10 +17,10 @@ use Rattle.semantics.specs.Cells.{Cell, absent, present, value}
 use Rattle.semantics.specs.Operators.{Step, is, clashes}
 use Rattle.semantics.specs.Runs.{Tick, Ticks, cellIn, history, inputs, cellOf, TickEnd, filled, stopped, onStep, flowsFrom}
 use Rattle.semantics.specs.Answers.{markByte}
-use Rattle.runner.specs.Private.Carried.{clashMark, outcomeOf, Held, heldIn, cellsIn, wordsAt, madeOf, stepOf, nextOf, Did}
+use Rattle.runner.specs.Private.Carried.{clashMark, outcomeOf, Held, heldIn, cellsIn, stepOf, nextOf, Did}
 use Rattle.runner.specs.Private.Ready.{Carries, Collected, Follows, AllCarry, AllFollow, Ready, Wrote, FlowsEnd}
 use Rattle.runner.proofs.Cells.{wrote-more, here-is}
-use Rattle.runner.proofs.Tabled.{Row-at, row-of}
+use Rattle.runner.proofs.Tabled.{wordsAt, madeOf, Row-at, row-of}
 use Rattle.runner.proofs.Steps.{row-steps, row-follows, follows-on}
 
 -- what an outcome tells of the step
@@ -104,13 +104,13 @@ module _ (n : ℕ) (words log : List ℕ) (rows : List Row) (T : Table n words r
 
       module _ (s′ : List ℕ) (r : Outcome)
           (D : Did (stepOf (madeOf (wordsAt words f)) t log at (cellsIn ms vs f) (heldIn s (4 * f))) (nextOf (madeOf (wordsAt words f)) t (cellsIn ms vs f) (heldIn s (4 * f))) (4 * f) s s′ r) where
-        pub stops : r .mark ≡ clashMark → FlowsEnd rows t past (flowsFrom rows log past [] rows) ms₀ vs₀ ms vs s′ (ticked.Stopped f)
-        stops e =
+        pub stops : (ms′ vs′ : List ℕ) → r .mark ≡ clashMark → ms′ ≡ ms → vs′ ≡ vs → FlowsEnd rows t past (flowsFrom rows log past [] rows) ms₀ vs₀ ms′ vs′ s′ (ticked.Stopped f)
+        stops ms′ vs′ e em ev =
             let c : cellOf rows log past (G .now) (rowAt rows f) ≡ clashes = sym step-is ∙ sym near ∙ clash-told _ (ap (λ (o : Outcome). o .mark) (sym (D .answer)) ∙ e) in
             let q : flowsFrom rows log past [] rows ≡ stopped (length (G .now)) (G .now) =
             unroll ∙ ap (λ (x : Step). onStep x (G .now) (λ c. flowsFrom rows log past (G .now ++ (c ∷ [])) (drop (suc f) rows))) c in
-            subst (λ (x : TickEnd). FlowsEnd rows t past x ms₀ vs₀ ms vs s′ (ticked.Stopped f)) (sym q)
-            (ap ticked.Stopped (sym (G .size)), G .wrote, omega (arith, T .size, G .size))
+            subst (λ (x : TickEnd). FlowsEnd rows t past x ms₀ vs₀ ms′ vs′ s′ (ticked.Stopped f)) (sym q)
+            (ap ticked.Stopped (sym (G .size)), record { marks = em ∙ G .wrote .marks; values = ev ∙ G .wrote .values }, omega (arith, T .size, G .size))
 
         -- the cells below are those of the tick as it grows
         grows : (c : Cell) (g a : ℕ) → g ≤ f → a < g → cellIn (G .now) a ≡ cellIn (G .now ++ (c ∷ [])) a

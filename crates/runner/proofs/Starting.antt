@@ -16,9 +16,9 @@ use Rattle.table.specs.Tables.{Fits, rowAt}
 use Rattle.table.proofs.Tables.{Table}
 use Rattle.semantics.specs.Cells.{count, latest}
 use Rattle.semantics.specs.Runs.{history, inputs, isInput}
-use Rattle.runner.specs.Private.Carried.{Held, held, heldIn, stateSize, wordsAt, madeOf, startWord, startOf, Started}
+use Rattle.runner.specs.Private.Carried.{Held, held, heldIn, stateSize, startWord, startOf, Started}
 use Rattle.runner.specs.Private.Ready.{unseen, never, Carries, AllCarry}
-use Rattle.runner.proofs.Tabled.{Row-at, row-of}
+use Rattle.runner.proofs.Tabled.{wordsAt, madeOf, Row-at, row-of}
 use Rattle.runner.proofs.Histories.{timed-starts}
 
 row-starts : (m f : ℕ) (rows : List Row) (row : Row) → Fits m f row → Carries rows f row 0 (history []) (startOf row (inputs (take f rows)) (held 0 0 0))

@@ -58,14 +58,11 @@ module _ {step : Step} {next : Held} {i : ℕ} {s : List ℕ} {r : Outcome} wher
       rest j p q o = getD-set-other (set (set s i u) (i + 1) v) (i + 2) j w 0 o ∙ getD-set-other (set s i u) (i + 1) j v 0 q ∙ getD-set-other s i j u 0 p
 
 -- the ticks of k copies
-copies-low : (k g : ℕ) → k < 2 ^ 6 → g < 2 ^ 12 → k * g ≤ 63 * 4095
+pub copies-low : (k g : ℕ) → k < 2 ^ 6 → g < 2 ^ 12 → k * g ≤ 63 * 4095
 copies-low k g p q = mul-le-mul {n₂ = 63} {m₂ = 4095} (omega arith) (omega arith)
 
 pub small : (k g : ℕ) → k < 2 ^ 6 → g < 2 ^ 12 → k * g < 2 ^ 32
 small k g p q = omega (arith, copies-low k g p q)
-
-pub small-sum : (t k g : ℕ) → t < 2 ^ 24 → k < 2 ^ 6 → g < 2 ^ 12 → t + k * g < 2 ^ 32
-small-sum t k g l p q = omega (arith, copies-low k g p q)
 
 -- a row's first word is stored
 pub stored : (s : List ℕ) (i v : ℕ) → i + 4 ≤ length s → heldIn (set s i v) i ≡ held v (getD s (i + 1) 0) (getD s (i + 2) 0)

@@ -54,8 +54,9 @@ fn begin(t: u32, v: u32, k: u32, gap: u32, state: &mut [u32], i: usize) -> Outco
     requires { ⌜ (i + heldSize ≤ length (now state)) × (t < 2 ^ 24) × (k < 2 ^ 6) × (gap < 2 ^ 12) ⌝ }
     ensures { λ r. ⌜ Did (is (present v)) (begun t v k gap) i (now (state .entry)) (now (state .exit)) r ⌝ }
 {
+    let next = t + gap;
     state[i] = v;
-    state[i + 1] = t + gap;
+    state[i + 1] = next;
     state[i + 2] = t + k * gap;
     Outcome { mark: 1, value: v }
 }

@@ -63,6 +63,15 @@ fn tick_at(
     )
 }
 
+// A place in a trace of so many cells. It always lies in it: that it might not keeps the compiler from carrying the parts' first cells from
+// tick to tick as two more places of its own.
+fn within(place: usize, room: usize) -> usize
+    requires { ⌜ place ≤ room ⌝ }
+    ensures { λ r. ⌜ r ≡ place ⌝ }
+{
+    if room < place { 0 } else { place }
+}
+
 // One turn of the run: what tick t needs of earlier ticks is collected, and the tick is worked out.
 fn turn(
     n: usize,
@@ -95,7 +104,7 @@ fn turn(
         (now (marks .exit)) (now (values .exit)) (now (state .exit)) r) ⌝ }
 {
     state::collect(laters, later_count, n, words, t, marks, values, state);
-    let first = (t as usize) * n;
+    let first = within((t as usize) * n, marks.len());
     let at = (t as usize) * inputs;
     tick_at(
         first,

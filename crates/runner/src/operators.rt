@@ -154,16 +154,16 @@ fn alone(marks: &[u8], values: &[u32], f: usize, one: u32, other: u32) -> Outcom
 {
     let i = one as usize;
     if marks[i] == 0 {
-        CLASH
+        return CLASH;
+    }
+    let given = Outcome {
+        mark: 1,
+        value: values[i],
+    };
+    if marks[other as usize] == 0 {
+        given
     } else {
-        if marks[other as usize] == 0 {
-            Outcome {
-                mark: 1,
-                value: values[i],
-            }
-        } else {
-            CLASH
-        }
+        CLASH
     }
 }
 

@@ -4,10 +4,10 @@ ghost use mathlib.Core.Bool.{cond};
 ghost use mathlib.Core.List.{List, []};
 ghost use lib.Dec.{eqb};
 ghost use Prim.Native.Nat.{ℕ, _+_, _*_, _≤_, _<_, _^_};
-ghost use lib.ListN.{length, getD, set};
-ghost use Rattle.table.specs.Rows.{Op, maxFlows, rowSize, badRegister};
-ghost use Rattle.semantics.specs.Operators.{combined};
-ghost use Rattle.runner.specs.Private.Carried.{outcomeOf, cellsIn, wordsAt, madeOf, Legal, Combines, heldSize, stateSize, heldIn, stepOf, nextOf, Did};
+ghost use lib.ListN.{length, set};
+ghost use Rattle.table.specs.Rows.{maxFlows, kindCount, kindAt, decode, badRegister};
+ghost use Rattle.table.specs.Tables.{FieldsFit};
+ghost use Rattle.runner.specs.Private.Carried.{clashMark, cellsIn, heldSize, stateSize, heldIn, stepOf, nextOf, Did};
 ghost use Rattle.semantics.specs.Runs.{Tick, Ticks, flowsFrom, sourceMeets, tickOf};
 ghost use Rattle.runner.specs.Private.Ready.{rowsIn, Plain, Ready, AllFollow, Wrote, FlowsEnd, LatchEnd, TickDone, Listed};
 use crate::carried;
@@ -24,39 +24,15 @@ pub enum Ticked {
     Stopped(usize),
 }
 
-// Kinds 2 to 6, of the two flows whose numbers stand in words at one and two.
-fn pair(
-    kind: u32,
-    words: &[u32],
-    one: usize,
-    two: usize,
-    marks: &[u8],
-    values: &[u32],
-    f: usize,
-) -> Outcome
-    requires { ⌜ (one < length (now words))
-        × (two < length (now words))
-        × (getD (now words) one 0 < f)
-        × (getD (now words) two 0 < f)
-        × (f ≤ length (now marks))
-        × (f ≤ length (now values))
-        × (2 ≤ kind)
-        × (kind ≤ 6) ⌝ }
-    ensures { λ r. ⌜ ((op : Op)
-        → Combines kind op
-        → r ≡ outcomeOf (combined op
-        (cellsIn (now (marks .entry)) (now (values .entry)) f (getD (now (words .entry)) one 0))
-        (cellsIn (now (marks .entry)) (now (values .entry)) f (getD (now (words .entry)) two 0)))) ⌝ }
-{
-    operators::combined(kind, marks, values, f, words[one], words[two])
-}
-
-// What row f comes to at tick t: one decision over the kind. That no other kind reaches it is told beforehand, and each field is read where it
-// is needed: so the compiler makes one jump of the decision and of the one over kinds 2 to 6 in it.
+// What row f comes to at tick t: one decision over the kind. That no other kind is left is told before it, and the arms stand from 15 down: so
+// the compiler makes one jump of the decision and of the one over kinds 2 to 6 in it.
 fn outcome(
-    words: &[u32],
-    f: usize,
+    kind: u32,
+    p: u32,
+    q: u32,
+    r: u32,
     t: u32,
+    f: usize,
     log: &[u32],
     at: usize,
     state: &mut [u32],
@@ -64,80 +40,61 @@ fn outcome(
     values: &[u32],
 ) -> Outcome
     requires { ⌜ (f < maxFlows)
-        × (rowSize * f + rowSize ≤ length (now words))
-        × (Legal f (wordsAt (now words) f))
+        × (kind < kindCount)
+        × (FieldsFit maxFlows f (kindAt kind) p q r)
         × (f ≤ length (now marks))
         × (f ≤ length (now values))
         × (length (now state) ≡ stateSize)
         × (t < 2 ^ 24)
         × (at < 2 ^ 40) ⌝ }
     ensures { λ o. ⌜ Did
-        (stepOf (madeOf (wordsAt (now (words .entry)) f)) t (now (log .entry)) at (cellsIn (now (marks .entry)) (now (values .entry)) f)
+        (stepOf (decode kind p q r) t (now (log .entry)) at (cellsIn (now (marks .entry)) (now (values .entry)) f)
         (heldIn (now (state .entry)) (heldSize * f)))
-        (nextOf (madeOf (wordsAt (now (words .entry)) f)) t (cellsIn (now (marks .entry)) (now (values .entry)) f)
+        (nextOf (decode kind p q r) t (cellsIn (now (marks .entry)) (now (values .entry)) f)
         (heldIn (now (state .entry)) (heldSize * f)))
         (heldSize * f) (now (state .entry)) (now (state .exit)) o ⌝ }
 {
-    let row = ROW_SIZE * f;
-    let one = row + 1;
-    let two = row + 2;
-    let three = row + 3;
-    let i = HELD_SIZE * f;
-    let kind = words[row];
     if table::KINDS <= kind {
         return CLASH;
     }
+    let i = HELD_SIZE * f;
     match kind {
-        15 => operators::merged(marks, values, f, words[one], words[two], words[three]),
-        14 => operators::sampled(false, marks, values, f, words[one], words[two]),
-        13 => operators::sampled(true, marks, values, f, words[one], words[two]),
-        12 => carried::tail(marks, values, f, words[one], state, i),
-        11 => carried::head(
-            t,
-            marks,
-            values,
-            f,
-            words[one],
-            words[two],
-            words[three],
-            state,
-            i,
-        ),
-        10 => carried::later(words[two], marks, values, f, words[one], state, i),
-        9 => carried::slower(marks, values, f, words[one], words[two], state, i),
-        8 => carried::faster(
-            t,
-            marks,
-            values,
-            f,
-            words[one],
-            words[two],
-            words[three],
-            state,
-            i,
-        ),
-        7 => operators::registered(marks, values, f, words[two], state[i]),
-        1 => carried::constant(t, words[one], words[two], state, i),
-        0 => carried::input(t, words[one], log, at, state, i),
+        15 => operators::merged(marks, values, f, p, q, r),
+        14 => operators::sampled(false, marks, values, f, p, q),
+        13 => operators::sampled(true, marks, values, f, p, q),
+        12 => carried::tail(marks, values, f, p, state, i),
+        11 => carried::head(t, marks, values, f, p, q, r, state, i),
+        10 => carried::later(q, marks, values, f, p, state, i),
+        9 => carried::slower(marks, values, f, p, q, state, i),
+        8 => carried::faster(t, marks, values, f, p, q, r, state, i),
+        7 => operators::registered(marks, values, f, q, state[i]),
+        1 => carried::constant(t, p, q, state, i),
+        0 => carried::input(t, p, log, at, state, i),
         2..=6 => match kind {
-            2 => pair(2, words, one, two, marks, values, f),
-            3 => pair(3, words, one, two, marks, values, f),
-            4 => pair(4, words, one, two, marks, values, f),
-            5 => pair(5, words, one, two, marks, values, f),
-            6 => pair(6, words, one, two, marks, values, f),
+            2 => operators::combined(2, marks, values, f, p, q),
+            3 => operators::combined(3, marks, values, f, p, q),
+            4 => operators::combined(4, marks, values, f, p, q),
+            5 => operators::combined(5, marks, values, f, p, q),
+            6 => operators::combined(6, marks, values, f, p, q),
             _ => CLASH,
         },
         16..=4294967295 => CLASH,
     }
 }
 
-// A cell is written at f.
-fn put(marks: &mut [u8], values: &mut [u32], f: usize, mark: u8, value: u32)
+// The cell at f is written, unless it is a clash: whether it is one.
+fn put(marks: &mut [u8], values: &mut [u32], f: usize, mark: u8, value: u32) -> bool
     requires { ⌜ (f < length (now marks)) × (f < length (now values)) ⌝ }
-    ensures { λ _. ⌜ (now (marks .exit) ≡ set (now (marks .entry)) f mark) × (now (values .exit) ≡ set (now (values .entry)) f value) ⌝ }
+    ensures { λ r. ⌜ (r ≡ eqb mark clashMark)
+        × (now (marks .exit) ≡ cond (eqb mark clashMark) (now (marks .entry)) (set (now (marks .entry)) f mark))
+        × (now (values .exit) ≡ cond (eqb mark clashMark) (now (values .entry)) (set (now (values .entry)) f value)) ⌝ }
 {
+    if mark == CLASHED {
+        return true;
+    }
     marks[f] = mark;
     values[f] = value;
+    false
 }
 
 // The cells of the flows in ascending order. `at` is the place of the tick's first word in the log.
@@ -165,11 +122,22 @@ fn flows(
 {
     let mut f = 0;
     while f < n {
-        let o = outcome(words, f, t, log, at, state, marks, values);
-        if o.mark == CLASHED {
+        let o = outcome(
+            words[ROW_SIZE * f],
+            words[ROW_SIZE * f + 1],
+            words[ROW_SIZE * f + 2],
+            words[ROW_SIZE * f + 3],
+            t,
+            f,
+            log,
+            at,
+            state,
+            marks,
+            values,
+        );
+        if put(marks, values, f, o.mark, o.value) {
             return Ticked::Stopped(f);
         }
-        put(marks, values, f, o.mark, o.value);
         f = f + 1;
     }
     Ticked::Full

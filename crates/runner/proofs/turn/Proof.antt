@@ -6,7 +6,7 @@ use Rattle.runner.proofs.Words.{place-small}
 use Rattle.runner.proofs.Tabled.{plain-table}
 use Rattle.table.proofs.Tables.{Table}
 use Prim.Native.Nat.{ℕ, _*_, _≤_, _^_}
-use mathlib.Core.Path.{_∙_, ap}
+use mathlib.Core.Path.{sym, _∙_, ap}
 use native.Mathlib.Omega.{arith}
 use borrow.Author.Needs.{needs}
 use Rattle.runner.proofs.turn.Statement.{statement}
@@ -21,14 +21,29 @@ small c =
 collect-requires : tie.Need-collect-requires
 collect-requires c κs = search needs
 
-mul-first : tie.Need-mul-first
-mul-first c = search needs
+mul-within : tie.Need-mul-within
+mul-within c = search needs
+
+within-requires : tie.Need-within-requires
+within-requires c κs = omega (arith, c .before .before .before .before .before .before .before .before .before .before .before .before .before .pre .1)
 
 mul-at : tie.Need-mul-at
-mul-at c = omega (arith, small (c .before .before .before .before .before .before .before .before .before .before .before .before .before))
+mul-at c = omega (arith, small (c .before .before .before .before .before .before .before .before .before .before .before .before .before .before))
 
 tick-at-requires : tie.Need-tick-at-requires
-tick-at-requires c κs = (c .before .before .before .before .before .before .before .before .before .before .before .before .before .before .before .before .pre .0, c .before .before .before .before .before .before .before .before .before .before .before .before .before .before .before .before .pre .1, c .before .before .before .before .before .before .before .before .before .before .before .before .before .before .before .before .pre .2, omega (arith, c .before .before .before .before .before .collect .kept .1 .1 .1 .1 .1 .1 .1 .0, c .before .before .before .before .before .before .before .before .before .before .before .before .before .before .before .before .pre .3), c .before .before .before .before .before .before .before .before .before .before .before .before .before .before .before .before .pre .4, c .before .before .before .before .before .before .before .before .before .before .before .before .before .before .before .before .pre .6, omega (arith, small (c .before .before .before .before .before .before .before .before .before .before .before .before .before .before .before .before)))
+tick-at-requires c κs =
+    let start = c .before .before .before .before .before .before .before .before .before .before .before .before .before .before .before .before .before in
+    let pre = start .pre in
+    let collect = c .before .before .before .before .before .before .collect in
+    let within = c .before .before .before .within in (
+      pre .0,
+      omega (arith, pre .1, within .ensures),
+      omega (arith, pre .2, within .ensures),
+      omega (arith, collect .kept .1 .1 .1 .1 .1 .1 .1 .0, pre .3),
+      pre .4,
+      pre .6,
+      omega (arith, small start),
+    )
 
 same-length : tie.Need-same-length
 same-length c = search needs
@@ -40,14 +55,21 @@ same-length-3 : tie.Need-same-length-3
 same-length-3 c = search needs
 
 returns : tie.Need-returns
-returns c = λ past ms vs z r w C. c .before .before .before .before .before .before .tick-at .ensures past ms vs (c .before .before .before .before .before .before .before .before .before .before .before .before .collect .ensures past ms vs _ z (ap (λ (i : ℕ). c .before .before .before .before .before .before .before .before .before .before .before .before .before .before .before .before .before .before .before .before .before .before .before .args .t * i) (c .before .before .before .before .before .before .before .before .before .before .before .before .before .before .before .before .before .before .before .before .before .before .before .pre .7)) r w C) (cells-length (c .before .before .before .before .before .before .before .before .before .before .before .before .before .before .before .before .before .before .before .before .before .before .before .args .n) past r ∙ ap (λ (i : ℕ). i * c .before .before .before .before .before .before .before .before .before .before .before .before .before .before .before .before .before .before .before .before .before .before .before .args .n) z) w
+returns c = λ past ms vs z r w C.
+    let start = c .before .before .before .before .before .before .before .before .before .before .before .before .before .before .before .before .before .before .before .before .before .before .before .before in
+    let args = start .args in
+    let collect = c .before .before .before .before .before .before .before .before .before .before .before .before .before .collect in
+    let within = c .before .before .before .before .before .before .before .before .before .before .within in
+    c .before .before .before .before .before .before .tick-at .ensures past ms vs (collect .ensures past ms vs _ z (ap (λ (i : ℕ). args .t * i) (start .pre .7)) r w C)
+    (cells-length (args .n) past r ∙ ap (λ (i : ℕ). i * args .n) z ∙ sym (within .ensures)) w
 
 pub turn-spec : {M : Type 1} → statement M
 turn-spec =
     tie.close
     (tie.spec
     collect-requires
-    mul-first
+    mul-within
+    within-requires
     mul-at
     tick-at-requires
     same-length

@@ -7,8 +7,7 @@ use mathlib.Core.List.{List}
 use lib.ListN.{getD}
 use lib.Dec.{eqb, ltb, leb}
 use Rattle.table.specs.Rows.{Row, Op, input, constant, combine, register, faster, slower, later, head, tail, sample, merge}
-use Rattle.table.specs.Rows.{maxFlows, kindCount, kindAt, decode, rowSize, Words}
-use Rattle.table.specs.Tables.{FieldsFit}
+use Rattle.table.specs.Rows.{maxFlows, decode}
 use Rattle.runner.specs.declared.operators.Outcome.{Outcome}
 use Rattle.semantics.specs.Cells.{Cell, absent, present, value}
 use Rattle.semantics.specs.Answers.{markByte}
@@ -29,23 +28,6 @@ outcomeOf clashes = record { mark = clashMark; value = 0 }
 -- the cells of a tick's flows below f
 abbrev pub cellsIn : List ℕ → List ℕ → ℕ → ℕ → Cell
 cellsIn ms vs f a = cond (ltb a f) (cellAt (getD ms a 0) (getD vs a 0)) absent
-
--- Row f's words as the code reads them, and the row that they make.
-abbrev pub wordsAt : List ℕ → ℕ → Words
-wordsAt words f =
-    record {
-      kind = getD words (rowSize * f) 0;
-      one = getD words (rowSize * f + 1) 0;
-      two = getD words (rowSize * f + 2) 0;
-      three = getD words (rowSize * f + 3) 0;
-    }
-
-abbrev pub madeOf : Words → Row
-madeOf w = decode (w .kind) (w .one) (w .two) (w .three)
-
--- they are those of a table that is not refused
-abbrev pub Legal : ℕ → Words → Type 0
-Legal f w = (w .kind < kindCount) × FieldsFit maxFlows f (kindAt (w .kind)) (w .one) (w .two) (w .three)
 
 -- a kind of row that combines two flows by an operator
 abbrev pub Combines : ℕ → Op → Type 0

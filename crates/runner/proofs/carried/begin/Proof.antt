@@ -1,5 +1,5 @@
 -- `begin` meets its contract. Assumes nothing.
-use Rattle.runner.proofs.Words.{small, small-sum}
+use Rattle.runner.proofs.Words.{copies-low, small}
 use Prim.Native.Nat.{_+_}
 use lib.ListN.{set, length-set}
 use mathlib.Core.Path.{refl}
@@ -8,6 +8,9 @@ use Rattle.runner.proofs.Words.{all}
 use borrow.Author.Needs.{needs}
 use Rattle.runner.proofs.carried.begin.Statement.{statement}
 use Rattle.runner.proofs.carried.begin.Tie as tie
+
+add-next : tie.Need-add-next
+add-next c = search needs
 
 mul-state : tie.Need-mul-state
 mul-state c = search needs
@@ -18,9 +21,6 @@ slice-write-state c = search needs
 add-state : tie.Need-add-state
 add-state c = search needs
 
-add-state-2 : tie.Need-add-state-2
-add-state-2 c = search needs
-
 mul-state-2 : tie.Need-mul-state-2
 mul-state-2 c = search needs
 
@@ -30,11 +30,11 @@ slice-write-state-2 c = omega (arith, length-set (c .args .state .now) (c .args 
 mul-state-3 : tie.Need-mul-state-3
 mul-state-3 c = record { fits = small (c .args .k) (c .args .gap) (c .pre .2) (c .pre .3) }
 
-add-state-3 : tie.Need-add-state-3
-add-state-3 c = record { fits = small-sum (c .args .t) (c .args .k) (c .args .gap) (c .pre .1) (c .pre .2) (c .pre .3) }
+add-state-2 : tie.Need-add-state-2
+add-state-2 c = record { fits = omega (arith, copies-low (c .args .k) (c .args .gap) (c .pre .2) (c .pre .3)) }
 
-add-state-4 : tie.Need-add-state-4
-add-state-4 c = search needs
+add-state-3 : tie.Need-add-state-3
+add-state-3 c = search needs
 
 mul-state-4 : tie.Need-mul-state-4
 mul-state-4 c = search needs
@@ -52,15 +52,15 @@ pub begin-spec : {M : Type 1} → statement M
 begin-spec =
     tie.close
     (tie.spec
+    add-next
     mul-state
     slice-write-state
     add-state
-    add-state-2
     mul-state-2
     slice-write-state-2
     mul-state-3
+    add-state-2
     add-state-3
-    add-state-4
     mul-state-4
     slice-write-state-3
     same-length

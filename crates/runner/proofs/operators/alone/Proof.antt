@@ -8,35 +8,39 @@ use Rattle.runner.proofs.operators.alone.Tie as tie
 shared-slice-read-if1 : tie.Need-shared-slice-read-if1
 shared-slice-read-if1 c = search needs
 
-shared-slice-read-if2 : tie.Need-shared-slice-read-if2
-shared-slice-read-if2 c = search needs
-
-mul-t16 : tie.Need-mul-t16
-mul-t16 c = search needs
-
-shared-slice-read-t18 : tie.Need-shared-slice-read-t18
-shared-slice-read-t18 c = search needs
-
 returns : tie.Need-returns
 unfolding alone
 returns c = simp (eq-eqb _ _ (c .if1 .taken), lt-ltb _ _ (c .before .before .pre .0), lt-ltb _ _ (c .before .before .pre .1))
 
+mul-t11 : tie.Need-mul-t11
+mul-t11 c = search needs
+
+shared-slice-read-t13 : tie.Need-shared-slice-read-t13
+shared-slice-read-t13 c = search needs
+
+shared-slice-read-if2 : tie.Need-shared-slice-read-if2
+shared-slice-read-if2 c = search needs
+
 returns-2 : tie.Need-returns-2
 unfolding alone
-returns-2 c = simp (eq-eqb _ _ (c .before .if2 .taken), ne-eqb _ _ (c .before .before .before .if1 .left), lt-ltb _ _ (c .before .before .before .before .before .pre .0), lt-ltb _ _ (c .before .before .before .before .before .pre .1))
+returns-2 c =
+    let pre = c .before .before .before .before .before .pre in
+    simp (eq-eqb _ _ (c .if2 .taken), ne-eqb _ _ (c .before .before .before .if1 .left), lt-ltb _ _ (pre .0), lt-ltb _ _ (pre .1))
 
 returns-3 : tie.Need-returns-3
 unfolding alone
-returns-3 c = simp (ne-eqb _ _ (c .if2 .left), ne-eqb _ _ (c .before .before .if1 .left), lt-ltb _ _ (c .before .before .before .before .pre .0), lt-ltb _ _ (c .before .before .before .before .pre .1))
+returns-3 c =
+    let pre = c .before .before .before .before .before .pre in
+    simp (ne-eqb _ _ (c .if2 .left), ne-eqb _ _ (c .before .before .before .if1 .left), lt-ltb _ _ (pre .0), lt-ltb _ _ (pre .1))
 
 pub alone-spec : {M : Type 1} → statement M
 alone-spec =
     tie.close
     (tie.spec
     shared-slice-read-if1
-    shared-slice-read-if2
-    mul-t16
-    shared-slice-read-t18
     returns
+    mul-t11
+    shared-slice-read-t13
+    shared-slice-read-if2
     returns-2
     returns-3)

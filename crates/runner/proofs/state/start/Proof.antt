@@ -80,7 +80,7 @@ start-row-requires c κs =
     let start-2 = c .before .before .before .before .before .before .before .before .before in
     let loop = c .before .before .before .before .before .before .loop in
     let loop-test = c .before .before .before .before .before .loop-test in
-    (row-of _ _ _ (table-at (start-2)) (loop .f) (loop-test .taken) .legal .0, omega (arith, loop-test .taken), loop .inv .3)
+    (row-of _ _ _ (table-at (start-2)) (loop .f) (loop-test .taken) .known, omega (arith, loop-test .taken), loop .inv .3)
 
 bit-requires : tie.Need-bit-requires Inv-loop μ-loop
 bit-requires c κs = tt

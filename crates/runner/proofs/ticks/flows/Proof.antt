@@ -3,6 +3,7 @@
 use mathlib.Core.Path.{_≡_, refl, sym, _∙_}
 use Prim.Native.Nat.{_*_, _-_, _≤_}
 use native.Mathlib.Omega.{arith}
+use borrow.Author.Tests.{eqb-true, eqb-false}
 use lib.ListN.{length}
 use Rattle.table.proofs.Tables.{Table}
 use Rattle.semantics.specs.Runs.{Ticks}
@@ -14,8 +15,7 @@ use Rattle.runner.proofs.ticks.flows.Tie as tie
 
 abbrev Inv-loop : tie.InvT-loop
 Inv-loop n words log at t state₀ marks₀ values₀ f₀ state marks values f =
-    (f ≤ n) × (n ≤ 64) × (length words ≡ 4 * n) × (length state ≡ 256) × (length marks ≡ length marks₀) × (length values ≡ length values₀)
-    × ((past : Ticks) → Ready (rowsIn n words) past t at state₀ → Going (rowsIn n words) log past t state₀ marks₀ values₀ state marks values f)
+    (f ≤ n) × (n ≤ 64) × (length words ≡ 4 * n) × (length state ≡ 256) × (length marks ≡ length marks₀) × (length values ≡ length values₀) × ((past : Ticks) → Ready (rowsIn n words) past t at state₀ → Going (rowsIn n words) log past t state₀ marks₀ values₀ state marks values f)
 
 abbrev μ-loop : tie.MeasureT-loop
 μ-loop n words log at t state₀ marks₀ values₀ f₀ state marks values f = n - f
@@ -28,86 +28,134 @@ loop-holds c =
     let start = c .before .before .before .before .before in
     let pre = start .pre in
     let args = start .args in
-    let T = table-at start in
-    (omega arith, T .few, T .words-size, pre .3, refl, refl, λ past R. starts (args .n) (args .words .now) (args .log .now) _ T past _ _ _ _ _ R)
+    (omega arith, table-at start .few, table-at start .words-size, pre .3, refl, refl, λ past R. starts (args .n) (args .words .now) (args .log .now) _ (table-at start) past _ _ _ _ _ R)
+
+mul-outcome : tie.Need-mul-outcome Inv-loop μ-loop
+mul-outcome c = omega arith
+
+mul-outcome-2 : tie.Need-mul-outcome-2 Inv-loop μ-loop
+mul-outcome-2 c = omega arith
+
+shared-slice-read-outcome : tie.Need-shared-slice-read-outcome Inv-loop μ-loop
+shared-slice-read-outcome c = omega arith
+
+mul-outcome-3 : tie.Need-mul-outcome-3 Inv-loop μ-loop
+mul-outcome-3 c = omega arith
+
+add-outcome : tie.Need-add-outcome Inv-loop μ-loop
+add-outcome c = omega arith
+
+mul-outcome-4 : tie.Need-mul-outcome-4 Inv-loop μ-loop
+mul-outcome-4 c = omega arith
+
+shared-slice-read-outcome-2 : tie.Need-shared-slice-read-outcome-2 Inv-loop μ-loop
+shared-slice-read-outcome-2 c = omega arith
+
+mul-outcome-5 : tie.Need-mul-outcome-5 Inv-loop μ-loop
+mul-outcome-5 c = omega arith
+
+add-outcome-2 : tie.Need-add-outcome-2 Inv-loop μ-loop
+add-outcome-2 c = omega arith
+
+mul-outcome-6 : tie.Need-mul-outcome-6 Inv-loop μ-loop
+mul-outcome-6 c = omega arith
+
+shared-slice-read-outcome-3 : tie.Need-shared-slice-read-outcome-3 Inv-loop μ-loop
+shared-slice-read-outcome-3 c = omega arith
+
+mul-outcome-7 : tie.Need-mul-outcome-7 Inv-loop μ-loop
+mul-outcome-7 c = omega arith
+
+add-outcome-3 : tie.Need-add-outcome-3 Inv-loop μ-loop
+add-outcome-3 c = omega arith
+
+mul-outcome-8 : tie.Need-mul-outcome-8 Inv-loop μ-loop
+mul-outcome-8 c = omega arith
+
+shared-slice-read-outcome-4 : tie.Need-shared-slice-read-outcome-4 Inv-loop μ-loop
+shared-slice-read-outcome-4 c = omega arith
 
 outcome-requires : tie.Need-outcome-requires Inv-loop μ-loop
 outcome-requires c κs =
-    let start = c .before .before .before .before .before .before .before .before .before .before in
+    let start = c .before .before .before .before .before .before .before .before .before .before .before .before .before .before in
     let args = start .args in
     let pre = start .pre in
-    let loop = c .before .before .before .before .loop in
-    let inv = loop .inv in
-    let below = c .before .before .before .loop-test .taken in
-    let r = row-of (args .n) (args .words .now) _ (table-at start) (loop .f) below in
-    (omega (arith, inv .1, below), omega (arith, inv .2, below), r .legal, omega (arith, inv .0, inv .4, pre .1), omega (arith, inv .0, inv .5, pre .2), inv .3, pre .4, pre .5)
-
-same-length : tie.Need-same-length Inv-loop μ-loop
-same-length c =
-    let outcome = c .before .before .before .before .outcome in
-    let loop = c .before .before .before .before .before .before .before .before .before .loop in
-    let pre = c .before .before .before .before .before .before .before .before .before .before .before .before .before .before .before .pre in
-    omega (arith, outcome .kept, loop .inv .3, pre .3)
-
-same-length-2 : tie.Need-same-length-2 Inv-loop μ-loop
-same-length-2 c =
-    let loop = c .before .before .before .before .before .before .before .before .before .loop in
-    loop .inv .4
-
-same-length-3 : tie.Need-same-length-3 Inv-loop μ-loop
-same-length-3 c =
-    let loop = c .before .before .before .before .before .before .before .before .before .loop in
-    loop .inv .5
-
-returns : tie.Need-returns Inv-loop μ-loop
-returns c =
-    let start = c .before .before .before .before .before .before .before .before .before .before .before .before .before .before .before in
-    let args = start .args in
-    let loop = c .before .before .before .before .before .before .before .before .before .loop in
-    let loop-test = c .before .before .before .before .before .before .before .before .loop-test in
-    let outcome = c .before .before .before .before .outcome in
-    λ past R. stops (args .n) (args .words .now) (args .log .now) _ (table-at start) past (args .t) (args .at) (args .state .now) (args .marks .now) (args .values .now) R
-    (loop .state) (loop .marks) (loop .values) (loop .f) (loop .inv .6 past R) (loop-test .taken) _ _ (outcome .ensures) (c .if1 .taken)
+    let loop = c .before .before .before .before .before .before .before .before .loop in
+    let loop-test = c .before .before .before .before .before .before .before .loop-test in
+    let r = row-of (args .n) (args .words .now) _ (table-at start) (loop .f) (loop-test .taken) in (omega (arith, loop .inv .1, loop-test .taken), r .known, r .legal, omega (arith, loop .inv .0, loop .inv .4, pre .1), omega (arith, loop .inv .0, loop .inv .5, pre .2), loop .inv .3, pre .4, pre .5)
 
 put-requires : tie.Need-put-requires Inv-loop μ-loop
 put-requires c κs =
-    let loop = c .before .before .before .before .before .before .before .before .before .before .before .loop in
-    let loop-test = c .before .before .before .before .before .before .before .before .before .before .loop-test in
-    let pre = c .before .before .before .before .before .before .before .before .before .before .before .before .before .before .before .before .before .pre in
-    (omega (arith, loop .inv .4, loop-test .taken, pre .1), omega (arith, loop .inv .5, loop-test .taken, pre .2))
+    let loop = c .before .before .before .before .before .before .before .before .before .before .before .before .before .loop in
+    let below = c .before .before .before .before .before .before .before .before .before .before .before .before .loop-test .taken in
+    let pre = c .before .before .before .before .before .before .before .before .before .before .before .before .before .before .before .before .before .before .before .pre in
+    (omega (arith, loop .inv .4, below, pre .1), omega (arith, loop .inv .5, below, pre .2))
+
+same-length : tie.Need-same-length Inv-loop μ-loop
+same-length c =
+    let outcome = c .before .before .before .before .before .before .before .before .before .before .outcome in
+    let loop = c .before .before .before .before .before .before .before .before .before .before .before .before .before .before .before .before .before .before .before .loop in
+    let start = c .before .before .before .before .before .before .before .before .before .before .before .before .before .before .before .before .before .before .before .before .before .before .before .before .before in
+    omega (arith, outcome .kept, loop .inv .3, start .pre .3)
+
+same-length-2 : tie.Need-same-length-2 Inv-loop μ-loop
+same-length-2 c =
+    let put = c .before .before .before .before .before .put in
+    let loop = c .before .before .before .before .before .before .before .before .before .before .before .before .before .before .before .before .before .before .before .loop in
+    omega (arith, put .kept .0, loop .inv .4)
+
+same-length-3 : tie.Need-same-length-3 Inv-loop μ-loop
+same-length-3 c =
+    let put = c .before .before .before .before .before .put in
+    let loop = c .before .before .before .before .before .before .before .before .before .before .before .before .before .before .before .before .before .before .before .loop in
+    omega (arith, put .kept .1 .0, loop .inv .5)
+
+returns : tie.Need-returns Inv-loop μ-loop
+returns c =
+    let start = c .before .before .before .before .before .before .before .before .before .before .before .before .before .before .before .before .before .before .before .before .before .before .before .before .before in
+    let args = start .args in
+    let loop = c .before .before .before .before .before .before .before .before .before .before .before .before .before .before .before .before .before .before .before .loop in
+    let below = c .before .before .before .before .before .before .before .before .before .before .before .before .before .before .before .before .before .before .loop-test .taken in
+    let outcome = c .before .before .before .before .before .before .before .before .before .before .outcome in
+    let put = c .before .before .before .before .before .put in
+    let clash = sym (put .ensures .0) ∙ c .if1 .taken in
+    λ past R. stops (args .n) (args .words .now) (args .log .now) _ (table-at start) past (args .t) (args .at)
+    (args .state .now) (args .marks .now) (args .values .now) R (loop .state) (loop .marks) (loop .values) (loop .f)
+    (loop .inv .6 past R) below _ _ (outcome .ensures) _ _
+    (eqb-true _ _ clash) (rw (clash) at (put .ensures .1)) (rw (clash) at (put .ensures .2))
 
 add-f : tie.Need-add-f Inv-loop μ-loop
 add-f c =
-    let loop = c .before .before .before .before .before .before .before .before .before .before .before .before .before .before .before .before .loop in
-    let loop-test = c .before .before .before .before .before .before .before .before .before .before .before .before .before .before .before .loop-test in
-    omega (arith, loop .inv .1, loop-test .taken)
+    let loop = c .before .before .before .before .before .before .before .before .before .before .before .before .before .before .before .before .before .before .before .loop in
+    let below = c .before .before .before .before .before .before .before .before .before .before .before .before .before .before .before .before .before .before .loop-test .taken in
+    omega (arith, loop .inv .1, below)
 
 loop-less : tie.Need-loop-less Inv-loop μ-loop
 loop-less c =
-    let loop-test = c .before .before .before .before .before .before .before .before .before .before .before .before .before .before .before .loop-test in
-    omega (arith, loop-test .taken)
+    let below = c .before .before .before .before .before .before .before .before .before .before .before .before .before .before .before .before .before .before .loop-test .taken in
+    omega (arith, below)
 
 loop-again : tie.Need-loop-again Inv-loop μ-loop
 loop-again c =
-    let start = c .before .before .before .before .before .before .before .before .before .before .before .before .before .before .before .before .before .before .before .before .before .before in
+    let start = c .before .before .before .before .before .before .before .before .before .before .before .before .before .before .before .before .before .before .before .before .before .before .before .before .before in
     let args = start .args in
     let pre = start .pre in
-    let loop = c .before .before .before .before .before .before .before .before .before .before .before .before .before .before .before .before .loop in
-    let loop-test = c .before .before .before .before .before .before .before .before .before .before .before .before .before .before .before .loop-test in
-    let outcome = c .before .before .before .before .before .before .before .before .before .before .before .outcome in
-    let put = c .before .before .before .before .put in
-    let if1 = c .before .before .before .before .before .before .before .if1 in
+    let loop = c .before .before .before .before .before .before .before .before .before .before .before .before .before .before .before .before .before .before .before .loop in
+    let below = c .before .before .before .before .before .before .before .before .before .before .before .before .before .before .before .before .before .before .loop-test .taken in
+    let outcome = c .before .before .before .before .before .before .before .before .before .before .outcome in
+    let put = c .before .before .before .before .before .put in
     let inv = loop .inv in
-    let below = loop-test .taken in (
+    let cell = sym (put .ensures .0) ∙ c .if1 .left in (
       omega (arith, below),
       inv .1,
       inv .2,
-      omega (arith, outcome .kept, inv .3),
+      omega (arith, outcome .kept .1 .1 .1 .1 .1 .1 .1 .1 .0, inv .3),
       omega (arith, put .kept .0, inv .4),
       omega (arith, put .kept .1 .0, inv .5),
-      λ past R. goes-on (args .n) (args .words .now) (args .log .now) _ (table-at start) past (args .t) (args .at) (args .state .now) (args .marks .now) (args .values .now) R
-          (loop .state) (loop .marks) (loop .values) (loop .f) (loop .inv .6 past R) below _ _ (outcome .ensures)
-          _ _ (if1 .left) (omega (arith, below, pre .1)) (omega (arith, below, pre .2)) (put .ensures .0) (put .ensures .1),
+      λ past R. goes-on (args .n) (args .words .now) (args .log .now) _ (table-at start) past (args .t) (args .at)
+          (args .state .now) (args .marks .now) (args .values .now) R (loop .state) (loop .marks) (loop .values) (loop .f)
+          (loop .inv .6 past R) below _ _ (outcome .ensures)
+          _ _ (eqb-false _ _ cell) (omega (arith, below, pre .1)) (omega (arith, below, pre .2)) (rw (cell) at (put .ensures .1)) (rw (cell) at (put .ensures .2)),
     )
 
 same-length-4 : tie.Need-same-length-4 Inv-loop μ-loop
@@ -126,8 +174,7 @@ returns-2 c =
     let start = c .before .before .before .before .before .before .before in
     let args = start .args in
     let loop = c .before .loop in
-    λ past R. ends (args .n) (args .words .now) (args .log .now) _ (table-at start) past (args .t) (args .at) (args .state .now) (args .marks .now) (args .values .now) R
-    (loop .state) (loop .marks) (loop .values) (loop .f) (loop .inv .6 past R) (c .loop-test .left) (loop .inv .0)
+    λ past R. ends (args .n) (args .words .now) (args .log .now) _ (table-at start) past (args .t) (args .at) (args .state .now) (args .marks .now) (args .values .now) R (loop .state) (loop .marks) (loop .values) (loop .f) (loop .inv .6 past R) (c .loop-test .left) (loop .inv .0)
 
 pub flows-spec : {M : Type 1} → statement M
 flows-spec =
@@ -136,12 +183,27 @@ flows-spec =
     Inv-loop
     μ-loop
     loop-holds
+    mul-outcome
+    mul-outcome-2
+    shared-slice-read-outcome
+    mul-outcome-3
+    add-outcome
+    mul-outcome-4
+    shared-slice-read-outcome-2
+    mul-outcome-5
+    add-outcome-2
+    mul-outcome-6
+    shared-slice-read-outcome-3
+    mul-outcome-7
+    add-outcome-3
+    mul-outcome-8
+    shared-slice-read-outcome-4
     outcome-requires
+    put-requires
     same-length
     same-length-2
     same-length-3
     returns
-    put-requires
     add-f
     loop-less
     loop-again
