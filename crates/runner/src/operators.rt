@@ -156,14 +156,13 @@ fn alone(marks: &[u8], values: &[u32], f: usize, one: u32, other: u32) -> Outcom
     if marks[i] == 0 {
         return CLASH;
     }
-    let given = Outcome {
-        mark: 1,
-        value: values[i],
-    };
+    let value = values[i];
+    let given = Outcome { mark: 1, value };
+    let both = CLASH;
     if marks[other as usize] == 0 {
         given
     } else {
-        CLASH
+        both
     }
 }
 

@@ -25,16 +25,22 @@ mul-within : tie.Need-mul-within
 mul-within c = search needs
 
 within-requires : tie.Need-within-requires
-within-requires c κs = omega (arith, c .before .before .before .before .before .before .before .before .before .before .before .before .before .pre .1)
+within-requires c κs =
+    let pre = c .before .before .before .before .before .before .before .before .before .before .before .before .before .pre in
+    omega (arith, pre .1)
 
 mul-at : tie.Need-mul-at
-mul-at c = omega (arith, small (c .before .before .before .before .before .before .before .before .before .before .before .before .before .before))
+mul-at c =
+    let start = c .before .before .before .before .before .before .before .before .before .before .before .before .before .before in
+    omega (arith, small (start))
 
 tick-at-requires : tie.Need-tick-at-requires
 tick-at-requires c κs =
     let start = c .before .before .before .before .before .before .before .before .before .before .before .before .before .before .before .before .before in
+    let collect-2 = c .before .before .before .before .before .before .collect in
+    let start = start in
     let pre = start .pre in
-    let collect = c .before .before .before .before .before .before .collect in
+    let collect = collect-2 in
     let within = c .before .before .before .within in (
       pre .0,
       omega (arith, pre .1, within .ensures),
@@ -55,12 +61,18 @@ same-length-3 : tie.Need-same-length-3
 same-length-3 c = search needs
 
 returns : tie.Need-returns
-returns c = λ past ms vs z r w C.
-    let start = c .before .before .before .before .before .before .before .before .before .before .before .before .before .before .before .before .before .before .before .before .before .before .before .before in
+returns c =
+    let place = c .before .before .before .before .before .before .before .before .before .before .before .before in
+    let start = place .before .before .before .before .before .before .before .before .before .before .before .before in
+    let collect-2 = c .before .before .before .before .before .before .before .before .before .before .before .before .before .collect in
+    let within-2 = c .before .before .before .before .before .before .before .before .before .before .within in
+    let tick-at = c .before .before .before .before .before .before .tick-at in
+    λ past ms vs z r w C.
+    let start = start in
     let args = start .args in
-    let collect = c .before .before .before .before .before .before .before .before .before .before .before .before .before .collect in
-    let within = c .before .before .before .before .before .before .before .before .before .before .within in
-    c .before .before .before .before .before .before .tick-at .ensures past ms vs (collect .ensures past ms vs _ z (ap (λ (i : ℕ). args .t * i) (start .pre .7)) r w C)
+    let collect = collect-2 in
+    let within = within-2 in
+    tick-at .ensures past ms vs (collect .ensures past ms vs _ z (ap (λ (i : ℕ). args .t * i) (start .pre .7)) r w C)
     (cells-length (args .n) past r ∙ ap (λ (i : ℕ). i * args .n) z ∙ sym (within .ensures)) w
 
 pub turn-spec : {M : Type 1} → statement M

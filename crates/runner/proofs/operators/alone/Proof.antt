@@ -12,11 +12,11 @@ returns : tie.Need-returns
 unfolding alone
 returns c = simp (eq-eqb _ _ (c .if1 .taken), lt-ltb _ _ (c .before .before .pre .0), lt-ltb _ _ (c .before .before .pre .1))
 
-mul-t11 : tie.Need-mul-t11
-mul-t11 c = search needs
+mul-value : tie.Need-mul-value
+mul-value c = search needs
 
-shared-slice-read-t13 : tie.Need-shared-slice-read-t13
-shared-slice-read-t13 c = search needs
+shared-slice-read-value : tie.Need-shared-slice-read-value
+shared-slice-read-value c = search needs
 
 shared-slice-read-if2 : tie.Need-shared-slice-read-if2
 shared-slice-read-if2 c = search needs
@@ -39,8 +39,8 @@ alone-spec =
     (tie.spec
     shared-slice-read-if1
     returns
-    mul-t11
-    shared-slice-read-t13
+    mul-value
+    shared-slice-read-value
     shared-slice-read-if2
     returns-2
     returns-3)

@@ -1,7 +1,7 @@
 -- `flows` meets its contract. The invariant: the cells so far stand in the parts, each row below carries its words on, and what is left to do is
 -- the whole tick. Assumes nothing.
 use mathlib.Core.Path.{_≡_, refl, sym, _∙_}
-use Prim.Native.Nat.{_*_, _-_, _≤_}
+use Prim.Native.Nat.{_*_, _-_, _≤_, _<_}
 use native.Mathlib.Omega.{arith}
 use borrow.Author.Tests.{eqb-true, eqb-false}
 use lib.ListN.{length}
@@ -15,7 +15,8 @@ use Rattle.runner.proofs.ticks.flows.Tie as tie
 
 abbrev Inv-loop : tie.InvT-loop
 Inv-loop n words log at t state₀ marks₀ values₀ f₀ state marks values f =
-    (f ≤ n) × (n ≤ 64) × (length words ≡ 4 * n) × (length state ≡ 256) × (length marks ≡ length marks₀) × (length values ≡ length values₀) × ((past : Ticks) → Ready (rowsIn n words) past t at state₀ → Going (rowsIn n words) log past t state₀ marks₀ values₀ state marks values f)
+    (f ≤ n) × (n ≤ 64) × (length words ≡ 4 * n) × (length state ≡ 256) × (length marks ≡ length marks₀) × (length values ≡ length values₀)
+    × ((past : Ticks) → Ready (rowsIn n words) past t at state₀ → Going (rowsIn n words) log past t state₀ marks₀ values₀ state marks values f)
 
 abbrev μ-loop : tie.MeasureT-loop
 μ-loop n words log at t state₀ marks₀ values₀ f₀ state marks values f = n - f
@@ -82,7 +83,17 @@ outcome-requires c κs =
     let pre = start .pre in
     let loop = c .before .before .before .before .before .before .before .before .loop in
     let loop-test = c .before .before .before .before .before .before .before .loop-test in
-    let r = row-of (args .n) (args .words .now) _ (table-at start) (loop .f) (loop-test .taken) in (omega (arith, loop .inv .1, loop-test .taken), r .known, r .legal, omega (arith, loop .inv .0, loop .inv .4, pre .1), omega (arith, loop .inv .0, loop .inv .5, pre .2), loop .inv .3, pre .4, pre .5)
+    let below : loop .f < args .n = omega (arith, loop-test .taken) in
+    let r = row-of (args .n) (args .words .now) _ (table-at start) (loop .f) below in (
+      omega (arith, loop .inv .1, below),
+      r .known,
+      r .legal,
+      omega (arith, loop .inv .0, loop .inv .4, pre .1),
+      omega (arith, loop .inv .0, loop .inv .5, pre .2),
+      loop .inv .3,
+      pre .4,
+      pre .5,
+    )
 
 put-requires : tie.Need-put-requires Inv-loop μ-loop
 put-requires c κs =
@@ -95,7 +106,8 @@ same-length : tie.Need-same-length Inv-loop μ-loop
 same-length c =
     let outcome = c .before .before .before .before .before .before .before .before .before .before .outcome in
     let loop = c .before .before .before .before .before .before .before .before .before .before .before .before .before .before .before .before .before .before .before .loop in
-    let start = c .before .before .before .before .before .before .before .before .before .before .before .before .before .before .before .before .before .before .before .before .before .before .before .before .before in
+    let place = c .before .before .before .before .before .before .before .before .before .before .before .before in
+    let start = place .before .before .before .before .before .before .before .before .before .before .before .before .before in
     omega (arith, outcome .kept, loop .inv .3, start .pre .3)
 
 same-length-2 : tie.Need-same-length-2 Inv-loop μ-loop
@@ -112,10 +124,12 @@ same-length-3 c =
 
 returns : tie.Need-returns Inv-loop μ-loop
 returns c =
-    let start = c .before .before .before .before .before .before .before .before .before .before .before .before .before .before .before .before .before .before .before .before .before .before .before .before .before in
+    let place = c .before .before .before .before .before .before .before .before .before .before .before .before in
+    let start = place .before .before .before .before .before .before .before .before .before .before .before .before .before in
     let args = start .args in
     let loop = c .before .before .before .before .before .before .before .before .before .before .before .before .before .before .before .before .before .before .before .loop in
-    let below = c .before .before .before .before .before .before .before .before .before .before .before .before .before .before .before .before .before .before .loop-test .taken in
+    let loop-test = c .before .before .before .before .before .before .before .before .before .before .before .before .before .before .before .before .before .before .loop-test in
+    let below : loop .f < args .n = omega (arith, loop-test .taken) in
     let outcome = c .before .before .before .before .before .before .before .before .before .before .outcome in
     let put = c .before .before .before .before .before .put in
     let clash = sym (put .ensures .0) ∙ c .if1 .taken in
@@ -137,11 +151,13 @@ loop-less c =
 
 loop-again : tie.Need-loop-again Inv-loop μ-loop
 loop-again c =
-    let start = c .before .before .before .before .before .before .before .before .before .before .before .before .before .before .before .before .before .before .before .before .before .before .before .before .before in
+    let place = c .before .before .before .before .before .before .before .before .before .before .before .before in
+    let start = place .before .before .before .before .before .before .before .before .before .before .before .before .before in
     let args = start .args in
     let pre = start .pre in
     let loop = c .before .before .before .before .before .before .before .before .before .before .before .before .before .before .before .before .before .before .before .loop in
-    let below = c .before .before .before .before .before .before .before .before .before .before .before .before .before .before .before .before .before .before .loop-test .taken in
+    let loop-test = c .before .before .before .before .before .before .before .before .before .before .before .before .before .before .before .before .before .before .loop-test in
+    let below : loop .f < args .n = omega (arith, loop-test .taken) in
     let outcome = c .before .before .before .before .before .before .before .before .before .before .outcome in
     let put = c .before .before .before .before .before .put in
     let inv = loop .inv in
@@ -174,7 +190,9 @@ returns-2 c =
     let start = c .before .before .before .before .before .before .before in
     let args = start .args in
     let loop = c .before .loop in
-    λ past R. ends (args .n) (args .words .now) (args .log .now) _ (table-at start) past (args .t) (args .at) (args .state .now) (args .marks .now) (args .values .now) R (loop .state) (loop .marks) (loop .values) (loop .f) (loop .inv .6 past R) (c .loop-test .left) (loop .inv .0)
+    λ past R. ends (args .n) (args .words .now) (args .log .now) _ (table-at start) past
+    (args .t) (args .at) (args .state .now) (args .marks .now) (args .values .now) R
+    (loop .state) (loop .marks) (loop .values) (loop .f) (loop .inv .6 past R) (omega (arith, c .loop-test .left)) (loop .inv .0)
 
 pub flows-spec : {M : Type 1} → statement M
 flows-spec =
