@@ -5,7 +5,7 @@ use native.Mathlib.Numerals.{add-one}
 use native.Mathlib.Omega.{arith}
 use mathlib.Core.Logic.{⊎-elim}
 use mathlib.Core.List.{List, [], _∷_, _++_}
-use lib.ListN.{length, getD, set, drop, length-append, List·getD-append}
+use lib.ListN.{length, set, drop, length-append, List·getD-append}
 use lib.Seq.{drop-cons, drop-length}
 use native.Mathlib.Nat.{eq-or-lt-of-le}
 use Rattle.table.specs.Rows.{Row, tail}

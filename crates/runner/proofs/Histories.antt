@@ -5,7 +5,6 @@ use native.Mathlib.Nat.{mod-add-mod, mod-eq-of-lt, add-mod-right, sub-self, zero
 use native.Mathlib.Omega.{arith}
 use mathlib.Core.Bool.{Bool, true, false, cond, _&&_, _||_, not}
 use mathlib.Core.List.{_∷_}
-use mathlib.Core.Option.{none}
 use lib.ListN.{length}
 use lib.Dec.{eqb, ltb, leb}
 use borrow.Author.Tests.{eq-eqb, ne-eqb, lt-ltb, le-ltb, le-leb, lt-leb, eqb-true, eqb-false, leb-true, leb-false}

@@ -32,15 +32,13 @@ within-requires c κs =
 mul-at : tie.Need-mul-at
 mul-at c =
     let start = c .before .before .before .before .before .before .before .before .before .before .before .before .before .before in
-    omega (arith, small (start))
+    omega (arith, small start)
 
 tick-at-requires : tie.Need-tick-at-requires
 tick-at-requires c κs =
     let start = c .before .before .before .before .before .before .before .before .before .before .before .before .before .before .before .before .before in
-    let collect-2 = c .before .before .before .before .before .before .collect in
-    let start = start in
+    let collect = c .before .before .before .before .before .before .collect in
     let pre = start .pre in
-    let collect = collect-2 in
     let within = c .before .before .before .within in (
       pre .0,
       omega (arith, pre .1, within .ensures),
@@ -64,14 +62,11 @@ returns : tie.Need-returns
 returns c =
     let place = c .before .before .before .before .before .before .before .before .before .before .before .before in
     let start = place .before .before .before .before .before .before .before .before .before .before .before .before in
-    let collect-2 = c .before .before .before .before .before .before .before .before .before .before .before .before .before .collect in
-    let within-2 = c .before .before .before .before .before .before .before .before .before .before .within in
+    let collect = c .before .before .before .before .before .before .before .before .before .before .before .before .before .collect in
+    let within = c .before .before .before .before .before .before .before .before .before .before .within in
     let tick-at = c .before .before .before .before .before .before .tick-at in
     λ past ms vs z r w C.
-    let start = start in
     let args = start .args in
-    let collect = collect-2 in
-    let within = within-2 in
     tick-at .ensures past ms vs (collect .ensures past ms vs _ z (ap (λ (i : ℕ). args .t * i) (start .pre .7)) r w C)
     (cells-length (args .n) past r ∙ ap (λ (i : ℕ). i * args .n) z ∙ sym (within .ensures)) w
 

@@ -1,10 +1,8 @@
 -- `apply` meets its contract. Assumes nothing.
-use mathlib.Core.Path.{_≡_, refl, sym}
-use Prim.Native.Nat.{ℕ}
+use mathlib.Core.Path.{refl}
 use native.Mathlib.Omega.{arith}
 use borrow.Author.Needs.{needs}
-use Rattle.table.specs.Rows.{Op, add, subtract, less, equal, larger, kinds}
-use Rattle.runner.specs.Private.Carried.{Combines}
+use Rattle.table.specs.Rows.{add, subtract, less, equal, larger, kinds}
 use Rattle.runner.proofs.Decoded.{op-is, six}
 use Rattle.runner.proofs.operators.apply.Statement.{statement}
 use Rattle.runner.proofs.operators.apply.Tie as tie

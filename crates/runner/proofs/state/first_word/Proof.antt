@@ -1,5 +1,5 @@
 -- `first_word` meets its contract. Assumes nothing.
-use mathlib.Core.Path.{_≡_, refl, sym}
+use mathlib.Core.Path.{sym}
 use Rattle.table.specs.Rows.{kinds}
 use Rattle.runner.specs.Private.Carried.{startWord}
 use Rattle.runner.proofs.Decoded.{no-start}
