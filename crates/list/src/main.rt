@@ -1,5 +1,5 @@
 // Writes the listing of the packed table on standard input, or says why it cannot be read.
-ghost use Rattle.list.specs.Inputs.{Within};
+ghost use Rattle.list.specs.Private.Inputs.{Within};
 use libc::STDIN_FILENO;
 use libc::STDOUT_FILENO;
 use lister::Listed;
