@@ -1,4 +1,4 @@
--- Each row's rule over seven-word clocks comes to what the paper's rule comes to, while the clocks are within the limits. Assumes nothing.
+-- Each row's rule over clocks as the check keeps them comes to what the paper's rule comes to, while the clocks are within the limits. Assumes nothing.
 use mathlib.Core.Path.{_≡_, refl, sym, _∙_, ap}
 use Prim.Native.Nat.{ℕ, zero, suc, _+_, _*_, _%_, _≤_, _<_}
 use native.Mathlib.Omega.{arith}

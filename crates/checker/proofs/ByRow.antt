@@ -91,12 +91,6 @@ rule-combine h (suc (suc (suc (suc (suc zero))))) p q r a b l = refl
 rule-combine h (suc (suc (suc (suc (suc (suc zero)))))) p q r a b l = refl
 rule-combine h (suc (suc (suc (suc (suc (suc (suc n))))))) p q r a b l = absurd (omega arith)
 
-pub above-eleven : (n : ℕ) → 7 ≤ n → (n ≡ 7 → ⊥) → (n ≡ 8 → ⊥) → (n ≡ 9 → ⊥) → (n ≡ 10 → ⊥) → (n ≡ 11 → ⊥) → 12 ≤ n
-above-eleven n l a b c d e = omega arith
-
-pub above-fifteen : (n : ℕ) → 12 ≤ n → (n ≡ 12 → ⊥) → (n ≡ 13 → ⊥) → (n ≡ 14 → ⊥) → (n ≡ 15 → ⊥) → kindCount ≤ n
-above-fifteen n l a b c d = omega arith
-
 pub rule-unknown : (h : ℕ → Kept) (n p q r : ℕ) → kindCount ≤ n → Kept.rule h n p q r ≡ Refused (number unknownKind)
 unfolding Kept.rule
 rule-unknown h n p q r l = rw (le-ltb n kindCount l)

@@ -32,10 +32,10 @@ clock-set l i k h =
     rw (e1, e2, e3, e4, e5, e6) (sets-eq (words k) l i h ∙ append-assoc (take i l) (words k) (drop (i + clockSize) l))
 
 -- clockIn words that are read one by one
-pub seven-read : (l : List ℕ) (i : ℕ) → _≡_ {A = Kept}
+pub clock-read : (l : List ℕ) (i : ℕ) → _≡_ {A = Kept}
     (record { period = getD l i 0; phase = getD l (i + 1) 0; count = getD l (i + 2) 0; first = getD l (i + 3) 0; second = getD l (i + 4) 0; third = getD l (i + 5) 0; fourth = getD l (i + 6) 0 })
     (clockIn (drop i l))
-seven-read l i =
+clock-read l i =
     let e : i ≡ i + 0 = omega arith in
     rw (getD-drop i l 0 0, getD-drop i l 1 0, getD-drop i l 2 0, getD-drop i l 3 0, getD-drop i l 4 0, getD-drop i l 5 0, getD-drop i l 6 0, ← e)
 

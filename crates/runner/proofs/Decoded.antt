@@ -7,22 +7,17 @@ use lib.Dec.{eqb}
 use borrow.Author.Tests.{eqb-true, ne-eqb}
 use Rattle.table.specs.Rows.{Row, Op, input, constant, combine, register, faster, slower, later, head, tail, sample, merge, kinds, kindCount, decode}
 use Rattle.table.proofs.Entries.{every, kind-test}
+use Rattle.checker.proofs.ClockLaws.{beq-true}
 use Rattle.semantics.specs.Runs.{isInput}
 use Rattle.runner.specs.Private.Carried.{Combines, startWord}
 
 -- inputs are of kind 0 alone
-same-bool : (a b : Bool) → Bool·beq a b ≡ true → a ≡ b
-same-bool true true e = refl
-same-bool true false e = absurd (false≢true e)
-same-bool false true e = absurd (false≢true e)
-same-bool false false e = refl
-
 inputs-told : (x y z : ℕ) → every (λ n k. Bool·beq (isInput (k .make x y z)) (eqb n 0)) 0 kinds ≡ true
 unfolding kinds
 inputs-told x y z = refl
 
 pub is-input : (n x y z : ℕ) → n < kindCount → isInput (decode n x y z) ≡ eqb n 0
-is-input n x y z l = same-bool (isInput (decode n x y z)) (eqb n 0) (kind-test (λ n k. Bool·beq (isInput (k .make x y z)) (eqb n 0)) (inputs-told x y z) n l)
+is-input n x y z l = beq-true (isInput (decode n x y z)) (eqb n 0) (kind-test (λ n k. Bool·beq (isInput (k .make x y z)) (eqb n 0)) (inputs-told x y z) n l)
 
 -- rows of other kinds than 0, 1 and 7 carry nothing into tick 0
 starts-told : (x y z : ℕ) → every (λ n k. eqb n 0 || (eqb n 1 || (eqb n 7 || eqb (startWord (k .make x y z)) 0))) 0 kinds ≡ true
@@ -68,14 +63,3 @@ two-or-more k a b = omega arith
 
 pub seven : (k : ℕ) → 2 ≤ k → (k ≡ 2 → ⊥) → (k ≡ 3 → ⊥) → (k ≡ 4 → ⊥) → (k ≡ 5 → ⊥) → (k ≡ 6 → ⊥) → 7 ≤ k
 seven k l a b c d e = omega arith
-
--- no other kind is known
-above-eleven : (k : ℕ) → 7 ≤ k → (k ≡ 7 → ⊥) → (k ≡ 8 → ⊥) → (k ≡ 9 → ⊥) → (k ≡ 10 → ⊥) → (k ≡ 11 → ⊥) → 12 ≤ k
-above-eleven k m a b c d e = omega arith
-
-pub no-other : (k : ℕ) → k < kindCount → 7 ≤ k → (k ≡ 7 → ⊥) → (k ≡ 8 → ⊥) → (k ≡ 9 → ⊥) → (k ≡ 10 → ⊥) → (k ≡ 11 → ⊥)
-    → (k ≡ 12 → ⊥) → (k ≡ 13 → ⊥) → (k ≡ 14 → ⊥) → (k ≡ 15 → ⊥) → ⊥
-no-other k l m a b c d e = rest (above-eleven k m a b c d e)
-  where
-    rest : 12 ≤ k → (k ≡ 12 → ⊥) → (k ≡ 13 → ⊥) → (k ≡ 14 → ⊥) → (k ≡ 15 → ⊥) → ⊥
-    rest m a b c d = omega arith

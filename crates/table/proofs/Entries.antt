@@ -178,6 +178,17 @@ kind-known n k e =
       | no h ↦ absurd (Option·none-ne-some k (sym (kind-gone n (omega arith)) ∙ e))
     ]
 
+-- a number from 7 on that is none of 7 to 15 is no kind
+pub no-kind : (n : ℕ) → 7 ≤ n → (n ≡ 7 → ⊥) → (n ≡ 8 → ⊥) → (n ≡ 9 → ⊥) → (n ≡ 10 → ⊥) → (n ≡ 11 → ⊥)
+    → (n ≡ 12 → ⊥) → (n ≡ 13 → ⊥) → (n ≡ 14 → ⊥) → (n ≡ 15 → ⊥) → kindCount ≤ n
+no-kind n l a b c d e = rest (above-eleven n l a b c d e)
+  where
+    above-eleven : (n : ℕ) → 7 ≤ n → (n ≡ 7 → ⊥) → (n ≡ 8 → ⊥) → (n ≡ 9 → ⊥) → (n ≡ 10 → ⊥) → (n ≡ 11 → ⊥) → 12 ≤ n
+    above-eleven n l a b c d e = omega arith
+
+    rest : 12 ≤ n → (n ≡ 12 → ⊥) → (n ≡ 13 → ⊥) → (n ≡ 14 → ⊥) → (n ≡ 15 → ⊥) → kindCount ≤ n
+    rest l a b c d = omega arith
+
 -- a test of each kind and its number, computed over the whole list
 pub kind-test : (test : ℕ → Kind → Bool) → every test 0 kinds ≡ true → (n : ℕ) → n < kindCount → test n (kindAt n) ≡ true
 kind-test test t n h = at test kinds _ t n (omega (arith, kinds-size))

@@ -3,7 +3,7 @@ use Prim.Native.Nat.{_*_}
 use denote.Ref.{now}
 use borrow.Author.Needs.{needs}
 use Rattle.checker.specs.Answers.{clockSize}
-use Rattle.checker.proofs.Laws.{seven-read}
+use Rattle.checker.proofs.Laws.{clock-read}
 use Rattle.checker.proofs.clock_at.Statement.{statement}
 use Rattle.checker.proofs.clock_at.Tie as tie
 
@@ -51,7 +51,7 @@ word-at-requires-7 c κs = search needs
 
 returns : tie.Need-returns
 returns c = rw (c .word-at7 .ensures, c .before .word-at6 .ensures, c .before .before .word-at5 .ensures, c .before .before .before .word-at4 .ensures, c .before .before .before .before .word-at3 .ensures, c .before .before .before .before .before .word-at2 .ensures, c .before .before .before .before .before .before .word-at .ensures)
-    (seven-read (now (c .before .before .before .before .before .before .before .before .args .kept)) (clockSize * c .before .before .before .before .before .before .before .before .args .f))
+    (clock-read (now (c .before .before .before .before .before .before .before .before .args .kept)) (clockSize * c .before .before .before .before .before .before .before .before .args .f))
 
 pub clock-at-spec : {M : Type 1} → statement M
 clock-at-spec =

@@ -1,10 +1,10 @@
 -- `checker::rule` meets its contract. Assumes nothing.
 use native.Mathlib.Omega.{arith}
-use Prim.Native.Nat.{_≤_}
 use borrow.Author.Needs.{needs}
 use Rattle.table.specs.Rows.{kinds}
+use Rattle.table.proofs.Entries.{no-kind}
 use Rattle.checker.specs.Private.Kept.{rule, ruleOf}
-use Rattle.checker.proofs.ByRow.{rule-combine, above-eleven, above-fifteen, rule-unknown}
+use Rattle.checker.proofs.ByRow.{rule-combine, rule-unknown}
 use Rattle.checker.proofs.rule.Statement.{statement}
 use Rattle.checker.proofs.rule.Tie as tie
 
@@ -146,9 +146,9 @@ returns-13 : tie.Need-returns-13
 returns-13 c =
     let a = c .before .before .before .args in
     let n = c .before .match .rest in
-    let low : 12 ≤ a .kind =
-    above-eleven (a .kind) (omega arith) (n .0 .0 .0 .0 .0 .0 .0 .0 .1) (n .0 .0 .0 .0 .0 .0 .0 .1) (n .0 .0 .0 .0 .0 .0 .1) (n .0 .0 .0 .0 .0 .1) (n .0 .0 .0 .0 .1) in
-    rw (rule-unknown _ (a .kind) (a .p) (a .q) (a .r) (above-fifteen (a .kind) low (n .0 .0 .0 .1) (n .0 .0 .1) (n .0 .1) (n .1)))
+    let other = no-kind (a .kind) (omega arith) (n .0 .0 .0 .0 .0 .0 .0 .0 .1) (n .0 .0 .0 .0 .0 .0 .0 .1) (n .0 .0 .0 .0 .0 .0 .1) (n .0 .0 .0 .0 .0 .1) (n .0 .0 .0 .0 .1)
+    (n .0 .0 .0 .1) (n .0 .0 .1) (n .0 .1) (n .1) in
+    rw (rule-unknown _ (a .kind) (a .p) (a .q) (a .r) other)
 
 pub rule-spec : {M : Type 1} → statement M
 rule-spec =

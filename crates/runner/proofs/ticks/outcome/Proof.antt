@@ -2,13 +2,15 @@
 use mathlib.Core.Path.{_≡_, refl, sym, subst}
 use Prim.Native.Nat.{ℕ, _*_}
 use mathlib.Core.List.{List}
+use native.Mathlib.Nat.{not-le-of-lt}
 use native.Mathlib.Omega.{arith}
 use borrow.Author.Needs.{needs}
 use Rattle.table.specs.Rows.{Row, add, subtract, less, equal, larger, kinds, kindAt, decode, maxFlows}
 use Rattle.table.specs.Tables.{FieldsFit}
+use Rattle.table.proofs.Entries.{no-kind}
 use Rattle.runner.specs.declared.operators.Outcome.{Outcome}
 use Rattle.runner.specs.Private.Carried.{cellsIn, heldSize, heldIn, stepOf, nextOf, Did}
-use Rattle.runner.proofs.Decoded.{two-or-more, seven, no-other}
+use Rattle.runner.proofs.Decoded.{two-or-more, seven}
 use Rattle.runner.proofs.Words.{unchanged}
 use Rattle.runner.proofs.ticks.outcome.Statement.{statement}
 use Rattle.runner.proofs.ticks.outcome.Tie as tie
@@ -249,9 +251,11 @@ returns-18 c =
 returns-19 : tie.Need-returns-19
 returns-19 c =
     let m = c .before .match .rest in
-    absurd
-    (no-other _ (c .before .before .before .before .before .before .before .pre .1) (c .if2 .left) (m .0 .0 .1) (m .0 .0 .0 .1) (m .0 .0 .0 .0 .1) (m .0 .0 .0 .0 .0 .1) (m .0 .0 .0 .0 .0 .0 .1)
-    (m .0 .0 .0 .0 .0 .0 .0 .1) (m .0 .0 .0 .0 .0 .0 .0 .0 .1) (m .0 .0 .0 .0 .0 .0 .0 .0 .0 .1) (m .0 .0 .0 .0 .0 .0 .0 .0 .0 .0 .1))
+    let start = c .before .before .before .before .before .before .before in
+    let other =
+    no-kind (start .args .kind) (c .if2 .left) (m .0 .0 .1) (m .0 .0 .0 .1) (m .0 .0 .0 .0 .1) (m .0 .0 .0 .0 .0 .1) (m .0 .0 .0 .0 .0 .0 .1)
+    (m .0 .0 .0 .0 .0 .0 .0 .1) (m .0 .0 .0 .0 .0 .0 .0 .0 .1) (m .0 .0 .0 .0 .0 .0 .0 .0 .0 .1) (m .0 .0 .0 .0 .0 .0 .0 .0 .0 .0 .1) in
+    absurd (not-le-of-lt (start .pre .1) other)
 
 pub outcome-spec : {M : Type 1} → statement M
 outcome-spec =
