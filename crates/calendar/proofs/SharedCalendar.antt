@@ -4,11 +4,11 @@ use mathlib.Core.Logic.{_↔_, inl, inr}
 use Prim.Native.Nat.{ℕ, _+_, _*_, _≤_, _<_}
 use native.Mathlib.Nat.{mul-le-mul-right}
 use native.Mathlib.Omega.{arith}
-use mathlib.Core.Bool.{Bool, true, false, not, _&&_, _||_, false≢true}
+use mathlib.Core.Bool.{Bool, true, false, not, _&&_, _||_}
 use mathlib.Core.List.{List, map}
 use lib.ListN.{length, drop}
 use lib.Dec.{leb, eqb}
-use borrow.Author.Tests.{leb-true, le-leb, eq-eqb}
+use borrow.Author.Tests.{leb-true, le-leb, eq-eqb, not-true}
 use Rattle.table.specs.Answers.{Refusal, Result, good, refused, unless, number, over, answer, noRoom, clocksDiffer, tooManyTicks}
 use Rattle.table.specs.Answers.{wrongLog, shortTrace}
 use Rattle.table.specs.Rows.{Row, tail, Kind, kinds, kindCount, decode}
@@ -138,13 +138,9 @@ row-free : (n x y z : ℕ) → n < kindCount → (13 ≤ n → n ≤ 15 → ⊥)
 unfolding free-kind
 row-free n x y z l h = go (try (leb 13 n && leb n 15)) (kind-test (free-kind x y z) (kinds-free x y z) n l)
   where
-    negated : (b : Bool) → not b ≡ true → b ≡ false
-    negated true e = absurd (false≢true e)
-    negated false e = refl
-
     go : Tried (leb 13 n && leb n 15) → ((leb 13 n && leb n 15) || not (conditional (decode n x y z))) ≡ true → FreeRow (decode n x y z)
     go (passed e) t = absurd (h (leb-true 13 n (and-left (leb 13 n) _ e)) (leb-true n 15 (and-right (leb 13 n) _ e)))
-    go (failed e) t = negated (conditional (decode n x y z)) (rw e at t)
+    go (failed e) t = not-true (conditional (decode n x y z)) (rw e at t)
 
 free-rows : (m : ℕ) (words : List ℕ) (rows : List Row) → tableOf m words ≡ good rows → Free m words → AllFree 0 rows
 free-rows m words rows e free = go (table-made m words rows e)
