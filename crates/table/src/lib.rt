@@ -132,6 +132,8 @@ pub const SHORT_TRACE: u32 = 33;
 
 pub const CLASH: u32 = 34;
 
+pub const SHORT_WINDOW: u32 = 35;
+
 // The bytes of the longest packed table.
 pub const LONGEST_TABLE: usize = (Cursor::LAST + 7) / 8;
 
