@@ -4,6 +4,7 @@ pub mod Flows
 pub mod Dues
 pub mod Keeping
 pub mod Accepted
+pub mod Unclashed
 pub mod Endings
 pub mod Judged
 pub mod Shown

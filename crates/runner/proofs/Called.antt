@@ -4,6 +4,7 @@ use Prim.Native.Nat.{ℕ, _*_, _≤_, _<_}
 use mathlib.Core.Bool.{_&&_}
 use mathlib.Core.List.{List, map}
 use lib.ListN.{length}
+use native.Mathlib.Omega.{arith}
 use lib.Dec.{leb, eqb}
 use borrow.Author.Tests.{le-leb, lt-leb, eq-eqb, ne-eqb}
 use Rattle.table.specs.declared.Answer.{Answer}
@@ -15,7 +16,9 @@ use Rattle.semantics.specs.Cells.{value}
 use Rattle.semantics.specs.Runs.{inputs, Ran, run, trace}
 use Rattle.semantics.specs.Answers.{maxTicks, running, ranAnswer, markByte}
 use Rattle.runner.specs.Called.{Called}
-use Rattle.runner.specs.Private.Ready.{rowsIn, Plain, RanTo}
+use Rattle.runner.specs.Private.Ready.{rowsIn, Plain}
+use Rattle.runner.specs.Private.Placed.{RanTo}
+use Rattle.runner.proofs.Placing.{placed-trace}
 
 -- what a call leaves, by what its run comes to
 called : (m : ℕ) (words log : List ℕ) (ticks : ℕ) (ms vs ms′ vs′ : List ℕ) (r : Answer) (x : Result Ran) → running m words log ticks (length ms) (length vs) ≡ x → r ≡ ranAnswer ticks x
@@ -52,12 +55,16 @@ module _ (m : ℕ) (words log : List ℕ) (ticks : ℕ) (ms vs : List ℕ) where
     short-values l e k n =
         turned-down shortTrace 0 (tests ∙ rw (le-leb ticks maxTicks l, eq-eqb (length log) (ticks * inputs (rowsIn m words)) e, le-leb (ticks * m) (length ms) k, lt-leb (ticks * m) (length vs) n))
 
-    pub ran : (ms′ vs′ : List ℕ) (r : Answer) → ticks ≤ maxTicks → length log ≡ ticks * inputs (rowsIn m words) → ticks * m ≤ length ms → ticks * m ≤ length vs
-        → RanTo (run (rowsIn m words) log ticks) ticks ms vs ms′ vs′ r → Called m words log ticks ms vs ms′ vs′ r
-    ran ms′ vs′ r l e j k R =
+    -- a run that has room for every tick
+    pub ran : (room k : ℕ) (ts ms′ vs′ ts′ : List ℕ) (r : Answer) → ticks ≤ maxTicks → ticks ≤ room → length log ≡ ticks * inputs (rowsIn m words) → ticks * m ≤ length ms
+        → ticks * m ≤ length vs → RanTo (run (rowsIn m words) log ticks) room m k ticks ms vs ts ms′ vs′ ts′ r → Called m words log ticks ms vs ms′ vs′ r
+    ran room k ts ms′ vs′ ts′ r l w e i j R =
         called m words log ticks ms vs ms′ vs′ r (good (run (rowsIn m words) log ticks))
-        (tests ∙ rw (le-leb ticks maxTicks l, eq-eqb (length log) (ticks * inputs (rowsIn m words)) e, le-leb (ticks * m) (length ms) j, le-leb (ticks * m) (length vs) k))
-        (R .answer) (R .wrote .marks) (R .wrote .values)
+        (tests
+        ∙ rw (le-leb ticks maxTicks l, eq-eqb (length log) (ticks * inputs (rowsIn m words)) e, le-leb (ticks * m) (length ms) i, le-leb (ticks * m) (length vs) j))
+        (R .answer)
+        (R .marks ∙ placed-trace room m markByte ms (run (rowsIn m words) log ticks) (R .regular) (omega (arith, R .few)))
+        (R .values ∙ placed-trace room m value vs (run (rowsIn m words) log ticks) (R .regular) (omega (arith, R .few)))
 
 pub accepted : (m : ℕ) (words : List ℕ) (r : Answer) → r ≡ plainAnswer m words → r .number ≡ 0 → Plain m words
 unfolding Plain rowsIn

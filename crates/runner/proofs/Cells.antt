@@ -3,7 +3,7 @@ use mathlib.Core.Path.{_≡_, refl, sym, _∙_, ap, subst, fun-ext}
 use Prim.Native.Nat.{ℕ, suc, _<_}
 use native.Mathlib.Numerals.{add-one}
 use native.Mathlib.Omega.{arith}
-use mathlib.Core.List.{List, [], _∷_, _++_, map}
+use mathlib.Core.List.{List, [], _∷_, _++_, map, map-append}
 use lib.ListN.{length, getD, set, drop, length-append, length-map, List·getD-map, List·getD-append, List·getD-eq-default}
 use lib.Seq.{drop-cons, set-at, append-snoc}
 use lib.Dec.{ltb}
@@ -15,10 +15,6 @@ use Rattle.semantics.specs.Runs.{cellIn}
 use Rattle.semantics.specs.Answers.{markByte}
 use Rattle.runner.specs.Private.Carried.{cellAt, cellsIn}
 use Rattle.runner.specs.Private.Ready.{Wrote}
-
-map-snoc : (g : Cell → ℕ) (xs : List Cell) (c : Cell) → map g (xs ++ (c ∷ [])) ≡ map g xs ++ (g c ∷ [])
-map-snoc g [] c = refl
-map-snoc g (x ∷ xs) c = ap (λ (l : List ℕ). g x ∷ l) (map-snoc g xs c)
 
 set-over : (xs ys : List ℕ) (f a : ℕ) → length xs ≡ f → f < length ys → set (over xs ys) f a ≡ over (xs ++ (a ∷ [])) ys
 set-over xs ys f a e h =
@@ -35,7 +31,7 @@ put-over g xs c ys zs zs′ f e h z z′ =
     z′
     ∙ ap (λ (l : List ℕ). set l f (g c)) z
     ∙ set-over (map g xs) ys f (g c) (length-map xs g ∙ e) h
-    ∙ ap (λ (l : List ℕ). over l ys) (sym (map-snoc g xs c))
+    ∙ ap (λ (l : List ℕ). over l ys) (sym (map-append g xs (c ∷ [])))
 
 pub cell-back : (c : Cell) → cellAt (markByte c) (value c) ≡ c
 cell-back absent = refl

@@ -10,7 +10,11 @@ pub mod Latching
 pub mod Ticking
 pub mod Lists
 pub mod Starting
+pub mod Placing
+pub mod Recalling
 pub mod Collecting
 pub mod Lent
+pub mod Tallying
 pub mod Running
 pub mod Called
+pub mod Lasting

@@ -1,27 +1,41 @@
-// The run: each flow's cell at each tick, or a clash.
+// The runs: each flow's cell at each tick, or a clash. A run has room for every tick, a long run for a window of them.
 ghost use mathlib.Core.Path.{_≡_};
 ghost use Prim.Native.Nat.{ℕ, _+_, _*_, _≤_, _<_, _^_};
 ghost use mathlib.Core.List.{List, []};
 ghost use lib.ListN.{length};
-ghost use Rattle.semantics.specs.Runs.{Ticks, inputs, cells, tickOf, Regular};
+ghost use Rattle.table.specs.Rows.{maxField};
+ghost use Rattle.semantics.specs.Runs.{Ticks, inputs, tickOf};
 ghost use Rattle.semantics.specs.Runs as runs;
+ghost use Rattle.semantics.specs.Windows.{tallySize, Tallied};
 ghost use Rattle.runner.specs.Called.{Called};
+ghost use Rattle.runner.specs.Long.{windowTicks, LongCalled};
 ghost use Rattle.runner.specs.Private.Carried.{stateSize};
-ghost use Rattle.runner.specs.Private.Ready.{rowsIn, Plain, AllCarry, Ready, Wrote, Listed, TickAt, RanTo};
+ghost use Rattle.runner.specs.Private.Ready.{rowsIn, Plain, Clocked, AllCarry, Ready, Listed};
+ghost use Rattle.runner.specs.Private.Placed.{Mask, firstCell, Fitting, Recalls, TickAt, RanTo};
 
 mod carried;
 mod operators;
 mod state;
+mod tally;
 mod ticks;
 
 use crate::state::STATE_SIZE;
+use crate::tally::TALLY_SIZE;
 use crate::ticks::Ticked;
 use table::Answer;
 use table::MAX_FLOWS;
 
 const MOST_TICKS: u32 = 65535;
 
-// The parts of the trace that start at the tick's own first cell are lent to the tick.
+const MOST_LONG_TICKS: u32 = 4194303;
+
+// The ticks of a long run's window, a power of 2.
+const WINDOW: u32 = 8192;
+
+// The mask that leaves every tick as it is: a run's that has room for all.
+const WHOLE: u32 = 4294967295;
+
+// The parts of marks and values that start at the tick's own first cell are lent to the tick.
 fn tick_at(
     first: usize,
     n: usize,
@@ -42,12 +56,10 @@ fn tick_at(
         × (Listed 7 n (now words) (now registers) count)
         × (t < 2 ^ 24)
         × (at < 2 ^ 40) ⌝ }
-    ensures { λ r. ⌜ ((past : Ticks) (ms vs : List ℕ)
+    ensures { λ r. ⌜ ((past : Ticks)
         → Ready (rowsIn n (now (words .entry))) past t at (now (state .entry))
-        → length (cells past) ≡ first
-        → Wrote (cells past) ms vs (now (marks .entry)) (now (values .entry))
-        → TickAt (rowsIn n (now (words .entry))) t past (tickOf (rowsIn n (now (words .entry))) (now (log .entry)) past) ms vs
-        (now (marks .exit)) (now (values .exit)) (now (state .exit)) r) ⌝ }
+        → TickAt first (rowsIn n (now (words .entry))) t past (tickOf (rowsIn n (now (words .entry))) (now (log .entry)) past)
+        (now (marks .entry)) (now (values .entry)) (now (marks .exit)) (now (values .exit)) (now (state .exit)) r) ⌝ }
 {
     ticks::tick(
         n,
@@ -63,16 +75,7 @@ fn tick_at(
     )
 }
 
-// A place in a trace of so many cells. It always lies in it: that it might not keeps the compiler from carrying the parts' first cells from
-// tick to tick as two more places of its own.
-fn within(place: usize, room: usize) -> usize
-    requires { ⌜ place ≤ room ⌝ }
-    ensures { λ r. ⌜ r ≡ place ⌝ }
-{
-    if room < place { 0 } else { place }
-}
-
-// One turn of the run: what tick t needs of earlier ticks is collected, and the tick is worked out.
+// One turn of a run: what tick t needs of earlier ticks is collected, and the tick is worked out at its place.
 fn turn(
     n: usize,
     words: &[u32],
@@ -83,28 +86,29 @@ fn turn(
     log: &[u32],
     inputs: usize,
     t: u32,
+    mask: u32,
     state: &mut [u32],
     marks: &mut [u8],
     values: &mut [u32],
 ) -> Ticked
     requires { ⌜ (Plain n (now words))
-        × (t * n + n ≤ length (now marks))
-        × (t * n + n ≤ length (now values))
+        × (Fitting (mask + 1) n (t + 1) (length (now marks)))
+        × (Fitting (mask + 1) n (t + 1) (length (now values)))
         × (length (now state) ≡ stateSize)
         × (Listed 7 n (now words) (now registers) «register_count»)
         × (Listed 10 n (now words) (now laters) «later_count»)
         × (t < 2 ^ 24)
-        × (inputs ≡ runs.inputs (rowsIn n (now words))) ⌝ }
-    ensures { λ r. ⌜ ((past : Ticks) (ms vs : List ℕ)
+        × (inputs ≡ runs.inputs (rowsIn n (now words)))
+        × (Mask mask) ⌝ }
+    ensures { λ r. ⌜ ((past : Ticks)
         → length past ≡ t
-        → Regular n past
-        → Wrote (cells past) ms vs (now (marks .entry)) (now (values .entry))
+        → Recalls (mask + 1) n t past (now (marks .entry)) (now (values .entry))
         → AllCarry (rowsIn n (now (words .entry))) t past (now (state .entry))
-        → TickAt (rowsIn n (now (words .entry))) t past (tickOf (rowsIn n (now (words .entry))) (now (log .entry)) past) ms vs
-        (now (marks .exit)) (now (values .exit)) (now (state .exit)) r) ⌝ }
+        → TickAt (firstCell (mask + 1) n t) (rowsIn n (now (words .entry))) t past (tickOf (rowsIn n (now (words .entry))) (now (log .entry)) past)
+        (now (marks .entry)) (now (values .entry)) (now (marks .exit)) (now (values .exit)) (now (state .exit)) r) ⌝ }
 {
-    state::collect(laters, later_count, n, words, t, marks, values, state);
-    let first = within((t as usize) * n, marks.len());
+    state::collect(laters, later_count, n, words, t, mask, marks, values, state);
+    let first = state::first_cell(t, mask, n);
     let at = (t as usize) * inputs;
     tick_at(
         first,
@@ -121,7 +125,7 @@ fn turn(
     )
 }
 
-// The ticks from 0 on.
+// The ticks from 0 on. The first k flows are tallied.
 fn run_ticks(
     n: usize,
     words: &[u32],
@@ -132,21 +136,29 @@ fn run_ticks(
     log: &[u32],
     inputs: usize,
     ticks: u32,
+    mask: u32,
+    k: usize,
     state: &mut [u32],
     marks: &mut [u8],
     values: &mut [u32],
+    tallies: &mut [u32],
 ) -> Answer
     requires { ⌜ (Plain n (now words))
-        × (ticks * n ≤ length (now marks))
-        × (ticks * n ≤ length (now values))
+        × (Fitting (mask + 1) n ticks (length (now marks)))
+        × (Fitting (mask + 1) n ticks (length (now values)))
         × (length (now state) ≡ stateSize)
         × (Listed 7 n (now words) (now registers) «register_count»)
         × (Listed 10 n (now words) (now laters) «later_count»)
         × (ticks < 2 ^ 24)
         × (inputs ≡ runs.inputs (rowsIn n (now words)))
-        × (AllCarry (rowsIn n (now words)) 0 [] (now state)) ⌝ }
-    ensures { λ r. ⌜ RanTo (runs.run (rowsIn n (now (words .entry))) (now (log .entry)) ticks) ticks (now (marks .entry)) (now (values .entry))
-        (now (marks .exit)) (now (values .exit)) r ⌝ }
+        × (AllCarry (rowsIn n (now words)) 0 [] (now state))
+        × (Mask mask)
+        × (maxField ≤ mask)
+        × (k ≤ n)
+        × (tallySize * k ≤ length (now tallies))
+        × (Tallied k [] (now tallies) (now tallies)) ⌝ }
+    ensures { λ r. ⌜ RanTo (runs.run (rowsIn n (now (words .entry))) (now (log .entry)) ticks) (mask + 1) n k ticks (now (marks .entry))
+        (now (values .entry)) (now (tallies .entry)) (now (marks .exit)) (now (values .exit)) (now (tallies .exit)) r ⌝ }
 {
     let mut t: u32 = 0;
     while t < ticks {
@@ -160,6 +172,7 @@ fn run_ticks(
             log,
             inputs,
             t,
+            mask,
             state,
             marks,
             values,
@@ -176,6 +189,7 @@ fn run_ticks(
             }
             Ticked::Full => {}
         }
+        tally::add(state::first_cell(t, mask, n), k, marks, values, tallies);
         t = next;
     }
     Answer::success(ticks)
@@ -188,19 +202,27 @@ fn run_from(
     log: &[u32],
     inputs: usize,
     ticks: u32,
+    mask: u32,
+    k: usize,
     state: &mut [u32],
     marks: &mut [u8],
     values: &mut [u32],
+    tallies: &mut [u32],
 ) -> Answer
     requires { ⌜ (Plain n (now words))
-        × (ticks * n ≤ length (now marks))
-        × (ticks * n ≤ length (now values))
+        × (Fitting (mask + 1) n ticks (length (now marks)))
+        × (Fitting (mask + 1) n ticks (length (now values)))
         × (length (now state) ≡ stateSize)
         × (ticks < 2 ^ 24)
         × (inputs ≡ runs.inputs (rowsIn n (now words)))
-        × (AllCarry (rowsIn n (now words)) 0 [] (now state)) ⌝ }
-    ensures { λ r. ⌜ RanTo (runs.run (rowsIn n (now (words .entry))) (now (log .entry)) ticks) ticks (now (marks .entry)) (now (values .entry))
-        (now (marks .exit)) (now (values .exit)) r ⌝ }
+        × (AllCarry (rowsIn n (now words)) 0 [] (now state))
+        × (Mask mask)
+        × (maxField ≤ mask)
+        × (k ≤ n)
+        × (tallySize * k ≤ length (now tallies))
+        × (Tallied k [] (now tallies) (now tallies)) ⌝ }
+    ensures { λ r. ⌜ RanTo (runs.run (rowsIn n (now (words .entry))) (now (log .entry)) ticks) (mask + 1) n k ticks (now (marks .entry))
+        (now (values .entry)) (now (tallies .entry)) (now (marks .exit)) (now (values .exit)) (now (tallies .exit)) r ⌝ }
 {
     let mut registers = [0u32; MAX_FLOWS as usize];
     let mut laters = [0u32; MAX_FLOWS as usize];
@@ -216,13 +238,16 @@ fn run_from(
         log,
         inputs,
         ticks,
+        mask,
+        k,
         state,
         marks,
         values,
+        tallies,
     )
 }
 
-// The run of a table that is not refused: 31, 32 and 33, and then its ticks.
+// The run of a table that is not refused: 31, 32 and 33, and then its ticks. No flow is tallied.
 fn run_plain(
     n: usize,
     words: &[u32],
@@ -250,7 +275,20 @@ fn run_plain(
     if values.len() < cells {
         return Answer::refusal(table::SHORT_TRACE, 0);
     }
-    run_from(n, words, log, inputs, ticks, &mut state, marks, values)
+    let mut none = [0u32; 1];
+    run_from(
+        n,
+        words,
+        log,
+        inputs,
+        ticks,
+        WHOLE,
+        0,
+        &mut state,
+        marks,
+        values,
+        &mut none,
+    )
 }
 
 // The run of a table of `count` rows over a log: each cell into marks and values, tick after tick.
@@ -268,6 +306,113 @@ pub fn run(
     let found = table::examine(count, words);
     if found.number == 0 {
         run_plain(count as usize, words, log, ticks, marks, values)
+    } else {
+        found
+    }
+}
+
+// The long run of a table over buffers of these lengths: the tallies begin at 0, and then its ticks.
+fn long_from(
+    n: usize,
+    words: &[u32],
+    log: &[u32],
+    inputs: usize,
+    ticks: u32,
+    state: &mut [u32],
+    marks: &mut [u8],
+    values: &mut [u32],
+    tallies: &mut [u32],
+) -> Answer
+    requires { ⌜ (Plain n (now words))
+        × (windowTicks * n ≤ length (now marks))
+        × (windowTicks * n ≤ length (now values))
+        × (length (now state) ≡ stateSize)
+        × (ticks < 2 ^ 24)
+        × (inputs ≡ runs.inputs (rowsIn n (now words)))
+        × (AllCarry (rowsIn n (now words)) 0 [] (now state))
+        × (tallySize * n ≤ length (now tallies)) ⌝ }
+    ensures { λ r. ⌜ RanTo (runs.run (rowsIn n (now (words .entry))) (now (log .entry)) ticks) windowTicks n n ticks (now (marks .entry))
+        (now (values .entry)) (now (tallies .entry)) (now (marks .exit)) (now (values .exit)) (now (tallies .exit)) r ⌝ }
+{
+    tally::clear(TALLY_SIZE * n, tallies);
+    run_from(
+        n,
+        words,
+        log,
+        inputs,
+        ticks,
+        WINDOW - 1,
+        n,
+        state,
+        marks,
+        values,
+        tallies,
+    )
+}
+
+// The long run of a table that the check accepts: 31, 32 and 35, and then its ticks.
+fn long_plain(
+    n: usize,
+    words: &[u32],
+    log: &[u32],
+    ticks: u32,
+    marks: &mut [u8],
+    values: &mut [u32],
+    tallies: &mut [u32],
+) -> Answer
+    requires { ⌜ (Plain n (now words)) × (Clocked n (now words)) ⌝ }
+    ensures { λ r. ⌜ LongCalled n (now (words .entry)) (now (log .entry)) ticks (now (marks .entry)) (now (values .entry))
+        (now (tallies .entry)) (now (marks .exit)) (now (values .exit)) (now (tallies .exit)) r ⌝ }
+{
+    if MOST_LONG_TICKS < ticks {
+        return Answer::refusal(table::TOO_MANY_TICKS, 0);
+    }
+    let mut state = [0u32; STATE_SIZE];
+    let inputs = state::start(n, words, &mut state) as usize;
+    if log.len() != (ticks as usize) * inputs {
+        return Answer::refusal(table::WRONG_LOG, 0);
+    }
+    let cells = (WINDOW as usize) * n;
+    if marks.len() < cells {
+        return Answer::refusal(table::SHORT_WINDOW, 0);
+    }
+    if values.len() < cells {
+        return Answer::refusal(table::SHORT_WINDOW, 0);
+    }
+    if tallies.len() < TALLY_SIZE * n {
+        return Answer::refusal(table::SHORT_WINDOW, 0);
+    }
+    long_from(
+        n,
+        words,
+        log,
+        inputs,
+        ticks,
+        &mut state,
+        marks,
+        values,
+        tallies,
+    )
+}
+
+// The long run of a table of `count` rows over a log, after the check: tick t at place t modulo the window's ticks in marks and values, and for
+// each flow in tallies how many values it had and its last one.
+pub fn long_run(
+    count: u32,
+    words: &[u32],
+    log: &[u32],
+    ticks: u32,
+    marks: &mut [u8],
+    values: &mut [u32],
+    tallies: &mut [u32],
+) -> Answer
+    ensures { λ r. ⌜ LongCalled count (now (words .entry)) (now (log .entry)) ticks (now (marks .entry)) (now (values .entry))
+        (now (tallies .entry)) (now (marks .exit)) (now (values .exit)) (now (tallies .exit)) r ⌝ }
+{
+    let mut clocks = [0u32; checker::CLOCKS];
+    let found = checker::check(count, words, &mut clocks);
+    if found.number == 0 {
+        long_plain(count as usize, words, log, ticks, marks, values, tallies)
     } else {
         found
     }

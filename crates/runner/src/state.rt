@@ -1,14 +1,15 @@
 // The words that the rows carry into tick 0, the rows of a kind, and what is collected of earlier ticks.
 ghost use mathlib.Core.Path.{_≡_};
-ghost use Prim.Native.Nat.{ℕ, _+_, _*_, _-_, _≤_, _<_, _^_};
+ghost use Prim.Native.Nat.{ℕ, _+_, _*_, _≤_, _<_, _^_};
 ghost use mathlib.Core.Bool.{cond};
 ghost use mathlib.Core.List.{List, []};
 ghost use lib.Dec.{eqb};
 ghost use lib.ListN.{length, getD, set, replicate};
 ghost use Rattle.table.specs.Rows.{maxFlows, kindCount, decode, rowSize};
-ghost use Rattle.semantics.specs.Runs.{Ticks, inputs, cells, Regular};
-ghost use Rattle.runner.specs.Private.Carried.{heldSize, stateSize, heldIn, startWord, startOf, Started, Fetched};
-ghost use Rattle.runner.specs.Private.Ready.{rowsIn, Plain, AllCarry, Ready, Wrote, Listed};
+ghost use Rattle.semantics.specs.Runs.{Ticks, inputs};
+ghost use Rattle.runner.specs.Private.Carried.{heldSize, stateSize, heldIn, startWord, startOf, Started};
+ghost use Rattle.runner.specs.Private.Ready.{rowsIn, Plain, AllCarry, Ready, Listed};
+ghost use Rattle.runner.specs.Private.Placed.{Mask, firstCell, Fitting, Recalls, Fetched};
 use crate::operators;
 use table::ROW_SIZE;
 
@@ -93,6 +94,14 @@ pub(crate) fn start(n: usize, words: &[u32], state: &mut [u32]) -> u32
     j
 }
 
+// The place of tick t's first cell: what the mask leaves of the tick, n cells a tick.
+pub(crate) fn first_cell(t: u32, mask: u32, n: usize) -> usize
+    requires { ⌜ (Mask mask) × (n ≤ maxFlows) ⌝ }
+    ensures { λ r. ⌜ r ≡ firstCell (mask + 1) n t ⌝ }
+{
+    ((t & mask) as usize) * n
+}
+
 // What a later row needs of an earlier tick.
 fn collect_row(
     n: usize,
@@ -100,6 +109,7 @@ fn collect_row(
     d: u32,
     f: usize,
     t: u32,
+    mask: u32,
     marks: &[u8],
     values: &[u32],
     state: &mut [u32],
@@ -107,14 +117,14 @@ fn collect_row(
     requires { ⌜ (n ≤ maxFlows)
         × (a < n)
         × (f < maxFlows)
-        × (t < 2 ^ 24)
-        × (t * n + n ≤ length (now marks))
-        × (t * n + n ≤ length (now values))
+        × (Mask mask)
+        × (Fitting (mask + 1) n (t + 1) (length (now marks)))
+        × (Fitting (mask + 1) n (t + 1) (length (now values)))
         × (length (now state) ≡ stateSize) ⌝ }
-    ensures { λ _. ⌜ Fetched n a d f t (now (marks .entry)) (now (values .entry)) (now (state .entry)) (now (state .exit)) ⌝ }
+    ensures { λ _. ⌜ Fetched (mask + 1) n a d f t (now (marks .entry)) (now (values .entry)) (now (state .entry)) (now (state .exit)) ⌝ }
 {
     if d <= t {
-        let place = ((t - d) as usize) * n + a;
+        let place = first_cell(t - d, mask, n) + a;
         state[HELD_SIZE * f] = marks[place] as u32;
         state[HELD_SIZE * f + 1] = values[place];
     } else {
@@ -129,21 +139,21 @@ pub(crate) fn collect(
     n: usize,
     words: &[u32],
     t: u32,
+    mask: u32,
     marks: &[u8],
     values: &[u32],
     state: &mut [u32],
 )
     requires { ⌜ (Plain n (now words))
-        × (t < 2 ^ 24)
-        × (t * n + n ≤ length (now marks))
-        × (t * n + n ≤ length (now values))
+        × (Mask mask)
+        × (Fitting (mask + 1) n (t + 1) (length (now marks)))
+        × (Fitting (mask + 1) n (t + 1) (length (now values)))
         × (length (now state) ≡ stateSize)
         × (Listed 10 n (now words) (now laters) count) ⌝ }
-    ensures { λ _. ⌜ ((past : Ticks) (ms vs : List ℕ) (at : ℕ)
+    ensures { λ _. ⌜ ((past : Ticks) (at : ℕ)
         → length past ≡ t
         → at ≡ t * inputs (rowsIn n (now (words .entry)))
-        → Regular n past
-        → Wrote (cells past) ms vs (now (marks .entry)) (now (values .entry))
+        → Recalls (mask + 1) n t past (now (marks .entry)) (now (values .entry))
         → AllCarry (rowsIn n (now (words .entry))) t past (now (state .entry))
         → Ready (rowsIn n (now (words .entry))) past t at (now (state .exit))) ⌝ }
 {
@@ -156,6 +166,7 @@ pub(crate) fn collect(
             words[ROW_SIZE * f + 2],
             f,
             t,
+            mask,
             marks,
             values,
             state,

@@ -29,7 +29,16 @@ part-tick-end-2 : tie.Need-part-tick-end-2
 part-tick-end-2 c = search needs
 
 tick-requires : tie.Need-tick-requires
-tick-requires c κs = (c .before .before .before .before .before .before .before .before .before .pre .0, omega (arith, part-length (c .before .before .before .before .before .before .before .before .before .args .first) (c .before .before .before .before .before .before .before .before .before .args .marks .now), c .before .before .before .before .before .before .before .before .before .pre .1), omega (arith, part-length (c .before .before .before .before .before .before .before .before .before .args .first) (c .before .before .before .before .before .before .before .before .before .args .values .now), c .before .before .before .before .before .before .before .before .before .pre .2), c .before .before .before .before .before .before .before .before .before .pre .3, c .before .before .before .before .before .before .before .before .before .pre .4, c .before .before .before .before .before .before .before .before .before .pre .5, c .before .before .before .before .before .before .before .before .before .pre .6)
+tick-requires c κs =
+    let s = c .before .before .before .before .before .before .before .before .before in (
+      s .pre .0,
+      omega (arith, part-length (s .args .first) (s .args .marks .now), s .pre .1),
+      omega (arith, part-length (s .args .first) (s .args .values .now), s .pre .2),
+      s .pre .3,
+      s .pre .4,
+      s .pre .5,
+      s .pre .6,
+    )
 
 same-length : tie.Need-same-length
 same-length c = search needs
@@ -41,7 +50,12 @@ same-length-3 : tie.Need-same-length-3
 same-length-3 c = search needs
 
 returns : tie.Need-returns
-returns c = λ past ms vs R e w. lent _ (c .before .before .before .before .before .before .before .before .before .before .before .before .before .before .before .before .args .t) (c .before .before .before .before .before .before .before .before .before .before .before .before .before .before .before .before .args .first) past (tickOf (rowsIn (c .before .before .before .before .before .before .before .before .before .before .before .before .before .before .before .before .args .n) (c .before .before .before .before .before .before .before .before .before .before .before .before .before .before .before .before .args .words .now)) (c .before .before .before .before .before .before .before .before .before .before .before .before .before .before .before .before .args .log .now) past) ms vs (c .before .before .before .before .before .before .before .before .before .before .before .before .before .before .before .before .args .marks .now) (c .before .before .before .before .before .before .before .before .before .before .before .before .before .before .before .before .args .values .now) _ _ _ _ e w (c .before .before .before .before .before .before .tick .ensures past R)
+returns c =
+    λ past R.
+    let s = c .before .before .before .before .before .before .before .before .before .before .before .before .before .before .before .before in
+    let rows = rowsIn (s .args .n) (s .args .words .now) in
+    lent rows (s .args .t) (s .args .first) past (tickOf rows (s .args .log .now) past) (s .args .marks .now) (s .args .values .now) _ _ _ _
+    (c .before .before .before .before .before .before .tick .ensures past R)
 
 pub tick-at-spec : {M : Type 1} → statement M
 tick-at-spec =

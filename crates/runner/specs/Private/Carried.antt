@@ -176,8 +176,3 @@ startOf row j h = held (startWord row) j (h .z)
 pub record Started (next : Held) (f : ℕ) (s s′ : List ℕ) : Type 0 where
   pub carried : heldIn s′ (heldSize * f) ≡ next
   pub others : (g : ℕ) → (g ≡ f → ⊥) → heldIn s′ (heldSize * g) ≡ heldIn s (heldSize * g)
-
--- row f's words have the cell of flow a at d ticks before tick t, absent where there is no such tick
-pub record Fetched (n a d f t : ℕ) (ms vs s s′ : List ℕ) : Type 0 where
-  pub cell : cellAt (heldIn s′ (heldSize * f) .x) (heldIn s′ (heldSize * f) .y) ≡ cond (leb d t) (cellAt (getD ms ((t - d) * n + a) 0) (getD vs ((t - d) * n + a) 0)) absent
-  pub others : (g : ℕ) → (g ≡ f → ⊥) → heldIn s′ (heldSize * g) ≡ heldIn s (heldSize * g)

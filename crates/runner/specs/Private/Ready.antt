@@ -3,21 +3,22 @@ use mathlib.Core.Path.{_≡_}
 use Prim.Native.Nat.{ℕ, suc, _+_, _*_, _-_, _%_, _≤_, _<_}
 use mathlib.Core.Bool.{true, false, cond}
 use mathlib.Core.Logic.{_⊎_}
-use mathlib.Core.List.{List, _∷_, _++_, map}
+use mathlib.Core.List.{List, _∷_, map}
 use mathlib.Core.Option.{Option, none, some}
 use lib.ListN.{length, getD, take}
 use lib.Dec.{eqb}
-use Rattle.table.specs.declared.Answer.{Answer}
 use Rattle.table.specs.Answers.{good, over}
 use Rattle.table.specs.Rows.{Row, input, constant, combine, register, faster, slower, later, head, tail, sample, merge, rowSize, onRegister}
 use Rattle.table.specs.Plain.{tableOf, rowsIn as accepted}
 use Rattle.table.specs.Tables.{rowAt}
+use Rattle.checker.specs.Clocks.{Clock}
+use Rattle.checker.specs.Rules.{clocksOf}
 use Rattle.runner.specs.declared.ticks.Ticked.{Ticked}
 use Rattle.runner.specs.declared.ticks.Ticked.the-variants as ticked
 use Rattle.semantics.specs.Cells.{Cell, absent, present, value, History, back, count, latest, onGrid}
 use Rattle.semantics.specs.Operators.{valueOr}
-use Rattle.semantics.specs.Runs.{Tick, Ticks, history, inputs, TickEnd, filled, stopped, Ran, cells, trace}
-use Rattle.semantics.specs.Answers.{markByte, ranAnswer}
+use Rattle.semantics.specs.Runs.{Tick, Ticks, history, inputs, TickEnd, filled, stopped}
+use Rattle.semantics.specs.Answers.{markByte}
 use Rattle.runner.specs.Private.Carried.{Held, heldIn, heldSize, cellAt}
 
 -- the rows of a table in plain form
@@ -26,6 +27,10 @@ rowsIn m words = accepted (tableOf m words)
 
 unfoldable pub Plain : ℕ → List ℕ → Type 0
 Plain m words = tableOf m words ≡ good (rowsIn m words)
+
+-- the check accepts it
+unfoldable pub Clocked : ℕ → List ℕ → Type 0
+Clocked m words = (ks : List Clock) × (clocksOf (rowsIn m words) ≡ good ks)
 
 -- x is the next tick, from t on, at phase p plus whole periods n
 pub record Due (n p t x : ℕ) : Type 0 where
@@ -124,14 +129,3 @@ pub record Listed (k n : ℕ) (words list : List ℕ) (count : ℕ) : Type 0 whe
   pub kind : (j : ℕ) → j < count → getD words (rowSize * getD list j 0) 0 ≡ k
   pub rising : (i j : ℕ) → i < j → j < count → getD list i 0 < getD list j 0
   pub all : (f : ℕ) → f < n → getD words (rowSize * f) 0 ≡ k → (j : ℕ) × (j < count) × (getD list j 0 ≡ f)
-
--- how a tick ends in the whole trace
-abbrev pub TickAt : List Row → ℕ → Ticks → TickEnd → List ℕ → List ℕ → List ℕ → List ℕ → List ℕ → Ticked → Type 0
-TickAt rows t past (filled now) ms vs ms′ vs′ s′ r =
-    (r ≡ ticked.Full) × Wrote (cells past ++ now) ms vs ms′ vs′ × (length now ≡ length rows) × AllCarry rows (suc t) (now ∷ past) s′
-TickAt rows t past (stopped f now) ms vs ms′ vs′ s′ r = (r ≡ ticked.Stopped f) × Wrote (cells past ++ now) ms vs ms′ vs′ × (f < length rows)
-
--- how the ticks end
-pub record RanTo (x : Ran) (ticks : ℕ) (ms vs ms′ vs′ : List ℕ) (r : Answer) : Type 0 where
-  pub answer : r ≡ ranAnswer ticks (good x)
-  pub wrote : Wrote (trace x) ms vs ms′ vs′

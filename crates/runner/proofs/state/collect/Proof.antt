@@ -1,11 +1,13 @@
 -- `collect` meets its contract. Assumes nothing.
 use Rattle.runner.proofs.Collecting.{Collecting, starts, goes-on, ends, operand-low}
 use Rattle.runner.proofs.Tabled.{plain-table}
-use Rattle.runner.specs.Private.Ready.{rowsIn, Wrote, AllCarry}
-use Rattle.semantics.specs.Runs.{Ticks, inputs, cells, Regular}
+use Rattle.runner.specs.Private.Carried.{stateSize}
+use Rattle.runner.specs.Private.Ready.{rowsIn, AllCarry}
+use Rattle.runner.specs.Private.Placed.{Recalls}
+use Rattle.semantics.specs.Runs.{Ticks, inputs}
+use Rattle.table.specs.Rows.{maxFlows, rowSize}
 use Rattle.table.proofs.Tables.{Table}
 use lib.ListN.{length, getD}
-use mathlib.Core.List.{List}
 use Prim.Native.Nat.{ℕ, _+_, _*_, _-_, _≤_, _<_}
 use mathlib.Core.Path.{_≡_, sym, _∙_}
 use native.Mathlib.Omega.{arith}
@@ -13,27 +15,51 @@ use Rattle.runner.proofs.state.collect.Statement.{statement}
 use Rattle.runner.proofs.state.collect.Tie as tie
 
 abbrev Inv-loop : tie.InvT-loop
-Inv-loop laters count n words t marks values state₀ j₀ state j =
-    (j ≤ count) × (length state ≡ 256) × ((past : Ticks) (ms vs : List ℕ) (at : ℕ) → length past ≡ t → at ≡ t * inputs (rowsIn n words) → Regular n past → Wrote (cells past) ms vs marks values → AllCarry (rowsIn n words) t past state₀ → Collecting n laters (rowsIn n words) past state₀ state j)
+Inv-loop laters count n words t mask marks values state₀ j₀ state j =
+    (j ≤ count)
+    × (length state ≡ stateSize)
+    × ((past : Ticks) (at : ℕ) → length past ≡ t → at ≡ t * inputs (rowsIn n words) → Recalls (mask + 1) n t past marks values → AllCarry (rowsIn n words) t past state₀
+    → Collecting n laters (rowsIn n words) past state₀ state j)
 
 abbrev μ-loop : tie.MeasureT-loop
-μ-loop laters count n words t marks values state₀ j₀ state j = count - j
+μ-loop laters count n words t mask marks values state₀ j₀ state j = count - j
 
 table-at : (c : tie.Start Inv-loop μ-loop) → Table (c .args .n) (c .args .words .now) (rowsIn (c .args .n) (c .args .words .now))
 table-at c = plain-table (c .args .n) (c .args .words .now) (c .pre .0)
 
 -- the next later row's number and operand are low
-low : (c : tie.In-loop Inv-loop μ-loop) → (let s = c .before .before .before .before .before .before .before in let f = getD (s .args .laters .now) (c .before .loop .j) 0 in (f < s .args .n) × (s .args .n ≤ 64) × (length (s .args .words .now) ≡ 4 * s .args .n) × (getD (s .args .words .now) (4 * f + 1) 0 < s .args .n) × (s .args .count ≤ length (s .args .laters .now)))
+low : (c : tie.In-loop Inv-loop μ-loop)
+    → (let s = c .before .before .before .before .before .before .before in
+    let f = getD (s .args .laters .now) (c .before .loop .j) 0 in
+    (f < s .args .n)
+    × (s .args .n ≤ maxFlows)
+    × (length (s .args .words .now) ≡ rowSize * s .args .n)
+    × (getD (s .args .words .now) (rowSize * f + 1) 0 < s .args .n)
+    × (s .args .count ≤ length (s .args .laters .now)))
 low c =
     let s = c .before .before .before .before .before .before .before in
     let T = table-at s in
-    (s .pre .5 .within (c .before .loop .j) (c .loop-test .taken), T .few, T .words-size, operand-low (s .args .n) (s .args .count) (s .args .words .now) (s .args .laters .now) _ T (s .pre .5) (c .before .loop .j) (c .loop-test .taken), s .pre .5 .room)
+    let j = c .before .loop .j in
+    let h = c .loop-test .taken in (
+      s .pre .5 .within j h,
+      T .few,
+      T .words-size,
+      operand-low (s .args .n) (s .args .count) (s .args .words .now) (s .args .laters .now) _ T (s .pre .5) j h,
+      s .pre .5 .room,
+    )
 
 loop-holds : tie.Need-loop-holds Inv-loop μ-loop
-loop-holds c = (omega arith, c .before .before .before .before .before .pre .4, λ past ms vs at z p r w C. starts (c .before .before .before .before .before .args .n) (c .before .before .before .before .before .args .count) (c .before .before .before .before .before .args .words .now) (c .before .before .before .before .before .args .laters .now) _ (table-at (c .before .before .before .before .before)) (c .before .before .before .before .before .pre .5) past ms vs (c .before .before .before .before .before .args .marks .now) (c .before .before .before .before .before .args .values .now) (c .before .before .before .before .before .args .state .now) (c .before .before .before .before .before .args .t) at z p r w C)
+loop-holds c =
+    let s = c .before .before .before .before .before in (
+      omega arith,
+      s .pre .4,
+      λ past at z p r C.
+          starts (s .args .n) (s .args .count) (s .args .words .now) (s .args .laters .now) _ (table-at s) (s .pre .5) (s .args .mask + 1) past (s .args .marks .now)
+          (s .args .values .now) (s .args .state .now) (s .args .t) at z p r C,
+    )
 
 mul-f : tie.Need-mul-f Inv-loop μ-loop
-mul-f c = omega (arith, low (c), c .loop-test .taken)
+mul-f c = omega (arith, low c, c .loop-test .taken)
 
 shared-slice-read-f : tie.Need-shared-slice-read-f Inv-loop μ-loop
 shared-slice-read-f c = omega (arith, low (c .before), c .before .loop-test .taken)
@@ -69,7 +95,10 @@ shared-slice-read-collect-row-2 : tie.Need-shared-slice-read-collect-row-2 Inv-l
 shared-slice-read-collect-row-2 c = omega (arith, low (c .before .before .before), c .before .before .before .loop-test .taken)
 
 collect-row-requires : tie.Need-collect-row-requires Inv-loop μ-loop
-collect-row-requires c κs = let l = low (c .before .before .before .before) in (l .1, l .3, omega arith, c .before .before .before .before .before .before .before .before .before .before .before .pre .1, c .before .before .before .before .before .before .before .before .before .before .before .pre .2, c .before .before .before .before .before .before .before .before .before .before .before .pre .3, c .before .before .before .before .before .loop .inv .1)
+collect-row-requires c κs =
+    let s = c .before .before .before .before .before .before .before .before .before .before .before in
+    let l = low (c .before .before .before .before) in
+    (l .1, l .3, omega arith, s .pre .1, s .pre .2, s .pre .3, c .before .before .before .before .before .loop .inv .1)
 
 add-j : tie.Need-add-j Inv-loop μ-loop
 add-j c = omega (arith, low (c .before .before .before .before .before .before .before), c .before .before .before .before .before .before .before .loop-test .taken)
@@ -78,13 +107,28 @@ loop-less : tie.Need-loop-less Inv-loop μ-loop
 loop-less c = omega (arith, low (c .before .before .before .before .before .before .before), c .before .before .before .before .before .before .before .loop-test .taken)
 
 loop-again : tie.Need-loop-again Inv-loop μ-loop
-loop-again c = (omega (arith, c .before .before .before .before .before .before .before .loop-test .taken), omega (arith, c .before .before .collect-row .kept .1 .1 .1 .1 .1 .1 .1 .0, c .before .before .before .before .before .before .before .before .loop .inv .1), λ past ms vs at z p r w C. goes-on (c .before .before .before .before .before .before .before .before .before .before .before .before .before .before .args .n) (c .before .before .before .before .before .before .before .before .before .before .before .before .before .before .args .count) (c .before .before .before .before .before .before .before .before .before .before .before .before .before .before .args .words .now) (c .before .before .before .before .before .before .before .before .before .before .before .before .before .before .args .laters .now) _ (table-at (c .before .before .before .before .before .before .before .before .before .before .before .before .before .before)) (c .before .before .before .before .before .before .before .before .before .before .before .before .before .before .pre .5) past ms vs (c .before .before .before .before .before .before .before .before .before .before .before .before .before .before .args .marks .now) (c .before .before .before .before .before .before .before .before .before .before .before .before .before .before .args .values .now) (c .before .before .before .before .before .before .before .before .before .before .before .before .before .before .args .state .now) (c .before .before .before .before .before .before .before .before .before .before .before .before .before .before .args .t) at z p r w C (c .before .before .before .before .before .before .before .before .loop .state) (c .before .before .before .before .before .before .before .before .loop .j) (c .before .before .before .before .before .before .before .before .loop .inv .2 past ms vs at z p r w C) (c .before .before .before .before .before .before .before .loop-test .taken) _ (c .before .before .collect-row .ensures))
+loop-again c =
+    let s = c .before .before .before .before .before .before .before .before .before .before .before .before .before .before in
+    let l = c .before .before .before .before .before .before .before .before .loop in
+    let h = c .before .before .before .before .before .before .before .loop-test .taken in
+    let row = c .before .before .collect-row in (
+      omega (arith, h),
+      omega (arith, row .kept .1 .1 .1 .1 .1 .1 .1 .1 .0, l .inv .1),
+      λ past at z p r C.
+          goes-on (s .args .n) (s .args .count) (s .args .words .now) (s .args .laters .now) _ (table-at s) (s .pre .5) (s .args .mask + 1) past (s .args .marks .now)
+          (s .args .values .now) (s .args .state .now) (s .args .t) at z p r C (l .state) (l .j) (l .inv .2 past at z p r C) h _ (row .ensures),
+    )
 
 same-length : tie.Need-same-length Inv-loop μ-loop
 same-length c = c .before .loop .inv .1 ∙ sym (c .before .before .before .before .before .before .before .pre .4)
 
 returns : tie.Need-returns Inv-loop μ-loop
-returns c = λ past ms vs at z p r w C. ends (c .before .before .before .before .before .before .before .args .n) (c .before .before .before .before .before .before .before .args .count) (c .before .before .before .before .before .before .before .args .words .now) (c .before .before .before .before .before .before .before .args .laters .now) _ (table-at (c .before .before .before .before .before .before .before)) (c .before .before .before .before .before .before .before .pre .5) past ms vs (c .before .before .before .before .before .before .before .args .marks .now) (c .before .before .before .before .before .before .before .args .values .now) (c .before .before .before .before .before .before .before .args .state .now) (c .before .before .before .before .before .before .before .args .t) at z p r w C (c .before .loop .state) (c .before .loop .j) (c .before .loop .inv .2 past ms vs at z p r w C) (c .loop-test .left) (c .before .loop .inv .0)
+returns c =
+    λ past at z p r C.
+    let s = c .before .before .before .before .before .before .before in
+    let l = c .before .loop in
+    ends (s .args .n) (s .args .count) (s .args .words .now) (s .args .laters .now) _ (table-at s) (s .pre .5) (s .args .mask + 1) past (s .args .marks .now)
+    (s .args .values .now) (s .args .state .now) (s .args .t) at z p r C (l .state) (l .j) (l .inv .2 past at z p r C) (c .loop-test .left) (l .inv .0)
 
 pub collect-spec : {M : Type 1} → statement M
 collect-spec =

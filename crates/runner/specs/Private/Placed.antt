@@ -1,0 +1,96 @@
+-- Marks and values in which each tick stands at its own place, and the tallies. For the private functions alone.
+use mathlib.Core.Path.{_≡_}
+use Prim.Native.Nat.{ℕ, suc, _+_, _*_, _-_, _%_, _^_, _≤_, _<_}
+use mathlib.Core.Bool.{cond}
+use mathlib.Core.List.{List, [], _∷_, _++_, map}
+use lib.ListN.{length, getD, take, drop}
+use lib.Dec.{eqb, leb}
+use Rattle.table.specs.declared.Answer.{Answer}
+use Rattle.table.specs.Answers.{good, over}
+use Rattle.table.specs.Rows.{maxField, Row}
+use Rattle.runner.specs.declared.ticks.Ticked.{Ticked}
+use Rattle.runner.specs.declared.ticks.Ticked.the-variants as ticked
+use Rattle.semantics.specs.Cells.{Cell, absent, value, back}
+use Rattle.semantics.specs.Runs.{Ticks, history, TickEnd, filled, stopped, Ran, done, clashed, Regular}
+use Rattle.semantics.specs.Answers.{markByte, ranAnswer}
+use Rattle.semantics.specs.Windows.{workedOut, tallySize, Tallied}
+use Rattle.runner.specs.Private.Carried.{cellAt, heldIn, heldSize}
+use Rattle.runner.specs.Private.Ready.{AllCarry}
+
+-- a mask that leaves of a tick its remainder by a power of 2
+pub record Mask (mask : ℕ) : Type 0 where
+  pub width : ℕ
+  pub is : mask + 1 ≡ 2 ^ width
+
+-- the place of a tick's first cell: tick t stands at t modulo room
+abbrev pub firstCell : ℕ → ℕ → ℕ → ℕ
+firstCell room n t = t % room * n
+
+-- so many ticks have their places in a list of a length
+pub record Fitting (room n ticks size : ℕ) : Type 0 where
+  pub place : (t : ℕ) → t < ticks → firstCell room n t + n ≤ size
+
+-- xs from place i on, and the rest as it was
+abbrev pub splice : ℕ → List ℕ → List ℕ → List ℕ
+splice i xs old = take i old ++ over xs (drop i old)
+
+-- marks or values as they are filled, tick after tick
+unfoldable pub placed : ℕ → ℕ → (Cell → ℕ) → List ℕ → Ticks → List ℕ
+placed room n g old [] = old
+placed room n g old (now ∷ past) = splice (firstCell room n (length past)) (map g now) (placed room n g old past)
+
+-- marks and values have the cells of earlier ticks as far back as a later row looks
+pub record Recalls (room n t : ℕ) (past : Ticks) (ms vs : List ℕ) : Type 0 where
+  pub cell : (a d : ℕ) → a < n → 0 < d → d ≤ t → d ≤ maxField
+      → cellAt (getD ms (firstCell room n (t - d) + a) 0) (getD vs (firstCell room n (t - d) + a) 0) ≡ back (history past a) (d - 1)
+
+-- row f's words have the cell of flow a at d ticks before tick t, absent where there is no such tick
+pub record Fetched (room n a d f t : ℕ) (ms vs s s′ : List ℕ) : Type 0 where
+  pub cell : cellAt (heldIn s′ (heldSize * f) .x) (heldIn s′ (heldSize * f) .y)
+      ≡ cond (leb d t) (cellAt (getD ms (firstCell room n (t - d) + a) 0) (getD vs (firstCell room n (t - d) + a) 0)) absent
+  pub others : (g : ℕ) → (g ≡ f → ⊥) → heldIn s′ (heldSize * g) ≡ heldIn s (heldSize * g)
+
+-- cells were written from a place on, and nothing else
+pub record WroteAt (first : ℕ) (written : List Cell) (ms vs ms′ vs′ : List ℕ) : Type 0 where
+  pub marks : ms′ ≡ splice first (map markByte written) ms
+  pub values : vs′ ≡ splice first (map value written) vs
+
+-- how a tick ends in the whole of marks and values, its first cell at a place
+abbrev pub TickAt : ℕ → List Row → ℕ → Ticks → TickEnd → List ℕ → List ℕ → List ℕ → List ℕ → List ℕ → Ticked → Type 0
+TickAt first rows t past (filled now) ms vs ms′ vs′ s′ r =
+    (r ≡ ticked.Full) × WroteAt first now ms vs ms′ vs′ × (length now ≡ length rows) × AllCarry rows (suc t) (now ∷ past) s′
+TickAt first rows t past (stopped f now) ms vs ms′ vs′ s′ r = (r ≡ ticked.Stopped f) × WroteAt first now ms vs ms′ vs′ × (f < length rows)
+
+-- words from the first on are 0
+pub record Cleared (n : ℕ) (s s′ : List ℕ) : Type 0 where
+  pub zeros : (i : ℕ) → i < n → getD s′ i 0 ≡ 0
+  pub rest : (i : ℕ) → n ≤ i → getD s′ i 0 ≡ getD s i 0
+
+-- each of k counts is low enough to grow
+abbrev pub countLimit : ℕ
+countLimit = 2 ^ 31
+
+pub record Low (k : ℕ) (ts : List ℕ) : Type 0 where
+  pub count : (f : ℕ) → f < k → getD ts (tallySize * f) 0 < countLimit
+
+-- the cells of k flows from a place on are tallied
+pub record Counted (first k : ℕ) (ms vs ts ts′ : List ℕ) : Type 0 where
+  pub counts : (f : ℕ) → f < k
+      → getD ts′ (tallySize * f) 0 ≡ cond (eqb (getD ms (first + f) 0) 0) (getD ts (tallySize * f) 0) (getD ts (tallySize * f) 0 + 1)
+  pub lasts : (f : ℕ) → f < k
+      → getD ts′ (tallySize * f + 1) 0 ≡ cond (eqb (getD ms (first + f) 0) 0) (getD ts (tallySize * f + 1) 0) (getD vs (first + f) 0)
+  pub rest : (i : ℕ) → tallySize * k ≤ i → getD ts′ i 0 ≡ getD ts i 0
+
+-- the ticks of a run that were filled
+abbrev pub filledTicks : Ran → Ticks
+filledTicks (done past) = past
+filledTicks (clashed t f now past) = past
+
+-- How the ticks end, where k flows are tallied. A tick that clashed is not tallied: only a run to its end has its tallies.
+pub record RanTo (x : Ran) (room n k ticks : ℕ) (ms vs ts ms′ vs′ ts′ : List ℕ) (r : Answer) : Type 0 where
+  pub answer : r ≡ ranAnswer ticks (good x)
+  pub regular : Regular n (filledTicks x)
+  pub few : length (workedOut x) ≤ ticks
+  pub marks : ms′ ≡ placed room n markByte ms (workedOut x)
+  pub values : vs′ ≡ placed room n value vs (workedOut x)
+  pub tallied : (past : Ticks) → x ≡ done past → Tallied k past ts ts′
