@@ -5,6 +5,7 @@ ghost use lib.ListN.{length};
 ghost use Rattle.table.specs.Packed.{readAnswer, wordsAfter, writeAnswer, bytesAfter};
 ghost use Rattle.checker.specs.Answers.{checkAnswer, clocksAfter};
 ghost use Rattle.semantics.specs.Answers.{runAnswer, marksAfter, valuesAfter};
+ghost use Rattle.runner.specs.Long.{lasting, longAnswer, LongLeft};
 ghost use Rattle.lister.specs.Listing.{listingAnswer, textAfter};
 ghost use Rattle.exports.specs.Parts.{Given};
 use table::Answer;
@@ -91,6 +92,34 @@ pub extern "C" fn baarqidho_run(
     ensures valued { λ r. ⌜ now (values .exit) ≡ valuesAfter flows (now (words .entry)) (now (log .entry)) ticks (now (marks .entry)) (now (values .entry)) ⌝ }
 {
     let answer = runner::run(flows, words, log, ticks, marks, values);
+    give(answer, flow, tick, count)
+}
+
+// Checks a table in plain form and runs it over a log for many ticks: the count of ticks, a mark and a value a cell of the window, and two words
+// a flow.
+#[no_mangle]
+pub extern "C" fn baarqidho_long_run(
+    flows: u32,
+    words: &[u32],
+    log: &[u32],
+    ticks: u32,
+    marks: &mut [u8],
+    values: &mut [u32],
+    tallies: &mut [u32],
+    flow: &mut u32,
+    tick: &mut u32,
+    count: &mut u32,
+) -> u32
+    ensures answered { λ r. ⌜ Given
+        (longAnswer flows (now (words .entry)) (now (log .entry)) ticks (length (now (marks .entry))) (length (now (values .entry)))
+        (length (now (tallies .entry))))
+        r (now (flow .exit)) (now (tick .exit)) (now (count .exit)) ⌝ }
+    ensures left { λ r. ⌜ LongLeft flows
+        (lasting flows (now (words .entry)) (now (log .entry)) ticks (length (now (marks .entry))) (length (now (values .entry)))
+        (length (now (tallies .entry))))
+        (now (marks .entry)) (now (values .entry)) (now (tallies .entry)) (now (marks .exit)) (now (values .exit)) (now (tallies .exit)) ⌝ }
+{
+    let answer = runner::long_run(flows, words, log, ticks, marks, values, tallies);
     give(answer, flow, tick, count)
 }
 
