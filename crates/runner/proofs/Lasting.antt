@@ -1,106 +1,100 @@
 -- What a long run promises, refusal by refusal. Assumes nothing.
 use mathlib.Core.Path.{_≡_, refl, sym, _∙_, ap, subst}
-use Prim.Native.Nat.{ℕ, _*_, _≤_, _<_}
+use Prim.Native.Nat.{ℕ, _*_, _≤_}
 use native.Mathlib.Omega.{arith}
-use mathlib.Core.Bool.{false, _&&_}
+use mathlib.Core.Bool.{_&&_}
 use mathlib.Core.List.{List}
 use lib.ListN.{length}
 use lib.Dec.{leb, eqb}
-use borrow.Author.Tests.{le-leb, lt-leb, eq-eqb, ne-eqb}
+use borrow.Author.Tests.{leb-true}
 use Rattle.table.specs.declared.Answer.{Answer}
-use Rattle.table.specs.Answers.{Refusal, tooManyTicks, wrongLog, shortWindow, Result, good, refused, unless, then, refusal, answer}
+use Rattle.table.specs.Answers.{Refusal, tooManyTicks, wrongLog, shortWindow, Result, good, refused, unless, then, answer}
 use Rattle.table.specs.Rows.{Row, maxFlows}
 use Rattle.table.specs.Plain.{tableOf, rowsIn as goodRows}
 use Rattle.table.proofs.AnswerLaws.{answer-zero, answer-other}
-use Rattle.table.proofs.Tests.{not-good}
+use Rattle.table.proofs.Tests.{and-left, and-right, not-good, good-inj, unless-good}
 use Rattle.table.proofs.Tables.{AllFit, table-made}
 use Rattle.checker.specs.Clocks.{Clock}
 use Rattle.checker.specs.Rules.{clocksOf}
 use Rattle.checker.specs.Answers.{clockSize, checking, checkAnswer}
 use Rattle.checker.proofs.Checks.{check-table, check-clocks, rows-good}
-use Rattle.semantics.specs.Cells.{value}
-use Rattle.semantics.specs.Runs.{Ticks, inputs, Ran, done, run}
+use Rattle.semantics.specs.Cells.{Cell, absent, value}
+use Rattle.semantics.specs.Runs.{Ticks, inputs, Ran, done, run, Regular}
 use Rattle.semantics.specs.Answers.{ranAnswer, markByte}
-use Rattle.semantics.specs.Windows.{tallySize}
+use Rattle.semantics.specs.Windows.{Windowed, tallySize}
 use Rattle.calendar.proofs.Unclashed.{unclashed}
 use Rattle.runner.specs.Long.{windowTicks, maxLongTicks, lasting, LongLeft, LongCalled}
 use Rattle.runner.specs.Private.Ready.{rowsIn, Plain, Clocked}
-use Rattle.runner.specs.Private.Placed.{RanTo}
+use Rattle.runner.specs.Private.Placed.{placed, RanTo, testing, Replayed}
 use Rattle.runner.proofs.Tabled.{plain-table}
 use Rattle.runner.proofs.Placing.{windowed, window-fits}
 
-module _ (m : ℕ) (words log : List ℕ) (ticks : ℕ) (ms vs ts : List ℕ) where
-  -- what a call leaves, by what its run comes to
-  called : (ms′ vs′ ts′ : List ℕ) (r : Answer) (x : Result Ran) → lasting m words log ticks (length ms) (length vs) (length ts) ≡ x → r ≡ ranAnswer ticks x
-      → LongLeft m x ms vs ts ms′ vs′ ts′ → LongCalled m words log ticks ms vs ts ms′ vs′ ts′ r
-  called ms′ vs′ ts′ r x e a l =
-      record { answer = a ∙ ap (ranAnswer ticks) (sym e); left = subst (λ (y : Result Ran). LongLeft m y ms vs ts ms′ vs′ ts′) (sym e) l }
+-- what a call leaves, by what its run comes to
+called : (m : ℕ) (words log : List ℕ) (ticks : ℕ) (ms vs ts ms′ vs′ ts′ : List ℕ) (r : Answer) (x : Result Ran)
+    → lasting m words log ticks (length ms) (length vs) (length ts) ≡ x → r ≡ ranAnswer ticks x → LongLeft m x ms vs ts ms′ vs′ ts′
+    → LongCalled m words log ticks ms vs ts ms′ vs′ ts′ r
+called m words log ticks ms vs ts ms′ vs′ ts′ r x e a l =
+    record { answer = a ∙ ap (ranAnswer ticks) (sym e); left = subst (λ (y : Result Ran). LongLeft m y ms vs ts ms′ vs′ ts′) (sym e) l }
 
-  -- a run that is refused leaves all
-  turned-down : (why : Refusal) (f : ℕ) → lasting m words log ticks (length ms) (length vs) (length ts) ≡ refused why f
-      → LongCalled m words log ticks ms vs ts ms vs ts (refusal why f)
-  turned-down why f e = called ms vs ts (refusal why f) (refused why f) e refl (refl, refl, refl)
+-- an accepted plan does not clash
+finished : (m : ℕ) (words log : List ℕ) (ticks : ℕ) → Plain m words → Clocked m words → (past : Ticks) × (run (rowsIn m words) log ticks ≡ done past)
+unfolding Clocked
+finished m words log ticks P K =
+    let T = plain-table m words P in
+    unclashed (rowsIn m words) (K .0) (subst (λ (k : ℕ). AllFit k 0 (rowsIn m words)) (sym (T .size)) (T .fits)) (K .1) log ticks
 
-  module _ (P : Plain m words) (K : Clocked m words) where
-    -- the tests after the check's
-    tests : lasting m words log ticks (length ms) (length vs) (length ts)
-        ≡ unless (leb ticks maxLongTicks) tooManyTicks 0
-        (unless (eqb (length log) (ticks * inputs (rowsIn m words))) wrongLog 0
-        (unless (leb (windowTicks * m) (length ms) && leb (windowTicks * m) (length vs) && leb (tallySize * m) (length ts)) shortWindow 0
-        (good (run (rowsIn m words) log ticks))))
-    unfolding lasting Plain Clocked
-    tests = rw (P, K .1)
+-- a run into a window: what it leaves are window and tallies of a run to its end
+module _ (m : ℕ) (words log : List ℕ) (ticks : ℕ) (ms vs ts ms′ vs′ ts′ : List ℕ) (r : Answer) (P : Plain m words) (K : Clocked m words) where
+  tests : lasting m words log ticks (length ms) (length vs) (length ts)
+      ≡ testing (rowsIn m words) log ticks maxLongTicks (windowTicks * m) m shortWindow (length ms) (length vs) (length ts)
+  unfolding lasting Plain Clocked testing
+  tests = rw (P, K .1)
 
-    pub too-many : maxLongTicks < ticks → LongCalled m words log ticks ms vs ts ms vs ts (refusal tooManyTicks 0)
-    too-many l = turned-down tooManyTicks 0 (tests ∙ rw (lt-leb ticks maxLongTicks l))
+  -- a run that is not refused comes to its end, and has room for its window
+  granted : (x : Ran) → testing (rowsIn m words) log ticks maxLongTicks (windowTicks * m) m shortWindow (length ms) (length vs) (length ts) ≡ good x
+      → (x ≡ done (finished m words log ticks P K .0)) × (windowTicks * m ≤ length ms) × (windowTicks * m ≤ length vs)
+  unfolding testing
+  granted x e =
+      let in-marks = leb (windowTicks * m) (length ms) in
+      let in-values = leb (windowTicks * m) (length vs) in
+      let in-tallies = leb (tallySize * m) (length ts) in
+      let a = unless-good (leb ticks maxLongTicks) tooManyTicks 0 _ x e in
+      let b = unless-good (eqb (length log) (ticks * inputs (rowsIn m words))) wrongLog 0 _ x (a .1) in
+      let c = unless-good (in-marks && in-values && in-tallies) shortWindow 0 _ x (b .1) in
+      let window = and-left (in-marks && in-values) in-tallies (c .0) in (
+        sym (good-inj (c .1)) ∙ finished m words log ticks P K .1,
+        leb-true (windowTicks * m) (length ms) (and-left in-marks in-values window),
+        leb-true (windowTicks * m) (length vs) (and-right in-marks in-values window),
+      )
 
-    module _ (few : ticks ≤ maxLongTicks) where
-      pub wrong-log : (length log ≡ ticks * inputs (rowsIn m words) → ⊥) → LongCalled m words log ticks ms vs ts ms vs ts (refusal wrongLog 0)
-      wrong-log n = turned-down wrongLog 0 (tests ∙ rw (le-leb ticks maxLongTicks few, ne-eqb (length log) (ticks * inputs (rowsIn m words)) n))
+  pub ran : Replayed (testing (rowsIn m words) log ticks maxLongTicks (windowTicks * m) m shortWindow (length ms) (length vs) (length ts))
+      windowTicks m m ticks ms vs ts ms′ vs′ ts′ r
+      → LongCalled m words log ticks ms vs ts ms′ vs′ ts′ r
+  ran R = go (testing (rowsIn m words) log ticks maxLongTicks (windowTicks * m) m shortWindow (length ms) (length vs) (length ts)) refl
+    where
+      past : Ticks
+      past = finished m words log ticks P K .0
 
-      module _ (e : length log ≡ ticks * inputs (rowsIn m words)) where
-        short : (leb (windowTicks * m) (length ms) && leb (windowTicks * m) (length vs) && leb (tallySize * m) (length ts)) ≡ false
-            → LongCalled m words log ticks ms vs ts ms vs ts (refusal shortWindow 0)
-        short n = turned-down shortWindow 0 (tests ∙ rw (le-leb ticks maxLongTicks few, eq-eqb (length log) (ticks * inputs (rowsIn m words)) e, n))
+      window : (g : Cell → ℕ) → g absent ≡ 0 → (l l′ : List ℕ) → windowTicks * m ≤ length l → Regular m past → l′ ≡ placed windowTicks m g l past
+          → Windowed windowTicks m g past l l′
+      window g z l l′ h w e =
+          subst (Windowed windowTicks m g past l) (sym e)
+          (windowed windowTicks m g l z (omega arith) past w (window-fits windowTicks m (length past) (length l) (omega arith) h))
 
-        pub short-marks : length ms < windowTicks * m → LongCalled m words log ticks ms vs ts ms vs ts (refusal shortWindow 0)
-        short-marks n = short (rw (lt-leb (windowTicks * m) (length ms) n))
-
-        pub short-values : windowTicks * m ≤ length ms → length vs < windowTicks * m → LongCalled m words log ticks ms vs ts ms vs ts (refusal shortWindow 0)
-        short-values i n = short (rw (le-leb (windowTicks * m) (length ms) i, lt-leb (windowTicks * m) (length vs) n))
-
-        pub short-tallies : windowTicks * m ≤ length ms → windowTicks * m ≤ length vs → length ts < tallySize * m
-            → LongCalled m words log ticks ms vs ts ms vs ts (refusal shortWindow 0)
-        short-tallies i j n = short (rw (le-leb (windowTicks * m) (length ms) i, le-leb (windowTicks * m) (length vs) j, lt-leb (tallySize * m) (length ts) n))
-
-        -- An accepted plan does not clash, so what is left is window and tallies of a run to its end.
-        pub ran : (ms′ vs′ ts′ : List ℕ) (r : Answer) → windowTicks * m ≤ length ms → windowTicks * m ≤ length vs → tallySize * m ≤ length ts
-            → RanTo (run (rowsIn m words) log ticks) windowTicks m m ticks ms vs ts ms′ vs′ ts′ r → LongCalled m words log ticks ms vs ts ms′ vs′ ts′ r
-        unfolding Clocked
-        ran ms′ vs′ ts′ r i j n R = go (unclashed (rowsIn m words) (K .0) fit (K .1) log ticks)
-          where
-            fit : AllFit (length (rowsIn m words)) 0 (rowsIn m words)
-            fit = let T = plain-table m words P in subst (λ (k : ℕ). AllFit k 0 (rowsIn m words)) (sym (T .size)) (T .fits)
-
-            go : (past : Ticks) × (run (rowsIn m words) log ticks ≡ done past) → LongCalled m words log ticks ms vs ts ms′ vs′ ts′ r
-            go u =
-                let D : RanTo (done (u .0)) windowTicks m m ticks ms vs ts ms′ vs′ ts′ r =
-                subst (λ (x : Ran). RanTo x windowTicks m m ticks ms vs ts ms′ vs′ ts′ r) (u .1) R in
-                called ms′ vs′ ts′ r (good (done (u .0)))
-                (tests
-                ∙ rw (
-                  le-leb ticks maxLongTicks few,
-                  eq-eqb (length log) (ticks * inputs (rowsIn m words)) e,
-                  le-leb (windowTicks * m) (length ms) i,
-                  le-leb (windowTicks * m) (length vs) j,
-                  le-leb (tallySize * m) (length ts) n,
-                )
-                (ap good (u .1)))
-                (D .answer) (
-                  rw (D .marks) (windowed windowTicks m markByte ms refl (omega arith) (u .0) (D .regular) (window-fits windowTicks m _ (length ms) (omega arith) i)),
-                  rw (D .values) (windowed windowTicks m value vs refl (omega arith) (u .0) (D .regular) (window-fits windowTicks m _ (length vs) (omega arith) j)),
-                  D .tallied (u .0) refl,
-                )
+      go : (x : Result Ran) → testing (rowsIn m words) log ticks maxLongTicks (windowTicks * m) m shortWindow (length ms) (length vs) (length ts) ≡ x
+          → LongCalled m words log ticks ms vs ts ms′ vs′ ts′ r
+      go (refused why f) e =
+          let D = R .refuses why f e in
+          called m words log ticks ms vs ts ms′ vs′ ts′ r (refused why f) (tests ∙ e) (D .0) (D .1, D .2, D .3)
+      go (good x) e =
+          let G = granted x e in
+          let D : RanTo (done past) windowTicks m m ticks ms vs ts ms′ vs′ ts′ r =
+          subst (λ (y : Ran). RanTo y windowTicks m m ticks ms vs ts ms′ vs′ ts′ r) (G .0) (R .ran x e) in
+          called m words log ticks ms vs ts ms′ vs′ ts′ r (good (done past)) (tests ∙ e ∙ ap good (G .0)) (D .answer) (
+            window markByte refl ms ms′ (G .1) (D .regular) (D .marks),
+            window value refl vs vs′ (G .2) (D .regular) (D .values),
+            D .tallied past refl,
+          )
 
 -- what the check's answer tells
 pub accepted : (m : ℕ) (words : List ℕ) (room : ℕ) (r : Answer) → clockSize * maxFlows ≤ room → r ≡ checkAnswer m words room → r .number ≡ 0
@@ -146,5 +140,5 @@ pub handed-on : (m : ℕ) (words log : List ℕ) (ticks room : ℕ) (ms vs ts : 
 handed-on m words log ticks room ms vs ts r l e z =
     let x : (why : Refusal) × (f : ℕ) × (checking m words room ≡ refused why f) =
     answer-other length (checking m words room) (λ q. z (ap (λ (a : Answer). a .number) e ∙ q)) in
-    subst (λ (b : Answer). LongCalled m words log ticks ms vs ts ms vs ts b) (sym (e ∙ ap (answer length) (x .2)))
-    (turned-down m words log ticks ms vs ts (x .0) (x .1) (down-by m words log ticks (length ms) (length vs) (length ts) room (x .0) (x .1) l (x .2)))
+    called m words log ticks ms vs ts ms vs ts r (refused (x .0) (x .1))
+    (down-by m words log ticks (length ms) (length vs) (length ts) room (x .0) (x .1) l (x .2)) (e ∙ ap (answer length) (x .2)) (refl, refl, refl)

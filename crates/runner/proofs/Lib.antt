@@ -16,5 +16,6 @@ pub mod Collecting
 pub mod Lent
 pub mod Tallying
 pub mod Running
+pub mod Replaying
 pub mod Called
 pub mod Lasting

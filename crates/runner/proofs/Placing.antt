@@ -27,11 +27,12 @@ masked t mask M =
     let e : mask ≡ 2 ^ M .width - 1 = omega (arith, M .is) in
     ap (bitAnd t) e ∙ and-mask t (M .width) ∙ ap (λ (m : ℕ). t % m) (sym (M .is))
 
--- a tick's first cell has a low place
+-- places are low
+pub cells-low : (t n : ℕ) → t < 2 ^ 32 → n ≤ maxFlows → t * n ≤ 2 ^ 38
+cells-low t n l k = let m : t * n ≤ 2 ^ 32 * 64 = mul-le-mul {n₂ = 2 ^ 32} {m₂ = 64} (omega arith) k in omega arith
+
 pub first-low : (t mask n : ℕ) → Mask mask → t < 2 ^ 32 → n ≤ maxFlows → bitAnd t mask * n ≤ 2 ^ 38
-first-low t mask n M l k =
-    let m : bitAnd t mask * n ≤ 2 ^ 32 * 64 = mul-le-mul {n₂ = 2 ^ 32} {m₂ = 64} (omega (arith, masked t mask M, mod-le t (mask + 1))) k in
-    omega arith
+first-low t mask n M l k = cells-low (bitAnd t mask) n (omega (arith, masked t mask M, mod-le t (mask + 1))) k
 
 module _ (i : ℕ) (xs l : List ℕ) (h : i + length xs ≤ length l) where
   front : length (take i l) ≡ i
@@ -90,7 +91,10 @@ apart n p q f ne l = go (try (ltb p q))
         let m : suc q * n ≤ p * n = mul-le-mul-right n (omega arith) in
         inr (omega (arith, suc-mul q n))
 
--- fewer ticks have their places where more have
+-- ticks have their places in a longer list, and fewer of them too
+pub longer : {room n ticks : ℕ} (size size′ : ℕ) → size ≤ size′ → Fitting room n ticks size → Fitting room n ticks size′
+longer size size′ l F = record { place = λ t h. omega (arith, F .place t h) }
+
 pub fewer : {room n ticks size : ℕ} (k : ℕ) → k ≤ ticks → Fitting room n ticks size → Fitting room n k size
 fewer k l F = record { place = λ t h. F .place t (omega arith) }
 

@@ -3,15 +3,16 @@ ghost use mathlib.Core.Path.{_≡_};
 ghost use Prim.Native.Nat.{ℕ, _+_, _*_, _≤_, _<_, _^_};
 ghost use mathlib.Core.List.{List, []};
 ghost use lib.ListN.{length};
+ghost use Rattle.table.specs.Answers.{Refusal, number};
 ghost use Rattle.table.specs.Rows.{maxField};
 ghost use Rattle.semantics.specs.Runs.{Ticks, inputs, tickOf};
 ghost use Rattle.semantics.specs.Runs as runs;
 ghost use Rattle.semantics.specs.Windows.{tallySize, Tallied};
 ghost use Rattle.runner.specs.Called.{Called};
-ghost use Rattle.runner.specs.Long.{windowTicks, LongCalled};
+ghost use Rattle.runner.specs.Long.{LongCalled};
 ghost use Rattle.runner.specs.Private.Carried.{stateSize};
-ghost use Rattle.runner.specs.Private.Ready.{rowsIn, Plain, Clocked, AllCarry, Ready, Listed};
-ghost use Rattle.runner.specs.Private.Placed.{Mask, firstCell, Fitting, Recalls, TickAt, RanTo};
+ghost use Rattle.runner.specs.Private.Ready.{rowsIn, Plain, AllCarry, Ready, Listed};
+ghost use Rattle.runner.specs.Private.Placed.{Mask, firstCell, Fitting, Recalls, TickAt, RanTo, testing, Replayed};
 
 mod carried;
 mod operators;
@@ -195,7 +196,7 @@ fn run_ticks(
     Answer::success(ticks)
 }
 
-// The run of a table that is not refused, from its start on.
+// The run of a table over buffers of these lengths: the tallies begin at 0, the rows of two kinds are listed, and then its ticks.
 fn run_from(
     n: usize,
     words: &[u32],
@@ -219,11 +220,11 @@ fn run_from(
         × (Mask mask)
         × (maxField ≤ mask)
         × (k ≤ n)
-        × (tallySize * k ≤ length (now tallies))
-        × (Tallied k [] (now tallies) (now tallies)) ⌝ }
+        × (tallySize * k ≤ length (now tallies)) ⌝ }
     ensures { λ r. ⌜ RanTo (runs.run (rowsIn n (now (words .entry))) (now (log .entry)) ticks) (mask + 1) n k ticks (now (marks .entry))
         (now (values .entry)) (now (tallies .entry)) (now (marks .exit)) (now (values .exit)) (now (tallies .exit)) r ⌝ }
 {
+    tally::clear(TALLY_SIZE * k, tallies);
     let mut registers = [0u32; MAX_FLOWS as usize];
     let mut laters = [0u32; MAX_FLOWS as usize];
     let register_count = state::listed(7, n, words, &mut registers);
@@ -247,20 +248,37 @@ fn run_from(
     )
 }
 
-// The run of a table that is not refused: 31, 32 and 33, and then its ticks. No flow is tallied.
-fn run_plain(
+// Either run of a table that is not refused: 31 above the most ticks, 32, `short` where marks or values have too few cells or the tallies too
+// few words, and then its ticks. The first k flows are tallied.
+fn replay(
     n: usize,
     words: &[u32],
     log: &[u32],
     ticks: u32,
+    most: u32,
+    cells: usize,
+    short: u32,
+    mask: u32,
+    k: usize,
     marks: &mut [u8],
     values: &mut [u32],
+    tallies: &mut [u32],
 ) -> Answer
-    requires { ⌜ Plain n (now words) ⌝ }
-    ensures { λ r. ⌜ Called n (now (words .entry)) (now (log .entry)) ticks (now (marks .entry)) (now (values .entry)) (now (marks .exit))
-        (now (values .exit)) r ⌝ }
+    requires { ⌜ (Plain n (now words))
+        × (most < 2 ^ 24)
+        × (Fitting (mask + 1) n ticks cells)
+        × (Mask mask)
+        × (maxField ≤ mask)
+        × (k ≤ n) ⌝ }
+    ensures { λ r. ⌜ ((why : Refusal)
+        → number why ≡ short
+        → Replayed
+        (testing (rowsIn n (now (words .entry))) (now (log .entry)) ticks most cells k why (length (now (marks .entry))) (length (now (values .entry)))
+        (length (now (tallies .entry))))
+        (mask + 1) n k ticks (now (marks .entry)) (now (values .entry)) (now (tallies .entry)) (now (marks .exit)) (now (values .exit))
+        (now (tallies .exit)) r) ⌝ }
 {
-    if MOST_TICKS < ticks {
+    if most < ticks {
         return Answer::refusal(table::TOO_MANY_TICKS, 0);
     }
     let mut state = [0u32; STATE_SIZE];
@@ -268,30 +286,31 @@ fn run_plain(
     if log.len() != (ticks as usize) * inputs {
         return Answer::refusal(table::WRONG_LOG, 0);
     }
-    let cells = (ticks as usize) * n;
     if marks.len() < cells {
-        return Answer::refusal(table::SHORT_TRACE, 0);
+        return Answer::refusal(short, 0);
     }
     if values.len() < cells {
-        return Answer::refusal(table::SHORT_TRACE, 0);
+        return Answer::refusal(short, 0);
     }
-    let mut none = [0u32; 1];
+    if tallies.len() < TALLY_SIZE * k {
+        return Answer::refusal(short, 0);
+    }
     run_from(
         n,
         words,
         log,
         inputs,
         ticks,
-        WHOLE,
-        0,
+        mask,
+        k,
         &mut state,
         marks,
         values,
-        &mut none,
+        tallies,
     )
 }
 
-// The run of a table of `count` rows over a log: each cell into marks and values, tick after tick.
+// The run of a table of `count` rows over a log: each cell into marks and values, tick after tick. No flow is tallied.
 pub fn run(
     count: u32,
     words: &[u32],
@@ -305,94 +324,25 @@ pub fn run(
 {
     let found = table::examine(count, words);
     if found.number == 0 {
-        run_plain(count as usize, words, log, ticks, marks, values)
+        let n = count as usize;
+        let mut none = [0u32; 0];
+        replay(
+            n,
+            words,
+            log,
+            ticks,
+            MOST_TICKS,
+            (ticks as usize) * n,
+            table::SHORT_TRACE,
+            WHOLE,
+            0,
+            marks,
+            values,
+            &mut none,
+        )
     } else {
         found
     }
-}
-
-// The long run of a table over buffers of these lengths: the tallies begin at 0, and then its ticks.
-fn long_from(
-    n: usize,
-    words: &[u32],
-    log: &[u32],
-    inputs: usize,
-    ticks: u32,
-    state: &mut [u32],
-    marks: &mut [u8],
-    values: &mut [u32],
-    tallies: &mut [u32],
-) -> Answer
-    requires { ⌜ (Plain n (now words))
-        × (windowTicks * n ≤ length (now marks))
-        × (windowTicks * n ≤ length (now values))
-        × (length (now state) ≡ stateSize)
-        × (ticks < 2 ^ 24)
-        × (inputs ≡ runs.inputs (rowsIn n (now words)))
-        × (AllCarry (rowsIn n (now words)) 0 [] (now state))
-        × (tallySize * n ≤ length (now tallies)) ⌝ }
-    ensures { λ r. ⌜ RanTo (runs.run (rowsIn n (now (words .entry))) (now (log .entry)) ticks) windowTicks n n ticks (now (marks .entry))
-        (now (values .entry)) (now (tallies .entry)) (now (marks .exit)) (now (values .exit)) (now (tallies .exit)) r ⌝ }
-{
-    tally::clear(TALLY_SIZE * n, tallies);
-    run_from(
-        n,
-        words,
-        log,
-        inputs,
-        ticks,
-        WINDOW - 1,
-        n,
-        state,
-        marks,
-        values,
-        tallies,
-    )
-}
-
-// The long run of a table that the check accepts: 31, 32 and 35, and then its ticks.
-fn long_plain(
-    n: usize,
-    words: &[u32],
-    log: &[u32],
-    ticks: u32,
-    marks: &mut [u8],
-    values: &mut [u32],
-    tallies: &mut [u32],
-) -> Answer
-    requires { ⌜ (Plain n (now words)) × (Clocked n (now words)) ⌝ }
-    ensures { λ r. ⌜ LongCalled n (now (words .entry)) (now (log .entry)) ticks (now (marks .entry)) (now (values .entry))
-        (now (tallies .entry)) (now (marks .exit)) (now (values .exit)) (now (tallies .exit)) r ⌝ }
-{
-    if MOST_LONG_TICKS < ticks {
-        return Answer::refusal(table::TOO_MANY_TICKS, 0);
-    }
-    let mut state = [0u32; STATE_SIZE];
-    let inputs = state::start(n, words, &mut state) as usize;
-    if log.len() != (ticks as usize) * inputs {
-        return Answer::refusal(table::WRONG_LOG, 0);
-    }
-    let cells = (WINDOW as usize) * n;
-    if marks.len() < cells {
-        return Answer::refusal(table::SHORT_WINDOW, 0);
-    }
-    if values.len() < cells {
-        return Answer::refusal(table::SHORT_WINDOW, 0);
-    }
-    if tallies.len() < TALLY_SIZE * n {
-        return Answer::refusal(table::SHORT_WINDOW, 0);
-    }
-    long_from(
-        n,
-        words,
-        log,
-        inputs,
-        ticks,
-        &mut state,
-        marks,
-        values,
-        tallies,
-    )
 }
 
 // The long run of a table of `count` rows over a log, after the check: tick t at place t modulo the window's ticks in marks and values, and for
@@ -412,7 +362,21 @@ pub fn long_run(
     let mut clocks = [0u32; checker::CLOCKS];
     let found = checker::check(count, words, &mut clocks);
     if found.number == 0 {
-        long_plain(count as usize, words, log, ticks, marks, values, tallies)
+        let n = count as usize;
+        replay(
+            n,
+            words,
+            log,
+            ticks,
+            MOST_LONG_TICKS,
+            (WINDOW as usize) * n,
+            table::SHORT_WINDOW,
+            WINDOW - 1,
+            n,
+            marks,
+            values,
+            tallies,
+        )
     } else {
         found
     }

@@ -1,13 +1,25 @@
 -- `long_run` meets its contract. Assumes nothing.
-use Rattle.runner.proofs.Lasting.{accepted, handed-on}
+use Rattle.runner.proofs.Lasting.{ran, accepted, handed-on}
+use Rattle.runner.proofs.Placing.{window-fits}
+use Rattle.runner.specs.Long.{windowTicks}
+use Rattle.runner.specs.Private.Ready.{Plain, Clocked}
 use Rattle.checker.specs.Answers.{clockSize}
+use Rattle.table.specs.Answers.{shortWindow}
 use Rattle.table.specs.Rows.{maxFlows}
 use lib.ListN.{length-replicate}
 use Prim.Native.Nat.{ℕ, _*_}
+use mathlib.Core.Path.{refl}
 use native.Mathlib.Omega.{arith}
 use borrow.Author.Needs.{needs}
 use Rattle.runner.proofs.long_run.Statement.{statement}
 use Rattle.runner.proofs.long_run.Tie as tie
+
+-- the check accepts the table
+clocked : (c : tie.Then1) → (let a = c .before .before .before .before .before .before .before .before .before .before .args in Plain (a .count) (a .words .now) × Clocked (a .count) (a .words .now))
+clocked c =
+    let a = c .before .before .before .before .before .before .before .before .before .before .args in
+    let check = c .before .before .before .check in
+    accepted (a .count) (a .words .now) _ (check .result) (omega (arith, length-replicate {A = ℕ} (clockSize * maxFlows) 0)) (check .ensures .0) (c .if1 .taken)
 
 slice-aggregate-check : tie.Need-slice-aggregate-check
 slice-aggregate-check c = search needs
@@ -15,11 +27,25 @@ slice-aggregate-check c = search needs
 check-requires : tie.Need-check-requires
 check-requires c κs = search needs
 
-long-plain-requires : tie.Need-long-plain-requires
-long-plain-requires c κs =
-    let a = c .before .before .before .before .before .before .before .before .before .before .before .before .before .args in
-    let check = c .before .before .before .before .before .before .check in
-    accepted (a .count) (a .words .now) _ (check .result) (omega (arith, length-replicate {A = ℕ} (clockSize * maxFlows) 0)) (check .ensures .0) (c .before .before .before .if1 .taken)
+cast-replay : tie.Need-cast-replay
+cast-replay c = search needs
+
+mul-replay : tie.Need-mul-replay
+mul-replay c = search needs
+
+sub-replay : tie.Need-sub-replay
+sub-replay c = search needs
+
+replay-requires : tie.Need-replay-requires
+replay-requires c κs =
+    let a = c .before .before .before .before .before .before .before .before .before .before .before .before .before .args in (
+      clocked (c .before .before .before) .0,
+      omega arith,
+      window-fits windowTicks (a .count) (a .ticks) (windowTicks * a .count) (omega arith) (omega arith),
+      record { width = 13; is = refl },
+      omega arith,
+      omega arith,
+    )
 
 same-length : tie.Need-same-length
 same-length c = search needs
@@ -31,7 +57,11 @@ same-length-3 : tie.Need-same-length-3
 same-length-3 c = search needs
 
 returns : tie.Need-returns
-returns c = search needs
+returns c =
+    let a = c .before .before .before .before .before .before .before .before .before .before .before .before .before .before .before .before .before .before .before .before .args in
+    let K = clocked (c .before .before .before .before .before .before .before .before .before .before) in
+    ran (a .count) (a .words .now) (a .log .now) (a .ticks) (a .marks .now) (a .values .now) (a .tallies .now) _ _ _ _ (K .0) (K .1)
+    (c .before .before .before .before .before .before .replay .ensures shortWindow refl)
 
 returns-2 : tie.Need-returns-2
 returns-2 c =
@@ -46,7 +76,10 @@ long-run-spec =
     (tie.spec
     slice-aggregate-check
     check-requires
-    long-plain-requires
+    cast-replay
+    mul-replay
+    sub-replay
+    replay-requires
     same-length
     same-length-2
     same-length-3

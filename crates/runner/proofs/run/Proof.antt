@@ -1,14 +1,41 @@
 -- `run` meets its contract. Assumes nothing.
-use Rattle.runner.proofs.Called.{accepted, handed-on}
+use Rattle.runner.proofs.Called.{ran, accepted, handed-on}
+use Rattle.runner.proofs.Placing.{cells-low, whole-fits}
+use Rattle.runner.proofs.Tabled.{plain-table}
+use Rattle.runner.specs.Private.Ready.{Plain}
+use Rattle.table.specs.Answers.{shortTrace}
+use Prim.Native.Nat.{_*_, _^_}
+use mathlib.Core.Path.{refl}
+use native.Mathlib.Omega.{arith}
 use borrow.Author.Needs.{needs}
 use Rattle.runner.proofs.run.Statement.{statement}
 use Rattle.runner.proofs.run.Tie as tie
 
+-- the table is not refused
+plain : (c : tie.Then1) → (let a = c .before .before .before .before .before .before .before .args in Plain (a .count) (a .words .now))
+plain c = let a = c .before .before .before .before .before .before .before .args in let examine = c .before .before .examine in accepted (a .count) (a .words .now) (examine .result) (examine .ensures) (c .if1 .taken)
+
 examine-requires : tie.Need-examine-requires
 examine-requires c κs = search needs
 
-run-plain-requires : tie.Need-run-plain-requires
-run-plain-requires c κs = accepted (c .before .before .before .before .before .before .before .before .before .args .count) (c .before .before .before .before .before .before .before .before .before .args .words .now) (c .before .before .before .before .examine .result) (c .before .before .before .before .examine .ensures) (c .before .before .if1 .taken)
+mul-replay : tie.Need-mul-replay
+mul-replay c =
+    let a = c .before .before .before .before .before .before .before .args in
+    omega (arith, cells-low (a .ticks) (a .count) (omega arith) (plain-table (a .count) (a .words .now) (plain (c)) .few))
+
+slice-aggregate-replay : tie.Need-slice-aggregate-replay
+slice-aggregate-replay c = search needs
+
+replay-requires : tie.Need-replay-requires
+replay-requires c κs =
+    let a = c .before .before .before .before .before .before .before .before .before .before .args in (
+      plain (c .before .before .before),
+      omega arith,
+      whole-fits (2 ^ 32) (a .count) (a .ticks) (a .ticks * a .count) (omega arith) (omega arith),
+      record { width = 32; is = refl },
+      omega arith,
+      omega arith,
+    )
 
 same-length : tie.Need-same-length
 same-length c = search needs
@@ -17,12 +44,26 @@ same-length-2 : tie.Need-same-length-2
 same-length-2 c = search needs
 
 returns : tie.Need-returns
-returns c = search needs
+returns c =
+    let a = c .before .before .before .before .before .before .before .before .before .before .before .before .before .before .before .before .args in
+    ran (a .count) (a .words .now) (a .log .now) (a .ticks) (2 ^ 32) (a .marks .now) (a .values .now) _ _ _ _ _ (plain (c .before .before .before .before .before .before .before .before .before)) (omega arith)
+    (c .before .before .before .before .before .replay .ensures shortTrace refl)
 
 returns-2 : tie.Need-returns-2
-returns-2 c = handed-on (c .before .before .before .before .before .before .before .args .count) (c .before .before .before .before .before .before .before .args .words .now) (c .before .before .before .before .before .before .before .args .log .now) (c .before .before .before .before .before .before .before .args .ticks) (c .before .before .before .before .before .before .before .args .marks .now) (c .before .before .before .before .before .before .before .args .values .now) (c .before .before .examine .result) (c .before .before .examine .ensures) (c .if1 .left)
+returns-2 c =
+    let a = c .before .before .before .before .before .before .before .args in
+    let examine = c .before .before .examine in
+    handed-on (a .count) (a .words .now) (a .log .now) (a .ticks) (a .marks .now) (a .values .now) (examine .result) (examine .ensures) (c .if1 .left)
 
 pub run-spec : {M : Type 1} → statement M
 run-spec =
     tie.close
-    (tie.spec examine-requires run-plain-requires same-length same-length-2 returns returns-2)
+    (tie.spec
+    examine-requires
+    mul-replay
+    slice-aggregate-replay
+    replay-requires
+    same-length
+    same-length-2
+    returns
+    returns-2)

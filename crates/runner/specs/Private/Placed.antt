@@ -1,17 +1,17 @@
 -- Marks and values in which each tick stands at its own place, and the tallies. For the private functions alone.
 use mathlib.Core.Path.{_≡_}
 use Prim.Native.Nat.{ℕ, suc, _+_, _*_, _-_, _%_, _^_, _≤_, _<_}
-use mathlib.Core.Bool.{cond}
+use mathlib.Core.Bool.{cond, _&&_}
 use mathlib.Core.List.{List, [], _∷_, _++_, map}
 use lib.ListN.{length, getD, take, drop}
 use lib.Dec.{eqb, leb}
 use Rattle.table.specs.declared.Answer.{Answer}
-use Rattle.table.specs.Answers.{good, over}
+use Rattle.table.specs.Answers.{Refusal, tooManyTicks, wrongLog, Result, good, refused, unless, refusal, over}
 use Rattle.table.specs.Rows.{maxField, Row}
 use Rattle.runner.specs.declared.ticks.Ticked.{Ticked}
 use Rattle.runner.specs.declared.ticks.Ticked.the-variants as ticked
 use Rattle.semantics.specs.Cells.{Cell, absent, value, back}
-use Rattle.semantics.specs.Runs.{Ticks, history, TickEnd, filled, stopped, Ran, done, clashed, Regular}
+use Rattle.semantics.specs.Runs.{Ticks, history, inputs, TickEnd, filled, stopped, Ran, done, clashed, run, Regular}
 use Rattle.semantics.specs.Answers.{markByte, ranAnswer}
 use Rattle.semantics.specs.Windows.{workedOut, tallySize, Tallied}
 use Rattle.runner.specs.Private.Carried.{cellAt, heldIn, heldSize}
@@ -94,3 +94,16 @@ pub record RanTo (x : Ran) (room n k ticks : ℕ) (ms vs ts ms′ vs′ ts′ : 
   pub marks : ms′ ≡ placed room n markByte ms (workedOut x)
   pub values : vs′ ≡ placed room n value vs (workedOut x)
   pub tallied : (past : Ticks) → x ≡ done past → Tallied k past ts ts′
+
+-- what either run comes to within its limits: the most ticks, the cells that marks and values need, and the refusal where they are short
+unfoldable pub testing : List Row → List ℕ → ℕ → ℕ → ℕ → ℕ → Refusal → ℕ → ℕ → ℕ → Result Ran
+testing rows log ticks most cells k short marks values tallies =
+    unless (leb ticks most) tooManyTicks 0
+    (unless (eqb (length log) (ticks * inputs rows)) wrongLog 0
+    (unless (leb cells marks && leb cells values && leb (tallySize * k) tallies) short 0
+    (good (run rows log ticks))))
+
+-- and what it leaves
+pub record Replayed (x : Result Ran) (room n k ticks : ℕ) (ms vs ts ms′ vs′ ts′ : List ℕ) (r : Answer) : Type 0 where
+  pub ran : (y : Ran) → x ≡ good y → RanTo y room n k ticks ms vs ts ms′ vs′ ts′ r
+  pub refuses : (why : Refusal) (f : ℕ) → x ≡ refused why f → (r ≡ refusal why f) × (ms′ ≡ ms) × (vs′ ≡ vs) × (ts′ ≡ ts)
