@@ -95,7 +95,6 @@ pub fn long_run(
 
 /// The ticks from 0 on, each at the place that the mask leaves of it. The first flows, so many, are tallied.
 #[allow(clippy::too_many_arguments)]
-#[inline(always)]
 fn run_ticks(
     rows: &[Row],
     inputs: usize,
