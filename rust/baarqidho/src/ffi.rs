@@ -203,15 +203,15 @@ pub fn run(plan_count: u32, words: &[u32], log: &[u32], ticks: u32, marks: &mut 
     })
 }
 
-/// Checks a plain table and runs it over a log for many ticks, up to [`MAX_LONG_TICKS`](crate::MAX_LONG_TICKS). Log and
-/// cells are as in [`run()`]. Of the cells it keeps a window, the last [`WINDOW_TICKS`](crate::WINDOW_TICKS) ticks, tick
-/// t at place `t % WINDOW_TICKS * plan_count`; of all ticks it keeps [`TALLY_WORDS`](crate::TALLY_WORDS) words a flow:
-/// how many values it had, and its last one, 0 if it had none.
+/// Checks a plain table and runs it over a log for up to [`MAX_LONG_TICKS`](crate::MAX_LONG_TICKS) ticks. Log and cells
+/// are as in [`run()`]. The cells of the last [`WINDOW_TICKS`](crate::WINDOW_TICKS) ticks are kept, the window: those
+/// of tick t from place `t % WINDOW_TICKS * plan_count` on. Of all ticks, [`TALLY_WORDS`](crate::TALLY_WORDS) words a
+/// flow are kept: how many values it had, and its last one, 0 if it had none.
 ///
-/// Success gives the count of ticks, and writes the tallies and the places of the window that the ticks reach. Refusals
-/// that touch nothing: 11, 13, 14, 15, those of the check, 23, 21 and 22, then 31, 32, and 35 where marks, values or
-/// tallies are too short, however few the ticks. A clash, 34, names tick and flow: the window and the tallies are those
-/// of the cells worked out before it.
+/// Success gives the count of ticks, and writes the tallies and the cells of the window that the ticks reach. Refusals
+/// that touch nothing: 11, 13, 14, 15, those of the check (23, 21 and 22), 31, 32, and 35 where marks, values or
+/// tallies are too short, however few the ticks. A clash, 34, names tick and flow: each cell of the window is the last
+/// one worked out for its place, if any, and the tallies are those of the cells worked out by then.
 ///
 /// ```
 /// use baarqidho::{TALLY_WORDS, WINDOW_TICKS};

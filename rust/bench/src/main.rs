@@ -1,7 +1,7 @@
 //! The proved library against Rust, in one process and on the same input. The run is measured against two others: the
-//! same algorithm in safe Rust (`peer::mirror`), and a quick run with rows made ready beforehand (`peer::run`). The long
-//! run is measured against the long runs of both, and against the library's run of the same ticks. Check, write and
-//! read are measured against the quick implementation.
+//! same algorithm in safe Rust (`peer::mirror`), and a quick run with rows made ready beforehand (`peer::run`). The
+//! long run is measured against the long runs of both, and against the library's run of the same ticks. Check, write
+//! and read are measured against the quick implementation.
 //!
 //!     cargo run --release -p bench
 //!

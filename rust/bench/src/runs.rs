@@ -34,40 +34,28 @@ pub struct Run {
 }
 
 macro_rules! run {
-    ($name:literal, $call:path) => {
+    ($name:literal, $is_long:literal, $call:path $(, $tallies:ident)?) => {
         Run {
             name: $name,
-            is_long: false,
+            is_long: $is_long,
             call: |count, words, log, ticks, lent| {
-                let answer = $call(count, words, log, ticks, &mut lent.marks, &mut lent.values);
+                let Lent { marks, values, .. } = lent;
+                let answer = $call(count, words, log, ticks, marks, values $(, &mut lent.$tallies)?);
                 (answer.number, answer.count)
             },
         }
     };
 }
 
-macro_rules! long_run {
-    ($name:literal, $call:path) => {
-        Run {
-            name: $name,
-            is_long: true,
-            call: |count, words, log, ticks, lent| {
-                let answer = $call(count, words, log, ticks, &mut lent.marks, &mut lent.values, &mut lent.tallies);
-                (answer.number, answer.count)
-            },
-        }
-    };
-}
-
-/// The run, the first of which is measured against the others.
+/// The run; the first is measured against the others.
 pub const RUNS: [Run; 3] =
-    [run!("library", baarqidho::run), run!("mirror", peer::mirror::run), run!("quick", peer::run)];
+    [run!("library", false, baarqidho::run), run!("mirror", false, peer::mirror::run), run!("quick", false, peer::run)];
 
 /// The long run.
 pub const LONG: [Run; 3] = [
-    long_run!("long", baarqidho::long_run),
-    long_run!("long-mirror", peer::mirror::long_run),
-    long_run!("long-quick", peer::long_run),
+    run!("long", true, baarqidho::long_run, tallies),
+    run!("long-mirror", true, peer::mirror::long_run, tallies),
+    run!("long-quick", true, peer::long_run, tallies),
 ];
 
 /// The long run, and the library's run of the same ticks.

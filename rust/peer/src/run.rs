@@ -79,8 +79,9 @@ fn registers(steps: &[Step]) -> ([u8; MOST_FLOWS], usize) {
     (flows, count)
 }
 
-/// Some ticks, each lent its own part of the cells, from the first cell on. Where they do not begin at tick 0, the cells
-/// behind a tick are still those of the lap before. Each cell is also handed to `seen`. A clash gives its tick and flow.
+/// Some ticks, each lent its own part of the cells, from the first cell on. Where they do not begin at tick 0, the
+/// cells behind a tick are still those of the lap before. Each cell is also handed to `seen`. A clash gives its tick
+/// and flow.
 fn lap(
     steps: &mut [Step],
     inputs: usize,

@@ -92,14 +92,18 @@ static void answer_check(void)
     GIVE(clocks);
 }
 
+/* Declares and takes what both runs have in common. */
+#define TAKE_RUN                         \
+    uint32_t plan_count = take_number(); \
+    TAKE(uint32_t, words);               \
+    TAKE(uint32_t, log);                 \
+    uint32_t ticks = take_number();      \
+    TAKE(uint8_t, marks);                \
+    TAKE(uint32_t, values)
+
 static void answer_run(void)
 {
-    uint32_t plan_count = take_number();
-    TAKE(uint32_t, words);
-    TAKE(uint32_t, log);
-    uint32_t ticks = take_number();
-    TAKE(uint8_t, marks);
-    TAKE(uint32_t, values);
+    TAKE_RUN;
     ANSWER(RUN_DECLARED);
     GIVE(marks);
     GIVE(values);
@@ -107,12 +111,7 @@ static void answer_run(void)
 
 static void answer_long_run(void)
 {
-    uint32_t plan_count = take_number();
-    TAKE(uint32_t, words);
-    TAKE(uint32_t, log);
-    uint32_t ticks = take_number();
-    TAKE(uint8_t, marks);
-    TAKE(uint32_t, values);
+    TAKE_RUN;
     TAKE(uint32_t, tallies);
     ANSWER(LONG_RUN_DECLARED);
     GIVE(marks);

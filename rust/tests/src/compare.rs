@@ -108,7 +108,7 @@ fn compare(
 /// The parts of two outcomes, and the first cells in which they differ.
 fn differences(found: &Outcome, expected: &Outcome) -> String {
     format!(
-        "(number, flow, tick, count) {:?}, expected {:?}; first other byte {:?}, first other word {:?}, first other tally {:?}",
+        "(number, flow, tick, count) {:?}, expected {:?}; first other byte {:?}, word {:?} and tally {:?}",
         found.parts,
         expected.parts,
         first_difference(&found.bytes, &expected.bytes),

@@ -158,6 +158,8 @@ fn long_runs() {
     let none = plan.long_run(&[], 0).expect("accepted");
     assert_eq!((none.ticks(), none.first_tick(), none.count(0), none.last(0)), (0, 0, 0, None));
     assert!(!none.has(0, 0));
+    let all = Plan::new([1, 8, 1, 0]).long_run(&[], 4_194_303).expect("accepted");
+    assert_eq!((all.ticks(), all.first_tick(), all.count(0), all.last(0)), (4_194_303, 4_186_111, 4_194_303, Some(8)));
 }
 
 #[test]
