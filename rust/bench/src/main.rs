@@ -36,7 +36,8 @@ fn report() {
     println!(
         "Times are the least, in ns. Of the two ratios the first is that of the least times, the second the median"
     );
-    println!("over the turns. library/mirror is the library against the same algorithm in safe Rust.");
+    println!("over the turns. library/mirror, and long/long-mirror of the long run, are the library against the same");
+    println!("algorithm in safe Rust.");
 
     runs::heading("The run, all ticks, a cell", &RUNS);
     for flows in [1, 4, 16, 64] {

@@ -70,5 +70,5 @@ pub static MIRROR: Implementation = Implementation {
 /// All, for short runs: the first is what the others are held against.
 pub static ALL: [&Implementation; 3] = [&REFERENCE, &LIBRARY, &PEER];
 
-/// Those that are quick enough for long runs.
+/// Those that are quick enough for runs of many ticks.
 pub static QUICK: [&Implementation; 2] = [&PEER, &LIBRARY];
