@@ -33,13 +33,18 @@
 extern "C" {
 #endif
 
-/* The most flows of a table, and the most ticks of a run. */
+/* The most flows of a table, and the most ticks of a run and of a long run. */
 #define BAARQIDHO_MAX_FLOWS 64
 #define BAARQIDHO_MAX_TICKS 65535
+#define BAARQIDHO_MAX_LONG_TICKS 4194303
 
-/* The words of a row in plain form, and of a clock. */
+/* The ticks of a long run's window. */
+#define BAARQIDHO_WINDOW_TICKS 8192
+
+/* The words of a row in plain form, of a clock, and of a flow's tally. */
 #define BAARQIDHO_ROW_WORDS 4
 #define BAARQIDHO_CLOCK_WORDS 7
+#define BAARQIDHO_TALLY_WORDS 2
 
 /* The bytes of the longest packed table. */
 #define BAARQIDHO_PACKED_MAX 489
@@ -60,10 +65,11 @@ enum baarqidho_number {
     BAARQIDHO_CLOCKS_DIFFER = 21,      /* clocks not as the rules need; names the flow */
     BAARQIDHO_BEYOND_LIMITS = 22,      /* derived period or phase above 4095, or a fifth condition; names the flow */
     BAARQIDHO_NOT_PLAIN = 23,          /* kinds 8 to 12 over a clock with conditions; names the flow */
-    BAARQIDHO_TOO_MANY_TICKS = 31,     /* more than 65,535 ticks */
+    BAARQIDHO_TOO_MANY_TICKS = 31,     /* more than 65,535 ticks, or 4,194,303 in a long run */
     BAARQIDHO_BAD_LOG_LENGTH = 32,     /* log length not ticks x inputs */
     BAARQIDHO_TRACE_TOO_SHORT = 33,    /* mark or value trace below ticks x flows */
-    BAARQIDHO_CLASH = 34               /* operands do not fit together; names tick and flow */
+    BAARQIDHO_CLASH = 34,              /* operands do not fit together; names tick and flow */
+    BAARQIDHO_WINDOW_TOO_SHORT = 35    /* marks or values below 8,192 x flows, or tallies below 2 x flows */
 };
 
 /*
@@ -132,6 +138,32 @@ uint32_t baarqidho_run(uint32_t plan_count, const uint32_t *words, size_t words_
                        uint8_t *marks, size_t marks_len,
                        uint32_t *values, size_t values_len,
                        uint32_t *flow, uint32_t *tick, uint32_t *count);
+
+/*
+ * Checks a table and runs it over a log for many ticks. It keeps the cells of the last BAARQIDHO_WINDOW_TICKS ticks,
+ * the window, and a tally of each flow. The log and each cell are as in baarqidho_run. The cell of flow f at tick t has
+ * the place (t % BAARQIDHO_WINDOW_TICKS) x plan_count + f in `marks` and in `values`. `tallies` has at 2 x f how many
+ * values flow f had in all ticks, and at 2 x f + 1 its last value, 0 if it had none.
+ *
+ * Success: count is `ticks`. The window has the last BAARQIDHO_WINDOW_TICKS ticks, or all of them if there are fewer;
+ * its other places, and all cells and words behind the window and the tallies, are left as they were. Every flow's
+ * tally is written, 0 and 0 after no ticks. Refusals, in this order:
+ *   11, then row by row 13, 14, 15, as in baarqidho_write
+ *   row by row 23, 21, 22, then 21 of a register's source, as in baarqidho_check
+ *   31  more than 4,194,303 ticks
+ *   32  log_len is not ticks x the number of input rows
+ *   35  marks_len or values_len is below BAARQIDHO_WINDOW_TICKS x plan_count, however few the ticks, or tallies_len is
+ *       below BAARQIDHO_TALLY_WORDS x plan_count
+ *   34  a clash: tick and flow are named
+ * All but 34 leave all three buffers as they were. After a clash each place of the window has the last cell worked out
+ * for it, if any, and the tallies are those of the cells worked out by then, as baarqidho_run says which they are.
+ */
+uint32_t baarqidho_long_run(uint32_t plan_count, const uint32_t *words, size_t words_len,
+                            const uint32_t *log, size_t log_len, uint32_t ticks,
+                            uint8_t *marks, size_t marks_len,
+                            uint32_t *values, size_t values_len,
+                            uint32_t *tallies, size_t tallies_len,
+                            uint32_t *flow, uint32_t *tick, uint32_t *count);
 
 /*
  * Lists a packed table as text: a line `ok COUNT` and for each flow a line `FLOW PERIOD PHASE CONDITIONS`, or the one

@@ -51,6 +51,7 @@ impl Answer {
             32 => Refusal::BadLogLength,
             33 => Refusal::TraceTooShort,
             34 => Refusal::Clash { tick, flow },
+            35 => Refusal::WindowTooShort,
             _ => Refusal::Other { number },
         })
     }
@@ -102,7 +103,7 @@ pub enum Refusal {
         /// The flow of that kind.
         flow: u32,
     },
-    /// 31: more than [`MAX_TICKS`](crate::MAX_TICKS) ticks.
+    /// 31: more than [`MAX_TICKS`](crate::MAX_TICKS) ticks, or [`MAX_LONG_TICKS`](crate::MAX_LONG_TICKS) in a long run.
     TooManyTicks,
     /// 32: the log has not one word per tick and input.
     BadLogLength,
@@ -115,6 +116,9 @@ pub enum Refusal {
         /// The flow at which it was found.
         flow: u32,
     },
+    /// 35: the marks or the values of a long run have less than [`WINDOW_TICKS`](crate::WINDOW_TICKS) cells a flow, or
+    /// the tallies less than [`TALLY_WORDS`](crate::TALLY_WORDS) words a flow.
+    WindowTooShort,
     /// A number that the interface does not name.
     Other {
         /// That number.
@@ -140,6 +144,7 @@ impl Refusal {
             Refusal::BadLogLength => 32,
             Refusal::TraceTooShort => 33,
             Refusal::Clash { .. } => 34,
+            Refusal::WindowTooShort => 35,
             Refusal::Other { number } => number,
         }
     }
@@ -157,10 +162,11 @@ impl Refusal {
             Refusal::ClocksDiffer { .. } => "the clocks are not as the rules need",
             Refusal::BeyondLimits { .. } => "a period or phase above 4095, or a fifth condition",
             Refusal::NotPlain { .. } => "this kind needs a clock without conditions",
-            Refusal::TooManyTicks => "more than 65,535 ticks",
+            Refusal::TooManyTicks => "more than 65,535 ticks, or 4,194,303 in a long run",
             Refusal::BadLogLength => "the log has not one word per tick and input",
             Refusal::TraceTooShort => "a trace has less than one cell per tick and flow",
             Refusal::Clash { .. } => "its operands do not fit together: clash",
+            Refusal::WindowTooShort => "marks or values below a window, or tallies below two words a flow",
             Refusal::Other { .. } => "a number that the interface does not name",
         }
     }

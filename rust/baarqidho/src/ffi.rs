@@ -52,6 +52,24 @@ extern "C" {
         count: *mut u32,
     ) -> u32;
 
+    fn baarqidho_long_run(
+        plan_count: u32,
+        words: *const u32,
+        words_len: usize,
+        log: *const u32,
+        log_len: usize,
+        ticks: u32,
+        marks: *mut u8,
+        marks_len: usize,
+        values: *mut u32,
+        values_len: usize,
+        tallies: *mut u32,
+        tallies_len: usize,
+        flow: *mut u32,
+        tick: *mut u32,
+        count: *mut u32,
+    ) -> u32;
+
     fn baarqidho_listing(
         packed: *const u8,
         packed_len: usize,
@@ -177,6 +195,64 @@ pub fn run(plan_count: u32, words: &[u32], log: &[u32], ticks: u32, marks: &mut 
                 marks.len(),
                 values.as_mut_ptr(),
                 values.len(),
+                flow,
+                tick,
+                count,
+            )
+        }
+    })
+}
+
+/// Checks a plain table and runs it over a log for up to [`MAX_LONG_TICKS`](crate::MAX_LONG_TICKS) ticks. Log and cells
+/// are as in [`run()`]. The cells of the last [`WINDOW_TICKS`](crate::WINDOW_TICKS) ticks are kept, the window: those
+/// of tick t from place `t % WINDOW_TICKS * plan_count` on. Of all ticks, [`TALLY_WORDS`](crate::TALLY_WORDS) words a
+/// flow are kept: how many values it had, and its last one, 0 if it had none.
+///
+/// Success gives the count of ticks, and writes the tallies and the cells of the window that the ticks reach. Refusals
+/// that touch nothing: 11, 13, 14, 15, those of the check (23, 21 and 22), 31, 32, and 35 where marks, values or
+/// tallies are too short, however few the ticks. A clash, 34, names tick and flow: each cell of the window is the last
+/// one worked out for its place, if any, and the tallies are those of the cells worked out by then.
+///
+/// ```
+/// use baarqidho::{TALLY_WORDS, WINDOW_TICKS};
+///
+/// // An input every second tick, and a register that keeps its values.
+/// let words = [0, 2, 0, 0, 7, 5, 0, 0];
+/// let log: Vec<u32> = (0..1_000_001).collect();
+/// let (mut marks, mut values) = (vec![9; 2 * WINDOW_TICKS], vec![9; 2 * WINDOW_TICKS]);
+/// let mut tallies = [9; 2 * TALLY_WORDS + 1];
+/// let answer = baarqidho::long_run(2, &words, &log, 1_000_001, &mut marks, &mut values, &mut tallies);
+/// assert_eq!((answer.number, answer.count), (0, 1_000_001));
+/// assert_eq!(tallies, [500_001, 1_000_000, 500_001, 999_998, 9]);
+/// let place = 1_000_000 % WINDOW_TICKS * 2;
+/// assert_eq!((&marks[place..][..2], &values[place..][..2]), (&[1, 1][..], &[1_000_000, 999_998][..]));
+/// ```
+pub fn long_run(
+    plan_count: u32,
+    words: &[u32],
+    log: &[u32],
+    ticks: u32,
+    marks: &mut [u8],
+    values: &mut [u32],
+    tallies: &mut [u32],
+) -> Answer {
+    answer(|flow, tick, count| {
+        // SAFETY: pointers and lengths are those of live slices, `marks`, `values` and `tallies` lent to this call
+        // alone.
+        unsafe {
+            baarqidho_long_run(
+                plan_count,
+                words.as_ptr(),
+                words.len(),
+                log.as_ptr(),
+                log.len(),
+                ticks,
+                marks.as_mut_ptr(),
+                marks.len(),
+                values.as_mut_ptr(),
+                values.len(),
+                tallies.as_mut_ptr(),
+                tallies.len(),
                 flow,
                 tick,
                 count,

@@ -1,13 +1,13 @@
 //! Bench plans: the proved library from Rust.
 //!
 //! A plan is a table of 1 to 64 flows, each defined by one row. The library reads and writes the packed form of a
-//! table, gives each flow its clock (the check), replays an input log into a trace (the run), and lists the clocks as
-//! text.
+//! table, gives each flow its clock (the check), replays an input log into a trace (the run) or, over millions of
+//! ticks, into a window and tallies (the long run), and lists the clocks as text.
 //!
-//! There are two layers. [`read()`], [`write()`], [`check()`], [`run()`] and [`listing()`] are the library's calls over
-//! slices that the caller lends; each takes any arguments and returns an [`Answer`]. [`Plan`] owns its words, is made
-//! of [`Row`]s, words or packed bytes, and returns [`Refusal`]s as errors; that of a run is a [`RunError`], which has
-//! the trace up to a clash.
+//! There are two layers. [`read()`], [`write()`], [`check()`], [`run()`], [`long_run()`] and [`listing()`] are the
+//! library's calls over slices that the caller lends; each takes any arguments and returns an [`Answer`]. [`Plan`] owns
+//! its words, is made of [`Row`]s, words or packed bytes, and returns [`Refusal`]s as errors; that of a run is a
+//! [`RunError`], which has the trace up to a clash.
 //!
 //! ```
 //! use baarqidho::{Plan, Row, RunError};
@@ -33,13 +33,15 @@
 mod answer;
 mod clock;
 mod ffi;
+mod long;
 mod plan;
 mod row;
 mod trace;
 
 pub use answer::{Answer, Refusal};
 pub use clock::{Clock, Condition};
-pub use ffi::{check, listing, read, run, write};
+pub use ffi::{check, listing, long_run, read, run, write};
+pub use long::LongRun;
 pub use plan::{list, Plan};
 pub use row::Row;
 pub use trace::{Clash, RunError, Trace};
@@ -60,6 +62,15 @@ pub const CLOCK_WORDS: usize = 3 + MAX_CONDITIONS;
 
 /// The most ticks of a run.
 pub const MAX_TICKS: u32 = 65_535;
+
+/// The most ticks of a long run.
+pub const MAX_LONG_TICKS: u32 = 4_194_303;
+
+/// The ticks of a long run's window.
+pub const WINDOW_TICKS: usize = 8_192;
+
+/// The words of a flow's tally in a long run: how many values it had, and its last one.
+pub const TALLY_WORDS: usize = 2;
 
 /// The bytes of the longest packed table: a count, and [`MAX_FLOWS`] rows of 61 bits.
 pub const PACKED_MAX: usize = 1 + (MAX_FLOWS * 61).div_ceil(8);

@@ -1,7 +1,8 @@
 //! A plan that owns its words, and the calls over it.
 
-use crate::{check, listing, read, run, write, Clash, Clock, Refusal, Row, RunError, Trace};
-use crate::{CLOCK_WORDS, LISTING_MAX, MAX_FLOWS, MAX_TICKS, PACKED_MAX, ROW_WORDS};
+use crate::{check, listing, long_run, read, run, write, Clash, Clock, LongRun, Refusal, Row, RunError, Trace};
+use crate::{CLOCK_WORDS, LISTING_MAX, MAX_FLOWS, MAX_LONG_TICKS, MAX_TICKS, PACKED_MAX, ROW_WORDS};
+use crate::{TALLY_WORDS, WINDOW_TICKS};
 
 /// A plan in plain form: [`ROW_WORDS`] words a flow. It may be any table; the calls say what is wrong with it.
 #[derive(Clone, Debug, PartialEq, Eq, Hash)]
@@ -120,6 +121,37 @@ impl Plan {
             }
             Err(refusal) => Err(refusal.into()),
         }
+    }
+
+    /// Checks it, and runs it over a log of one word per tick and input for up to [`MAX_LONG_TICKS`] ticks. All that is
+    /// kept is the last [`WINDOW_TICKS`] of them and, for each flow, how many values it had and its last one.
+    ///
+    /// ```
+    /// use baarqidho::{Plan, Row};
+    ///
+    /// // A reading every tick, and those readings alone that are not zero.
+    /// let plan = Plan::from_rows([Row::Input { period: 1, phase: 0 }, Row::When { a: 0, c: 0 }]);
+    /// let mut log = vec![0; 2_000_000];
+    /// log[1_999_990] = 7;
+    /// let run = plan.long_run(&log, 2_000_000)?;
+    /// assert_eq!((run.count(0), run.count(1)), (2_000_000, 1));
+    /// assert_eq!((run.last(0), run.last(1)), (Some(0), Some(7)));
+    /// assert_eq!((run.value(1_999_990, 1), run.value(1_999_991, 1)), (Some(7), None));
+    /// # Ok::<(), baarqidho::Refusal>(())
+    /// ```
+    ///
+    /// # Errors
+    ///
+    /// The refusal of [`long_run()`]: 11, 13, 14, 15, 21, 22, 23, 31 or 32. A plan that the check accepts has no clash;
+    /// should the library answer one all the same, it is [`Refusal::Clash`].
+    pub fn long_run(&self, log: &[u32], ticks: u32) -> Result<LongRun, Refusal> {
+        // Nothing is lent to a run that is refused for its ticks or its count.
+        let fits = ticks <= MAX_LONG_TICKS && self.flows() <= MAX_FLOWS;
+        let flows = if fits { self.flows() } else { 0 };
+        let (mut marks, mut values) = (vec![0; WINDOW_TICKS * flows], vec![0; WINDOW_TICKS * flows]);
+        let mut tallies = vec![0; TALLY_WORDS * flows];
+        let answer = long_run(self.count(), &self.words, log, ticks, &mut marks, &mut values, &mut tallies);
+        Ok(LongRun::new(answer.result()?, marks, values, tallies))
     }
 
     /// How many cells a clash has before it. That of a register is found after all flows of its tick.

@@ -1,6 +1,7 @@
 //! The proved library against Rust, in one process and on the same input. The run is measured against two others: the
-//! same algorithm in safe Rust (`peer::mirror`), and a quick run with rows made ready beforehand (`peer::run`).
-//! Check, write and read are measured against the quick implementation.
+//! same algorithm in safe Rust (`peer::mirror`), and a quick run with rows made ready beforehand (`peer::run`). The
+//! long run is measured against the long runs of both, and against the library's run of the same ticks. Check, write
+//! and read are measured against the quick implementation.
 //!
 //!     cargo run --release -p bench
 //!
@@ -12,7 +13,7 @@
 //!     valgrind --tool=callgrind --callgrind-out-file=/dev/null target/release/bench run mixed 16 11000 library
 //!
 //! Here the difference of the two lines 'Collected' is divided by 10,000 × 16. PLAN is mixed, sparse or sums;
-//! IMPLEMENTATION is library, mirror or quick.
+//! IMPLEMENTATION is library, mirror or quick, or of the long run long, long-mirror or long-quick.
 
 mod measure;
 mod plans;
@@ -23,34 +24,48 @@ use std::env;
 use std::process::ExitCode;
 
 use plans::{mixed, sparse, sums};
+use runs::{LONG, LONG_AND_PLAIN, RUNS};
 
-/// As many ticks as a run may have.
+/// As many ticks as a run may have, and a long run.
 const MOST_TICKS: usize = 65_535;
+const MOST_LONG_TICKS: usize = 4_194_303;
 
-/// Everything, in a minute or two.
+/// Everything, in a few minutes.
 fn report() {
     println!("Library, mirror and quick, by turns in one process on the same input and in the same buffers.");
     println!(
         "Times are the least, in ns. Of the two ratios the first is that of the least times, the second the median"
     );
-    println!("over the turns. library/mirror is the library against the same algorithm in safe Rust.");
+    println!("over the turns. library/mirror, and long/long-mirror of the long run, are the library against the same");
+    println!("algorithm in safe Rust.");
 
-    runs::heading("The run, all ticks, a cell");
+    runs::heading("The run, all ticks, a cell", &RUNS);
     for flows in [1, 4, 16, 64] {
         for plan in [mixed(flows), sparse(flows), sums(flows)] {
-            runs::run(&plan, MOST_TICKS);
+            runs::run(&RUNS, &plan, MOST_TICKS);
         }
     }
 
-    runs::heading("Growth with ticks, a cell");
-    let growth: Vec<_> = [1_000, 4_000, 16_000, 64_000].map(|ticks| runs::run(&mixed(16), ticks)).into();
+    runs::heading("Growth with ticks, a cell", &RUNS);
+    let growth = [1_000, 4_000, 16_000, 64_000].map(|ticks| runs::run(&RUNS, &mixed(16), ticks));
     runs::linear("64 times the ticks", &growth);
 
-    runs::heading("Growth with flows, a cell");
-    let growth: Vec<_> = [16, 32, 48, 64].map(|flows| runs::run(&mixed(flows), 8_000)).into();
+    runs::heading("Growth with flows, a cell", &RUNS);
+    let growth = [16, 32, 48, 64].map(|flows| runs::run(&RUNS, &mixed(flows), 8_000));
     runs::linear("4 times the flows", &growth);
-    let growth: Vec<_> = [8, 16, 32, 64].map(|flows| runs::run(&sums(flows), 8_000)).into();
+    let growth = [8, 16, 32, 64].map(|flows| runs::run(&RUNS, &sums(flows), 8_000));
     runs::linear("8 times the flows", &growth);
+
+    runs::heading("The long run, as many ticks as a run may have, a cell", &LONG_AND_PLAIN);
+    for flows in [4, 16, 64] {
+        for plan in [mixed(flows), sparse(flows), sums(flows)] {
+            runs::run(&LONG_AND_PLAIN, &plan, MOST_TICKS);
+        }
+    }
+
+    runs::heading("Growth of the long run with ticks, a cell", &LONG);
+    let growth = [65_535, 524_287, MOST_LONG_TICKS].map(|ticks| runs::run(&LONG, &mixed(4), ticks));
+    runs::linear("64 times the ticks", &growth);
 
     tables::heading("Check, write and read, a call");
     for flows in [1, 4, 16, 64] {
@@ -63,15 +78,14 @@ fn report() {
 fn one_run(arguments: &[String]) -> Option<()> {
     let [plan, flows, ticks, implementation] = arguments else { return None };
     let flows = flows.parse().ok().filter(|flows| (1..=64).contains(flows))?;
-    let ticks = ticks.parse().ok().filter(|&ticks| ticks <= MOST_TICKS)?;
+    let ticks = ticks.parse().ok()?;
     let plan = match plan.as_str() {
         "mixed" => mixed(flows),
         "sparse" => sparse(flows),
         "sums" => sums(flows),
         _ => return None,
     };
-    runs::once(&plan, ticks, runs::of_name(implementation)?);
-    Some(())
+    runs::once(&plan, ticks, runs::of_name(implementation)?)
 }
 
 fn main() -> ExitCode {
@@ -80,7 +94,8 @@ fn main() -> ExitCode {
         None => report(),
         Some((mode, rest)) if mode == "run" && one_run(rest).is_some() => {}
         Some(_) => {
-            eprintln!("bench, or bench run mixed|sparse|sums FLOWS TICKS library|mirror|quick");
+            let names = runs::names().join("|");
+            eprintln!("bench, or bench run mixed|sparse|sums FLOWS TICKS {names}");
             return ExitCode::FAILURE;
         }
     }

@@ -1,71 +1,117 @@
-//! The run: library, the same algorithm in safe Rust, and the quick one.
+//! The run and the long run: library, the same algorithm in safe Rust, and the quick one.
 
 use std::hint::black_box;
 
 use crate::measure::by_turns;
 use crate::plans::Plan;
-use crate::MOST_TICKS;
+use crate::{MOST_LONG_TICKS, MOST_TICKS};
 
-/// A run of count, words, log and ticks into marks and values; gives the number and count of its answer.
-type Run = fn(u32, &[u32], &[u32], u32, &mut [u8], &mut [u32]) -> (u32, u32);
+/// The buffers that a run is lent; a plain run leaves the tallies.
+#[derive(PartialEq)]
+struct Lent {
+    marks: Vec<u8>,
+    values: Vec<u32>,
+    tallies: Vec<u32>,
+}
 
-/// The implementations: the first is measured against the others.
-const RUNS: [(&str, Run); 3] = [
-    ("library", |count, words, log, ticks, marks, values| {
-        let answer = baarqidho::run(count, words, log, ticks, marks, values);
-        (answer.number, answer.count)
-    }),
-    ("mirror", |count, words, log, ticks, marks, values| {
-        let answer = peer::mirror::run(count, words, log, ticks, marks, values);
-        (answer.number, answer.count)
-    }),
-    ("quick", |count, words, log, ticks, marks, values| {
-        let answer = peer::run(count, words, log, ticks, marks, values);
-        (answer.number, answer.count)
-    }),
+impl Lent {
+    /// Buffers for so many ticks of a plan, or for the window of a long run.
+    fn new(plan: &Plan, ticks: usize) -> Self {
+        let (cells, words) = (ticks * plan.flows(), baarqidho::TALLY_WORDS * plan.flows());
+        Lent { marks: vec![9; cells], values: vec![9; cells], tallies: vec![9; words] }
+    }
+}
+
+/// A run of count, words, log and ticks; gives the number and count of its answer.
+type Call = fn(u32, &[u32], &[u32], u32, &mut Lent) -> (u32, u32);
+
+/// A run by its name.
+#[derive(Clone, Copy)]
+pub struct Run {
+    name: &'static str,
+    is_long: bool,
+    call: Call,
+}
+
+macro_rules! run {
+    ($name:literal, $is_long:literal, $call:path $(, $tallies:ident)?) => {
+        Run {
+            name: $name,
+            is_long: $is_long,
+            call: |count, words, log, ticks, lent| {
+                let Lent { marks, values, .. } = lent;
+                let answer = $call(count, words, log, ticks, marks, values $(, &mut lent.$tallies)?);
+                (answer.number, answer.count)
+            },
+        }
+    };
+}
+
+/// The run; the first is measured against the others.
+pub const RUNS: [Run; 3] =
+    [run!("library", false, baarqidho::run), run!("mirror", false, peer::mirror::run), run!("quick", false, peer::run)];
+
+/// The long run.
+pub const LONG: [Run; 3] = [
+    run!("long", true, baarqidho::long_run, tallies),
+    run!("long-mirror", true, peer::mirror::long_run, tallies),
+    run!("long-quick", true, peer::long_run, tallies),
 ];
 
-/// The implementation of a name.
+/// The long run, and the library's run of the same ticks.
+pub const LONG_AND_PLAIN: [Run; 4] = [LONG[0], LONG[1], LONG[2], RUNS[0]];
+
+/// The names of all runs.
+pub fn names() -> Vec<&'static str> {
+    RUNS.iter().chain(&LONG).map(|run| run.name).collect()
+}
+
+/// The run of a name.
 pub fn of_name(name: &str) -> Option<Run> {
-    RUNS.iter().find(|run| run.0 == name).map(|run| run.1)
+    RUNS.into_iter().chain(LONG).find(|run| run.name == name)
 }
 
 /// The heading of a table of runs.
-pub fn heading(title: &str) {
+pub fn heading<const N: usize>(title: &str, runs: &[Run; N]) {
     println!("\n{title}");
-    println!("{:<34} {:>8} {:>8} {:>8}   library/mirror   library/quick", "", "library", "mirror", "quick");
+    print!("{:<34}", "");
+    runs.iter().for_each(|run| print!(" {:>11}", run.name));
+    runs[1..].iter().for_each(|run| print!("   {:>16}", format!("{}/{}", runs[0].name, run.name)));
+    println!();
 }
 
-/// Measures a run of some ticks, prints its line, and gives the library's time a cell.
-pub fn run(plan: &Plan, ticks: usize) -> f64 {
-    let flows = plan.flows();
-    let (count, words, log) = (flows as u32, &plan.words[..], plan.log(ticks));
-    let cells = ticks * flows;
-    let (mut marks, mut values) = (vec![0; cells], vec![0; cells]);
+/// Measures runs of some ticks, prints their line, and gives the first one's time a cell.
+pub fn run<const N: usize>(runs: &[Run; N], plan: &Plan, ticks: usize) -> f64 {
+    let (count, words, log) = (plan.flows() as u32, &plan.words[..], plan.log(ticks));
+    let is_plain = runs.iter().any(|run| !run.is_long);
+    let room = if is_plain { ticks.max(baarqidho::WINDOW_TICKS) } else { baarqidho::WINDOW_TICKS };
 
-    // Each once from cleared buffers: the traces are equal, cell by cell.
-    let traces = RUNS.map(|(name, run)| {
-        marks.fill(9);
-        values.fill(9);
-        assert_eq!(run(count, words, &log, ticks as u32, &mut marks, &mut values), (0, ticks as u32), "{name}");
-        (marks.clone(), values.clone())
+    // Each once into buffers of its own: runs of a sort leave the same, cell by cell.
+    let left = runs.map(|run| {
+        let mut lent = Lent::new(plan, room);
+        assert_eq!((run.call)(count, words, &log, ticks as u32, &mut lent), (0, ticks as u32), "{}", run.name);
+        lent
     });
-    assert!(traces.iter().all(|trace| *trace == traces[0]), "all give the same trace");
-    drop(traces);
+    for (run, lent) in runs.iter().zip(&left) {
+        let first = runs.iter().position(|other| other.is_long == run.is_long).expect("itself at least");
+        assert!(*lent == left[first], "{} and {} leave the same", run.name, runs[first].name);
+    }
+    drop(left);
 
-    // One pair of buffers for all, so that none has the better pages.
-    let measured = by_turns::<3>(|which| {
-        let run = RUNS[which].1;
-        black_box(run(count, black_box(words), &log, ticks as u32, &mut marks, &mut values));
+    // One set of buffers for all, so that none has the better pages.
+    let mut lent = Lent::new(plan, room);
+    let measured = by_turns::<N>(|which| {
+        black_box((runs[which].call)(count, black_box(words), &log, ticks as u32, &mut lent));
     });
-    let [library, mirror, quick] = [0, 1, 2].map(|which| measured.least(which) / cells as f64);
-    let (same, same_median) = measured.ratios(1);
-    let (other, other_median) = measured.ratios(2);
-    println!(
-        "{:<34} {library:>8.2} {mirror:>8.2} {quick:>8.2}   {same:>6.2} {same_median:>7.2}   {other:>6.2} {other_median:>6.2}",
-        format!("{}, {flows} flows, {ticks} ticks", plan.name),
-    );
-    library
+    let times: [f64; N] = std::array::from_fn(|which| measured.least(which) / (ticks * plan.flows()) as f64);
+    print!("{:<34}", format!("{}, {} flows, {ticks} ticks", plan.name, plan.flows()));
+    times.iter().for_each(|time| print!(" {time:>11.2}"));
+    for which in 1..N {
+        let (least, median) = measured.ratios(which);
+        print!("   {least:>9.2} {median:>6.2}");
+    }
+    println!();
+    times[0]
 }
 
 /// Says how the library's time a cell changed over a growth: it is linear if that stays about the same.
@@ -75,11 +121,19 @@ pub fn linear(growth: &str, times: &[f64]) {
 }
 
 /// One run, and nothing else that depends on the ticks: log and buffers are those of as many ticks as there may be.
-pub fn once(plan: &Plan, ticks: usize, run: Run) {
-    let (count, log) = (plan.flows() as u32, plan.log(MOST_TICKS));
-    let log = &log[..log.len() / MOST_TICKS * ticks];
-    let cells = MOST_TICKS * plan.flows();
-    let (mut marks, mut values) = (vec![0; cells], vec![0; cells]);
-    let answer = run(count, &plan.words, log, ticks as u32, &mut marks, &mut values);
-    println!("answer {answer:?}, last cells {:?} {:?}", black_box(&marks).last(), black_box(&values).last());
+/// Nothing if there are too many.
+pub fn once(plan: &Plan, ticks: usize, run: Run) -> Option<()> {
+    let (most, room) = match run.is_long {
+        true => (MOST_LONG_TICKS, baarqidho::WINDOW_TICKS),
+        false => (MOST_TICKS, MOST_TICKS),
+    };
+    if ticks > most {
+        return None;
+    }
+    let log = plan.log(most);
+    let log = &log[..log.len() / most * ticks];
+    let mut lent = Lent::new(plan, room);
+    let answer = (run.call)(plan.flows() as u32, &plan.words, log, ticks as u32, &mut lent);
+    println!("answer {answer:?}, last cells {:?} {:?}", black_box(&lent.marks).last(), black_box(&lent.values).last());
+    Some(())
 }

@@ -11,14 +11,14 @@ const CALLS: u32 = 2_000;
 /// The heading of a table of calls.
 pub fn heading(title: &str) {
     println!("\n{title}");
-    println!("{:<34} {:>8} {:>8} {:>8}   {:>14}   library/quick", "", "library", "", "quick", "");
+    println!("{:<34} {:>11} {:>11} {:>11}   {:>16}   {:>16}", "", "library", "", "quick", "", "library/quick");
 }
 
 fn line(call: &str, plan: &Plan, measured: &Measured<2>) {
     let [library, quick] = [0, 1].map(|which| measured.least(which) / f64::from(CALLS));
     let (ratio, median) = measured.ratios(1);
     let name = format!("{call}, {}, {} flows", plan.name, plan.flows());
-    println!("{name:<34} {library:>8.0} {:>8} {quick:>8.0}   {:>14}   {ratio:>6.2} {median:>6.2}", "", "");
+    println!("{name:<34} {library:>11.0} {:>11} {quick:>11.0}   {:>16}   {ratio:>9.2} {median:>6.2}", "", "");
 }
 
 /// Makes a call many times and sees to it that it always gives one count.

@@ -1,7 +1,7 @@
-//! Bench plans, quick: read, write, check, run and listing with constant work a cell and no heap.
+//! Bench plans, quick: read, write, check, run, long run and listing with constant work a cell and no heap.
 //!
 //! The run carries between ticks only what each kind of row needs, so that no cell looks through the trace again.
-//! It is what the proved library is measured against, with the run of [`mirror`] beside it.
+//! It is what the proved library is measured against, with the runs of [`mirror`] beside it.
 
 mod check;
 mod listing;
@@ -14,7 +14,7 @@ mod steps;
 pub use check::check;
 pub use listing::listing;
 pub use packed::{read, write};
-pub use run::run;
+pub use run::{long_run, run};
 
 include!("../../listing_max.rs");
 
@@ -50,6 +50,9 @@ impl Answer {
 
 /// The most flows a table has.
 const MOST_FLOWS: usize = 64;
+
+/// The ticks of a long run's window.
+const WINDOW: u32 = 8_192;
 
 /// The greatest period and phase.
 const LIMIT: u32 = 4095;

@@ -1,13 +1,13 @@
-//! The run of the proved library, step for step, in safe Rust: the same words carried from tick to tick, the same
-//! decisions in the same order.
+//! The run and the long run of the proved library, step for step, in safe Rust: the same words carried from tick to
+//! tick, the same decisions in the same order.
 //!
 //! It follows the proved code and not the paper, so it is no oracle and its agreement with the library says nothing
 //! about either. It is for the benchmark alone, which tells from it what the same algorithm takes in safe Rust. Where
 //! Rust can say a step in several ways this has the quickest one that was tried: a row's carried words in an array of
 //! their own, an operand's mark and value read together.
 
-use crate::plan::{runnable, Row};
-use crate::{Answer, MOST_FLOWS};
+use crate::plan::{long_runnable, runnable, Row};
+use crate::{Answer, MOST_FLOWS, WINDOW};
 
 /// The words that a row carries from tick to tick.
 type Held = [u32; 4];
@@ -71,19 +71,69 @@ pub fn run(plan_count: u32, words: &[u32], log: &[u32], ticks: u32, marks: &mut 
         Ok(ready) => ready,
         Err(refusal) => return refusal,
     };
+    run_ticks(rows, inputs, log, ticks, u32::MAX, 0, marks, values, &mut [])
+}
+
+/// Checks a plain table and runs it over a log for many ticks, into a window and tallies. The count of the answer is
+/// that of the ticks.
+pub fn long_run(
+    plan_count: u32,
+    words: &[u32],
+    log: &[u32],
+    ticks: u32,
+    marks: &mut [u8],
+    values: &mut [u32],
+    tallies: &mut [u32],
+) -> Answer {
+    let (rows, inputs) = match long_runnable(plan_count, words, log, ticks, marks, values, tallies) {
+        Ok(ready) => ready,
+        Err(refusal) => return refusal,
+    };
+    tallies[..2 * rows.len()].fill(0);
+    run_ticks(rows, inputs, log, ticks, WINDOW - 1, rows.len(), marks, values, tallies)
+}
+
+/// The ticks from 0 on, each at the place that the mask leaves of it. The first flows, so many, are tallied.
+#[allow(clippy::too_many_arguments)]
+fn run_ticks(
+    rows: &[Row],
+    inputs: usize,
+    log: &[u32],
+    ticks: u32,
+    mask: u32,
+    tallied: usize,
+    marks: &mut [u8],
+    values: &mut [u32],
+    tallies: &mut [u32],
+) -> Answer {
     let mut state = [[0; 4]; MOST_FLOWS];
     start(rows, &mut state);
     let (registers, laters) = (Listed::new(7, rows), Listed::new(10, rows));
     for t in 0..ticks {
-        collect(laters.flows(), rows, t, marks, values, &mut state);
-        let first = t as usize * rows.len();
+        collect(laters.flows(), rows, t, mask, marks, values, &mut state);
+        let first = (t & mask) as usize * rows.len();
         let at = t as usize * inputs;
-        let ended = tick(rows, registers.flows(), log, at, t, &mut state, &mut marks[first..], &mut values[first..]);
-        if let Ticked::Stopped(flow) = ended {
-            return Answer { number: 34, flow: flow as u32, tick: t, count: 0 };
+        let (marks, values) = (&mut marks[first..], &mut values[first..]);
+        match tick(rows, registers.flows(), log, at, t, &mut state, marks, values) {
+            Ticked::Full => tally(tallied, marks, values, tallies),
+            Ticked::Stopped(flow) => {
+                let worked_out = if rows[flow][0] == 7 { rows.len() } else { flow };
+                tally(tallied.min(worked_out), marks, values, tallies);
+                return Answer { number: 34, flow: flow as u32, tick: t, count: 0 };
+            }
         }
     }
     Answer::success(ticks as usize)
+}
+
+/// The first cells of a tick, so many, are tallied: how many values each flow had, and its last one.
+fn tally(cells: usize, marks: &[u8], values: &[u32], tallies: &mut [u32]) {
+    for ((tally, &mark), &value) in tallies.chunks_exact_mut(2).zip(&marks[..cells]).zip(&values[..cells]) {
+        if mark != 0 {
+            tally[0] += 1;
+            tally[1] = value;
+        }
+    }
 }
 
 /// The words that the rows carry into tick 0.
@@ -104,12 +154,12 @@ fn start(rows: &[Row], state: &mut [Held]) {
 }
 
 /// What tick t needs of earlier ticks: the cells of the later rows.
-fn collect(laters: &[usize], rows: &[Row], t: u32, marks: &[u8], values: &[u32], state: &mut [Held]) {
+fn collect(laters: &[usize], rows: &[Row], t: u32, mask: u32, marks: &[u8], values: &[u32], state: &mut [Held]) {
     for &flow in laters {
         let [_, a, d, _] = rows[flow];
         let held = &mut state[flow];
         if d <= t {
-            let place = (t - d) as usize * rows.len() + a as usize;
+            let place = ((t - d) & mask) as usize * rows.len() + a as usize;
             held[0] = u32::from(marks[place]);
             held[1] = values[place];
         } else {

@@ -1,9 +1,11 @@
 //! The tests that every plain table has to pass: numbers 11, 13, 14 and 15.
 
-use crate::{Answer, LIMIT, MOST_FLOWS};
+use crate::check::{derive, Clock};
+use crate::{Answer, LIMIT, MOST_FLOWS, WINDOW};
 
-/// The most ticks of a run.
+/// The most ticks of a run, and of a long run.
 const MOST_TICKS: u32 = 65_535;
+const MOST_LONG_TICKS: u32 = 4_194_303;
 
 /// A row in plain form: kind and three fields.
 pub type Row = [u32; 4];
@@ -62,6 +64,19 @@ pub fn test_row(flow: usize, flows: usize, &[kind, x, y, z]: &Row) -> Result<(),
     Ok(())
 }
 
+/// How many rows are inputs, the log having a word for each of them at each tick: numbers 31 and 32.
+#[inline]
+fn inputs(rows: &[Row], log: &[u32], ticks: u32, most: u32) -> Result<usize, Answer> {
+    if ticks > most {
+        return Err(Answer::number(31));
+    }
+    let inputs = rows.iter().filter(|row| row[0] == 0).count();
+    if log.len() != ticks as usize * inputs {
+        return Err(Answer::number(32));
+    }
+    Ok(inputs)
+}
+
 /// The rows of a plain table that is to run, and how many of them are inputs: numbers 11 to 15, 31, 32 and 33.
 #[inline]
 pub fn runnable<'a>(
@@ -73,16 +88,31 @@ pub fn runnable<'a>(
     values: &[u32],
 ) -> Result<(&'a [Row], usize), Answer> {
     let rows = rows(plan_count, words)?;
-    if ticks > MOST_TICKS {
-        return Err(Answer::number(31));
-    }
-    let inputs = rows.iter().filter(|row| row[0] == 0).count();
-    if log.len() != ticks as usize * inputs {
-        return Err(Answer::number(32));
-    }
+    let inputs = inputs(rows, log, ticks, MOST_TICKS)?;
     let cells = ticks as usize * rows.len();
     if marks.len() < cells || values.len() < cells {
         return Err(Answer::number(33));
+    }
+    Ok((rows, inputs))
+}
+
+/// The same for a long run, after the check: numbers 11 to 15, 21 to 23, 31, 32 and 35.
+#[inline]
+pub fn long_runnable<'a>(
+    plan_count: u32,
+    words: &'a [u32],
+    log: &[u32],
+    ticks: u32,
+    marks: &[u8],
+    values: &[u32],
+    tallies: &[u32],
+) -> Result<(&'a [Row], usize), Answer> {
+    let rows = rows(plan_count, words)?;
+    derive(rows, &mut [Clock::default(); MOST_FLOWS])?;
+    let inputs = inputs(rows, log, ticks, MOST_LONG_TICKS)?;
+    let cells = WINDOW as usize * rows.len();
+    if marks.len() < cells || values.len() < cells || tallies.len() < 2 * rows.len() {
+        return Err(Answer::number(35));
     }
     Ok((rows, inputs))
 }

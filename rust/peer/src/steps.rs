@@ -85,12 +85,30 @@ impl Now {
     }
 }
 
-/// What a tick sees of the ticks before, and of the log.
+/// Cells of earlier ticks, in the order in which they were worked out.
+#[derive(Clone, Copy)]
+pub struct Cells<'a> {
+    pub marks: &'a [u8],
+    pub values: &'a [u32],
+}
+
+impl Cells<'_> {
+    /// The cell that lies so many cells before the end, or by how many there are too few.
+    #[inline(always)]
+    fn back(self, cells: usize) -> Result<Cell, usize> {
+        match self.marks.len().checked_sub(cells) {
+            Some(place) => Ok(Cell::new(self.marks[place], self.values[place])),
+            None => Err(cells - self.marks.len()),
+        }
+    }
+}
+
+/// What a tick sees of the ticks before, and of the log. The older cells lie before the others.
 #[derive(Clone, Copy)]
 pub struct Past<'a> {
     pub tick: u32,
-    pub marks: &'a [u8],
-    pub values: &'a [u32],
+    pub cells: Cells<'a>,
+    pub older: Cells<'a>,
     pub log: &'a [u32],
 }
 
@@ -190,10 +208,10 @@ impl Step {
                 Some(cell.only_if(counts))
             }
             Step::Later { a, back: 0 } => Some(now.cell(*a)),
-            Step::Later { back, .. } => Some(match past.marks.len().checked_sub(*back as usize) {
-                Some(place) => Cell::new(past.marks[place], past.values[place]),
-                None => Cell::ABSENT,
-            }),
+            Step::Later { back, .. } => {
+                let cell = past.cells.back(*back as usize).or_else(|missing| past.older.back(missing));
+                Some(cell.unwrap_or(Cell::ABSENT))
+            }
             Step::Head { a, value, s, seen } => seen.advance(now.cell(*a), *value, *s, tick),
             Step::Tail { a, seen } => {
                 let cell = now.cell(*a);

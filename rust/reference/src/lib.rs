@@ -1,4 +1,4 @@
-//! Bench plans as the paper words them: read, write, check, run and listing, each rule one function.
+//! Bench plans as the paper words them: read, write, check, run, long run and listing, each rule one function.
 //!
 //! Nothing here is quick. Packed tables are read and written bit by bit, and the run keeps no state: it looks
 //! through the history of the trace for everything it needs. It is what the other implementations are held
@@ -8,6 +8,7 @@ mod bits;
 mod check;
 mod clock;
 mod listing;
+mod long;
 mod operators;
 mod packed;
 mod rows;
@@ -15,6 +16,7 @@ mod run;
 
 pub use check::check;
 pub use listing::listing;
+pub use long::long_run;
 pub use packed::{read, write};
 pub use run::run;
 

@@ -24,6 +24,12 @@ impl History {
         self.cell(a, t).is_some()
     }
 
+    /// Every cell with its tick and flow, in the order in which they were worked out.
+    pub fn cells(&self) -> impl Iterator<Item = (usize, usize, Cell)> + '_ {
+        let ticks = self.ticks.iter().enumerate();
+        ticks.flat_map(|(tick, cells)| cells.iter().enumerate().map(move |(flow, &cell)| (tick, flow, cell)))
+    }
+
     /// The ticks before t at which a flow was present, in order.
     fn earlier_presences(&self, a: usize, t: usize) -> impl DoubleEndedIterator<Item = usize> + '_ {
         (0..t).filter(move |&earlier| self.present(a, earlier))

@@ -6,7 +6,7 @@
  * reply is number, flow, tick and count, then the slices written into, as they are afterwards. All in the machine's
  * order of bytes.
  *
- * `declared.h` is made from `baarqidho.h` by the test: READ_DECLARED and the four others are the calls with the
+ * `declared.h` is made from `baarqidho.h` by the test: READ_DECLARED and the five others are the calls with the
  * header's own parameter names for arguments. A name that stands in another's place there is a wrong argument here.
  */
 #include <stdio.h>
@@ -16,7 +16,7 @@
 #include "declared.h"
 
 /* The slices of the request at hand. */
-static void *taken[4];
+static void *taken[5];
 static size_t takes;
 
 static void take(void *place, size_t size)
@@ -92,17 +92,31 @@ static void answer_check(void)
     GIVE(clocks);
 }
 
+/* Declares and takes what both runs have in common. */
+#define TAKE_RUN                         \
+    uint32_t plan_count = take_number(); \
+    TAKE(uint32_t, words);               \
+    TAKE(uint32_t, log);                 \
+    uint32_t ticks = take_number();      \
+    TAKE(uint8_t, marks);                \
+    TAKE(uint32_t, values)
+
 static void answer_run(void)
 {
-    uint32_t plan_count = take_number();
-    TAKE(uint32_t, words);
-    TAKE(uint32_t, log);
-    uint32_t ticks = take_number();
-    TAKE(uint8_t, marks);
-    TAKE(uint32_t, values);
+    TAKE_RUN;
     ANSWER(RUN_DECLARED);
     GIVE(marks);
     GIVE(values);
+}
+
+static void answer_long_run(void)
+{
+    TAKE_RUN;
+    TAKE(uint32_t, tallies);
+    ANSWER(LONG_RUN_DECLARED);
+    GIVE(marks);
+    GIVE(values);
+    GIVE(tallies);
 }
 
 static void answer_listing(void)
@@ -123,6 +137,7 @@ int main(void)
         case 'w': answer_write(); break;
         case 'c': answer_check(); break;
         case 'x': answer_run(); break;
+        case 'X': answer_long_run(); break;
         case 'l': answer_listing(); break;
         default: return 1;
         }

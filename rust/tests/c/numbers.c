@@ -11,9 +11,10 @@
 #define LENGTH(array) (sizeof(array) / sizeof((array)[0]))
 #define FILLING 0xA5
 
-/* What the calls write into; each uses one or both. */
+/* What the calls write into; each uses one of the first two, or both, and the long run all three. */
 static uint8_t bytes[BAARQIDHO_MAX_TICKS + 1];
 static uint32_t words[BAARQIDHO_MAX_TICKS + 1];
+static uint32_t tallies[BAARQIDHO_MAX_FLOWS];
 
 /* The answer of the last call, and what it was. */
 static uint32_t number, flow, tick, count;
@@ -26,6 +27,7 @@ static void begin(const char *name)
     number = flow = tick = count = 99;
     memset(bytes, FILLING, sizeof bytes);
     memset(words, FILLING, sizeof words);
+    memset(tallies, FILLING, sizeof tallies);
 }
 
 static void same(const char *part, uint32_t found, uint32_t expected)
@@ -44,23 +46,32 @@ static void answers(uint32_t of_number, uint32_t of_flow, uint32_t of_tick, uint
     same("count", count, of_count);
 }
 
-/* The buffers have exactly these bytes and words, and are as they were behind them. */
-static void wrote(const uint8_t *of_bytes, size_t bytes_len, const uint32_t *of_words, size_t words_len)
+/* A buffer has exactly these words, and is as it was behind them. */
+static void has(const char *part, const uint32_t *buffer, size_t len, const uint32_t *of_words, size_t words_len)
 {
     uint32_t filling;
     size_t place;
 
     memset(&filling, FILLING, sizeof filling);
+    for (place = 0; place < len; place++)
+        same(part, buffer[place], place < words_len ? of_words[place] : filling);
+}
+
+/* The buffers have exactly these bytes and words, and are as they were behind them. */
+static void wrote(const uint8_t *of_bytes, size_t bytes_len, const uint32_t *of_words, size_t words_len)
+{
+    size_t place;
+
     for (place = 0; place < LENGTH(bytes); place++)
         same("a byte", bytes[place], place < bytes_len ? of_bytes[place] : FILLING);
-    for (place = 0; place < LENGTH(words); place++)
-        same("a word", words[place], place < words_len ? of_words[place] : filling);
+    has("a word", words, LENGTH(words), of_words, words_len);
 }
 
 static void refuses(uint32_t of_number, uint32_t of_flow)
 {
     answers(of_number, of_flow, 0, 0);
     wrote(NULL, 0, NULL, 0);
+    has("a tally", tallies, LENGTH(tallies), NULL, 0);
 }
 
 /* Input (10, 0), and slower 2 of it. */
@@ -142,13 +153,16 @@ static void checks(const char *name, const uint32_t *of, size_t words_len, size_
 /* Inputs (10, 0) and (20, 0), and their sum. */
 static const uint32_t differing[] = {0, 10, 0, 0, 0, 20, 0, 0, 2, 0, 1, 0};
 
+/* Inputs (4, 1), (4, 1), when, when-not, and the tail of a sampled flow. */
+static const uint32_t sampled[] = {0, 4, 1, 0, 0, 4, 1, 0, 13, 0, 1, 0, 14, 2, 2, 0, 12, 2, 0, 0};
+
+/* Slower 63 of an input of period 66. */
+static const uint32_t beyond[] = {0, 1, 0, 0, 0, 66, 0, 0, 0, 1, 0, 0, 9, 1, 63, 0};
+
 static void all_of_check(void)
 {
-    /* Inputs (4, 1), (4, 1), when, when-not, and the tail of a sampled flow. */
-    static const uint32_t sampled[] = {0, 4, 1, 0, 0, 4, 1, 0, 13, 0, 1, 0, 14, 2, 2, 0, 12, 2, 0, 0};
     static const uint32_t clocks[] = {4, 1, 0, 0, 0, 0, 0, 4, 1, 0, 0, 0, 0, 0,
                                       4, 1, 1, 3, 0, 0, 0, 4, 1, 2, 3, 4, 0, 0};
-    static const uint32_t beyond[] = {0, 1, 0, 0, 0, 66, 0, 0, 0, 1, 0, 0, 9, 1, 63, 0};
 
     checks("check", sampled, 4 * BAARQIDHO_ROW_WORDS, 4 * BAARQIDHO_CLOCK_WORDS);
     answers(BAARQIDHO_OK, 0, 0, 4);
@@ -199,6 +213,75 @@ static void all_of_run(void)
     refuses(BAARQIDHO_TRACE_TOO_SHORT, 0);
 }
 
+/* The constant 1, a register of the sum, and the sum of both: tick t has 1, t and t + 1. */
+static const uint32_t counting[] = {1, 1, 1, 0, 7, 0, 0, 2, 2, 0, 1, 0};
+
+static void runs_long(const char *name, const uint32_t *of, size_t words_len, size_t log_len, uint32_t ticks,
+                      size_t marks_len, size_t values_len, size_t tallies_len)
+{
+    static const uint32_t log[] = {71, 72};
+
+    begin(name);
+    number = baarqidho_long_run((uint32_t)(words_len / BAARQIDHO_ROW_WORDS), of, words_len, log, log_len, ticks,
+                                bytes, marks_len, words, values_len, tallies, tallies_len, &flow, &tick, &count);
+}
+
+#define CELLS (3 * BAARQIDHO_WINDOW_TICKS)
+#define TALLIES (3 * BAARQIDHO_TALLY_WORDS)
+
+/* A long run of the counting plan, with more room than it needs. */
+static void counts(const char *name, uint32_t ticks)
+{
+    static uint8_t marks[CELLS];
+    static uint32_t values[CELLS];
+    uint32_t tally[TALLIES], t;
+    size_t cells = ticks < BAARQIDHO_WINDOW_TICKS ? 3 * ticks : CELLS, place;
+
+    for (t = 0; t < ticks; t++) {
+        place = 3 * (t % BAARQIDHO_WINDOW_TICKS);
+        memset(marks + place, 1, 3);
+        values[place] = 1;
+        values[place + 1] = t;
+        values[place + 2] = t + 1;
+    }
+    tally[0] = tally[2] = tally[4] = ticks;
+    tally[1] = ticks == 0 ? 0 : 1;
+    tally[3] = ticks == 0 ? 0 : ticks - 1;
+    tally[5] = ticks;
+    runs_long(name, counting, LENGTH(counting), 0, ticks, CELLS + 1, CELLS + 2, TALLIES + 3);
+    answers(BAARQIDHO_OK, 0, 0, ticks);
+    wrote(marks, cells, values, cells);
+    has("a tally", tallies, LENGTH(tallies), tally, TALLIES);
+}
+
+static void all_of_long_run(void)
+{
+    counts("long run of no ticks", 0);
+    counts("long run of few ticks", 5);
+    counts("long run past the window", BAARQIDHO_WINDOW_TICKS + 10);
+    counts("long run, all ticks", BAARQIDHO_MAX_LONG_TICKS);
+    runs_long("long run, too many ticks", counting, LENGTH(counting), 0, BAARQIDHO_MAX_LONG_TICKS + 1, CELLS, CELLS,
+              TALLIES);
+    refuses(BAARQIDHO_TOO_MANY_TICKS, 0);
+    runs_long("long run, log too long", counting, LENGTH(counting), 1, 5, CELLS, CELLS, TALLIES);
+    refuses(BAARQIDHO_BAD_LOG_LENGTH, 0);
+    runs_long("long run, marks too short", counting, LENGTH(counting), 0, 5, CELLS - 1, CELLS, TALLIES);
+    refuses(BAARQIDHO_WINDOW_TOO_SHORT, 0);
+    runs_long("long run, values too short", counting, LENGTH(counting), 0, 5, CELLS, CELLS - 1, TALLIES);
+    refuses(BAARQIDHO_WINDOW_TOO_SHORT, 0);
+    runs_long("long run, tallies too short", counting, LENGTH(counting), 0, 5, CELLS, CELLS, TALLIES - 1);
+    refuses(BAARQIDHO_WINDOW_TOO_SHORT, 0);
+    runs_long("long run, no words", counting, 0, 0, 5, CELLS, CELLS, TALLIES);
+    refuses(BAARQIDHO_BAD_COUNT, 0);
+    runs_long("long run, clocks differ", differing, LENGTH(differing), 2, 1, CELLS, CELLS, TALLIES);
+    refuses(BAARQIDHO_CLOCKS_DIFFER, 2);
+    runs_long("long run, period 4158", beyond, LENGTH(beyond), 0, 0, LENGTH(bytes), LENGTH(words), LENGTH(tallies));
+    refuses(BAARQIDHO_BEYOND_LIMITS, 3);
+    runs_long("long run, tail of a sampled flow", sampled, LENGTH(sampled), 0, 0, LENGTH(bytes), LENGTH(words),
+              LENGTH(tallies));
+    refuses(BAARQIDHO_NOT_PLAIN, 4);
+}
+
 static void lists(const char *name, const uint8_t *packed, size_t packed_len, size_t text_len)
 {
     begin(name);
@@ -226,6 +309,7 @@ int main(void)
     all_of_write();
     all_of_check();
     all_of_run();
+    all_of_long_run();
     all_of_listing();
     return is_wrong;
 }

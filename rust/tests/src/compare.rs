@@ -17,13 +17,45 @@ pub struct Outcome {
     pub bytes: Vec<u8>,
     /// The buffer of words: plain words, clocks or values.
     pub words: Vec<u32>,
+    /// The tallies of a long run.
+    pub tallies: Vec<u32>,
 }
 
 impl Outcome {
+    /// Buffers of these lengths as they are before a call.
+    fn before(lengths: Lengths) -> Self {
+        Outcome {
+            parts: Parts::default(),
+            bytes: pattern_bytes(lengths.bytes + GUARD),
+            words: pattern_words(lengths.words + GUARD),
+            tallies: pattern_words(lengths.tallies + GUARD),
+        }
+    }
+
     /// Whether every cell is as it was before the call.
     pub fn is_untouched(&self) -> bool {
-        self.bytes == pattern_bytes(self.bytes.len()) && self.words == pattern_words(self.words.len())
+        self.bytes == pattern_bytes(self.bytes.len())
+            && self.words == pattern_words(self.words.len())
+            && self.tallies == pattern_words(self.tallies.len())
     }
+}
+
+/// The lengths of the buffers that a call is lent.
+#[derive(Clone, Copy, Debug, Default, PartialEq, Eq)]
+pub struct Lengths {
+    /// How many bytes.
+    pub bytes: usize,
+    /// How many words.
+    pub words: usize,
+    /// How many words for tallies.
+    pub tallies: usize,
+}
+
+/// The buffers that a call is lent.
+struct Lent<'a> {
+    bytes: &'a mut [u8],
+    words: &'a mut [u32],
+    tallies: &'a mut [u32],
 }
 
 /// The byte that a place has before a call: neither 0 nor 1, so that no mark can hide in it.
@@ -48,33 +80,41 @@ fn pattern_words(len: usize) -> Vec<u32> {
 /// they left.
 fn compare(
     implementations: &[&Implementation],
-    lengths: (usize, usize),
+    lengths: Lengths,
     context: impl Fn() -> String,
-    call: impl Fn(&Implementation, &mut [u8], &mut [u32]) -> Parts,
+    call: impl Fn(&Implementation, Lent) -> Parts,
 ) -> Outcome {
     let outcome = |implementation: &Implementation| {
-        let (bytes_len, words_len) = lengths;
-        let mut bytes = pattern_bytes(bytes_len + GUARD);
-        let mut words = pattern_words(words_len + GUARD);
-        let parts = call(implementation, &mut bytes[..bytes_len], &mut words[..words_len]);
-        Outcome { parts, bytes, words }
+        let mut outcome = Outcome::before(lengths);
+        let lent = Lent {
+            bytes: &mut outcome.bytes[..lengths.bytes],
+            words: &mut outcome.words[..lengths.words],
+            tallies: &mut outcome.tallies[..lengths.tallies],
+        };
+        outcome.parts = call(implementation, lent);
+        outcome
     };
     let expected = outcome(implementations[0]);
     for implementation in &implementations[1..] {
         let found = outcome(implementation);
         if found != expected {
             let names = format!("{} against {}", implementation.name, implementations[0].name);
-            panic!(
-                "{names}: (number, flow, tick, count) {:?}, expected {:?}; first other byte {:?}, first other word {:?}; {}",
-                found.parts,
-                expected.parts,
-                first_difference(&found.bytes, &expected.bytes),
-                first_difference(&found.words, &expected.words),
-                context(),
-            );
+            panic!("{names}: {}; {}", differences(&found, &expected), context(),);
         }
     }
     expected
+}
+
+/// The parts of two outcomes, and the first cells in which they differ.
+fn differences(found: &Outcome, expected: &Outcome) -> String {
+    format!(
+        "(number, flow, tick, count) {:?}, expected {:?}; first other byte {:?}, word {:?} and tally {:?}",
+        found.parts,
+        expected.parts,
+        first_difference(&found.bytes, &expected.bytes),
+        first_difference(&found.words, &expected.words),
+        first_difference(&found.tallies, &expected.tallies),
+    )
 }
 
 /// The place at which two buffers of one length differ first, and what they have there.
@@ -83,43 +123,71 @@ fn first_difference<T: PartialEq + Copy + Debug>(found: &[T], expected: &[T]) ->
     Some((place, found[place], expected[place]))
 }
 
+/// Buffers of so many bytes and words.
+fn lengths(bytes: usize, words: usize) -> Lengths {
+    Lengths { bytes, words, tallies: 0 }
+}
+
 /// Reads packed bytes into a buffer of that many words.
 pub fn read(of: &[&Implementation], packed: &[u8], words_len: usize) -> Outcome {
     let context = || format!("read of {packed:?} into {words_len} words");
-    compare(of, (0, words_len), context, |of, _, words| (of.read)(packed, words))
+    compare(of, lengths(0, words_len), context, |of, lent| (of.read)(packed, lent.words))
 }
 
 /// Writes a plan into a buffer of that many bytes.
 pub fn write(of: &[&Implementation], plan: &Plan, packed_len: usize) -> Outcome {
     let context = || format!("write of {plan:?} into {packed_len} bytes");
-    compare(of, (packed_len, 0), context, |of, packed, _| (of.write)(plan.count, &plan.words, packed))
+    compare(of, lengths(packed_len, 0), context, |of, lent| (of.write)(plan.count, &plan.words, lent.bytes))
 }
 
 /// Checks a plan with a buffer of that many words.
 pub fn check(of: &[&Implementation], plan: &Plan, clocks_len: usize) -> Outcome {
     let context = || format!("check of {plan:?} into {clocks_len} words");
-    compare(of, (0, clocks_len), context, |of, _, clocks| (of.check)(plan.count, &plan.words, clocks))
+    compare(of, lengths(0, clocks_len), context, |of, lent| (of.check)(plan.count, &plan.words, lent.words))
 }
 
 /// Lists packed bytes into a buffer of that many bytes.
 pub fn listing(of: &[&Implementation], packed: &[u8], text_len: usize) -> Outcome {
     let context = || format!("listing of {packed:?} into {text_len} bytes");
-    compare(of, (text_len, 0), context, |of, text, _| (of.listing)(packed, text))
+    compare(of, lengths(text_len, 0), context, |of, lent| (of.listing)(packed, lent.bytes))
+}
+
+/// A run in words, for messages.
+fn of_run(plan: &Plan, log: &[u32], ticks: u32) -> String {
+    let shown = &log[..log.len().min(200)];
+    format!("{plan:?}, {ticks} ticks, log of {} words {shown:?}", log.len())
 }
 
 /// Runs a plan over a log with buffers of so many marks and values.
-pub fn run(of: &[&Implementation], plan: &Plan, log: &[u32], ticks: u32, lengths: (usize, usize)) -> Outcome {
-    let context = || {
-        let shown = &log[..log.len().min(200)];
-        format!("run of {plan:?}, {ticks} ticks, traces {lengths:?}, log of {} words {shown:?}", log.len())
-    };
-    compare(of, lengths, context, |of, marks, values| (of.run)(plan.count, &plan.words, log, ticks, marks, values))
+pub fn run(of: &[&Implementation], plan: &Plan, log: &[u32], ticks: u32, (marks, values): (usize, usize)) -> Outcome {
+    let context = || format!("run of {}, traces of {marks} and {values}", of_run(plan, log, ticks));
+    compare(of, lengths(marks, values), context, |of, lent| {
+        (of.run)(plan.count, &plan.words, log, ticks, lent.bytes, lent.words)
+    })
 }
 
 /// Runs a plan over a log with traces of exactly the cells needed.
 pub fn run_exactly(of: &[&Implementation], plan: &Plan, log: &[u32], ticks: u32) -> Outcome {
     let cells = ticks as usize * plan.words.len() / 4;
     run(of, plan, log, ticks, (cells, cells))
+}
+
+/// The buffers that a long run of so many flows needs: marks, values and tallies.
+pub fn window(flows: usize) -> Lengths {
+    Lengths { bytes: 8_192 * flows, words: 8_192 * flows, tallies: 2 * flows }
+}
+
+/// Makes a long run of a plan over a log with buffers of these lengths.
+pub fn long_run(of: &[&Implementation], plan: &Plan, log: &[u32], ticks: u32, lengths: Lengths) -> Outcome {
+    let context = || format!("long run of {}, {lengths:?}", of_run(plan, log, ticks));
+    compare(of, lengths, context, |of, lent| {
+        (of.long_run)(plan.count, &plan.words, log, ticks, lent.bytes, lent.words, lent.tallies)
+    })
+}
+
+/// Makes a long run of a plan over a log with buffers of exactly the cells needed.
+pub fn long_run_exactly(of: &[&Implementation], plan: &Plan, log: &[u32], ticks: u32) -> Outcome {
+    long_run(of, plan, log, ticks, window(plan.words.len() / 4))
 }
 
 /// Whether a trace has exactly the first `cells` cells written, each a mark 0 or 1 and value 0 where absent, and the
@@ -129,4 +197,23 @@ pub fn written_up_to(outcome: &Outcome, cells: usize) -> bool {
     marks.into_iter().all(|(&mark, &value)| mark == 1 || mark == 0 && value == 0)
         && (cells..outcome.bytes.len()).all(|place| outcome.bytes[place] == pattern_byte(place))
         && (cells..outcome.words.len()).all(|place| outcome.words[place] == pattern_word(place))
+}
+
+/// A long run left in buffers of these lengths what it has to keep of a trace of all its ticks: tick t at place t
+/// modulo 8,192, and for each flow how many values it had and its last one.
+pub fn keeps(long: &Outcome, lengths: Lengths, trace: &Outcome, flows: usize, ticks: usize) {
+    let mut expected = Outcome { parts: trace.parts, ..Outcome::before(lengths) };
+    expected.tallies[..2 * flows].fill(0);
+    for tick in 0..ticks {
+        for flow in 0..flows {
+            let (from, to) = (tick * flows + flow, tick % 8_192 * flows + flow);
+            let (mark, value) = (trace.bytes[from], trace.words[from]);
+            (expected.bytes[to], expected.words[to]) = (mark, value);
+            if mark == 1 {
+                expected.tallies[2 * flow] += 1;
+                expected.tallies[2 * flow + 1] = value;
+            }
+        }
+    }
+    assert!(*long == expected, "long run against run: {}", differences(long, &expected));
 }

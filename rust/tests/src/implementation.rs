@@ -3,7 +3,7 @@
 /// Number, flow, tick and count of an answer.
 pub type Parts = (u32, u32, u32, u32);
 
-/// An implementation of the five calls.
+/// An implementation of the six calls.
 #[derive(Debug)]
 pub struct Implementation {
     /// Its name, for messages.
@@ -17,6 +17,9 @@ pub struct Implementation {
     /// Count, words, log and ticks to marks and values.
     #[allow(clippy::type_complexity)]
     pub run: fn(u32, &[u32], &[u32], u32, &mut [u8], &mut [u32]) -> Parts,
+    /// Count, words, log and ticks to marks, values and tallies.
+    #[allow(clippy::type_complexity)]
+    pub long_run: fn(u32, &[u32], &[u32], u32, &mut [u8], &mut [u32], &mut [u32]) -> Parts,
     /// Packed bytes to text.
     pub listing: fn(&[u8], &mut [u8]) -> Parts,
 }
@@ -29,6 +32,9 @@ macro_rules! implementation {
             write: |count, words, packed| parts!($krate::write(count, words, packed)),
             check: |count, words, clocks| parts!($krate::check(count, words, clocks)),
             run: |count, words, log, ticks, marks, values| parts!($krate::run(count, words, log, ticks, marks, values)),
+            long_run: |count, words, log, ticks, marks, values, tallies| {
+                parts!($krate::long_run(count, words, log, ticks, marks, values, tallies))
+            },
             listing: |packed, text| parts!($krate::listing(packed, text)),
         }
     };
@@ -50,16 +56,19 @@ pub static REFERENCE: Implementation = implementation!(reference);
 /// The quick one.
 pub static PEER: Implementation = implementation!(peer);
 
-/// The quick one with the run that takes the library's own steps: for the benchmark, and held against the paper so
+/// The quick one with the runs that take the library's own steps: for the benchmark, and held against the paper so
 /// that it measures equal work.
 pub static MIRROR: Implementation = Implementation {
     name: "mirror",
     run: |count, words, log, ticks, marks, values| parts!(peer::mirror::run(count, words, log, ticks, marks, values)),
+    long_run: |count, words, log, ticks, marks, values, tallies| {
+        parts!(peer::mirror::long_run(count, words, log, ticks, marks, values, tallies))
+    },
     ..implementation!(peer)
 };
 
 /// All, for short runs: the first is what the others are held against.
 pub static ALL: [&Implementation; 3] = [&REFERENCE, &LIBRARY, &PEER];
 
-/// Those that are quick enough for long runs.
+/// Those that are quick enough for runs of many ticks.
 pub static QUICK: [&Implementation; 2] = [&PEER, &LIBRARY];

@@ -78,10 +78,12 @@ impl Bridge {
         self.0.stdout.as_mut().expect("its output").read_exact(bytes).expect("the program replies");
     }
 
-    fn word(&mut self) -> u32 {
-        let mut word = [0; 4];
-        self.bytes(&mut word);
-        u32::from_ne_bytes(word)
+    fn words(&mut self, words: &mut [u32]) {
+        let mut bytes = vec![0; 4 * words.len()];
+        self.bytes(&mut bytes);
+        for (word, bytes) in words.iter_mut().zip(bytes.as_chunks().0) {
+            *word = u32::from_ne_bytes(*bytes);
+        }
     }
 }
 
@@ -109,27 +111,32 @@ impl Request {
         words.iter().copied().fold(request, Request::number)
     }
 
-    /// Makes the call, which writes into these bytes and words.
-    fn answer(self, bytes: &mut [u8], words: &mut [u32]) -> Parts {
+    /// Makes the call, which writes into these bytes and these slices of words.
+    fn answer<const N: usize>(self, bytes: &mut [u8], words: [&mut [u32]; N]) -> Parts {
         static BRIDGE: OnceLock<Mutex<Bridge>> = OnceLock::new();
         let mut bridge = BRIDGE.get_or_init(|| Mutex::new(Bridge::new())).lock().expect("no call failed before");
         bridge.ask(&self.0);
-        let parts = (bridge.word(), bridge.word(), bridge.word(), bridge.word());
+        let mut parts = [0; 4];
+        bridge.words(&mut parts);
         bridge.bytes(bytes);
-        words.iter_mut().for_each(|word| *word = bridge.word());
-        parts
+        words.into_iter().for_each(|words| bridge.words(words));
+        parts.into()
     }
 }
 
 /// The proved library through the header.
 pub static C: Implementation = Implementation {
     name: "C",
-    read: |packed, words| Request::new(b'r').bytes(packed).words(words).answer(&mut [], words),
-    write: |count, words, packed| Request::new(b'w').number(count).words(words).bytes(packed).answer(packed, &mut []),
-    check: |count, words, clocks| Request::new(b'c').number(count).words(words).words(clocks).answer(&mut [], clocks),
+    read: |packed, words| Request::new(b'r').bytes(packed).words(words).answer(&mut [], [words]),
+    write: |count, words, packed| Request::new(b'w').number(count).words(words).bytes(packed).answer(packed, []),
+    check: |count, words, clocks| Request::new(b'c').number(count).words(words).words(clocks).answer(&mut [], [clocks]),
     run: |count, words, log, ticks, marks, values| {
         let plan = Request::new(b'x').number(count).words(words);
-        plan.words(log).number(ticks).bytes(marks).words(values).answer(marks, values)
+        plan.words(log).number(ticks).bytes(marks).words(values).answer(marks, [values])
     },
-    listing: |packed, text| Request::new(b'l').bytes(packed).bytes(text).answer(text, &mut []),
+    long_run: |count, words, log, ticks, marks, values, tallies| {
+        let plan = Request::new(b'X').number(count).words(words).words(log).number(ticks);
+        plan.bytes(marks).words(values).words(tallies).answer(marks, [values, tallies])
+    },
+    listing: |packed, text| Request::new(b'l').bytes(packed).bytes(text).answer(text, []),
 };

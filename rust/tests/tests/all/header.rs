@@ -1,4 +1,4 @@
-//! The C header: its constants and numbers, its five calls, and its example.
+//! The C header: its constants and numbers, its six calls, and its example.
 
 use std::io::Write;
 use std::path::Path;
@@ -25,8 +25,11 @@ fn constants_agree() {
     assert_eq!(constant("BAARQIDHO_PACKED_MAX"), baarqidho::PACKED_MAX);
     assert_eq!(constant("BAARQIDHO_MAX_FLOWS"), baarqidho::MAX_FLOWS);
     assert_eq!(constant("BAARQIDHO_MAX_TICKS"), baarqidho::MAX_TICKS as usize);
+    assert_eq!(constant("BAARQIDHO_MAX_LONG_TICKS"), baarqidho::MAX_LONG_TICKS as usize);
+    assert_eq!(constant("BAARQIDHO_WINDOW_TICKS"), baarqidho::WINDOW_TICKS);
     assert_eq!(constant("BAARQIDHO_ROW_WORDS"), baarqidho::ROW_WORDS);
     assert_eq!(constant("BAARQIDHO_CLOCK_WORDS"), baarqidho::CLOCK_WORDS);
+    assert_eq!(constant("BAARQIDHO_TALLY_WORDS"), baarqidho::TALLY_WORDS);
 }
 
 /// A length follows its slice, and flow, tick and count come last: also where no answer can tell two of them apart, as
@@ -34,7 +37,8 @@ fn constants_agree() {
 #[test]
 fn names_of_parameters() {
     let calls = declarations();
-    assert_eq!(calls.iter().map(|call| &call.0[..]).collect::<Vec<_>>(), ["read", "write", "check", "run", "listing"]);
+    let names: Vec<&str> = calls.iter().map(|call| &call.0[..]).collect();
+    assert_eq!(names, ["read", "write", "check", "run", "long_run", "listing"]);
     for (call, names) in calls {
         assert!(names.ends_with(&["flow", "tick", "count"].map(String::from)), "{call}: {names:?}");
         for (slice, length) in names.iter().zip(&names[1..]).filter(|pair| pair.1.ends_with("_len")) {
@@ -73,7 +77,7 @@ fn numbers_from_cpp() {
     printed(&compiled(&["c++", "-x", "c++", "-std=c++11"], "rust/tests/c/numbers.c"));
 }
 
-/// All five calls on random plans, faults and damaged bytes: C has every part and every cell that Rust has.
+/// All six calls on random plans, faults and damaged bytes: C has every part and every cell that Rust has.
 #[test]
 fn calls_from_c() {
     mixture(Rng::new(81), &[&LIBRARY, &C], rounds(10_000));

@@ -1,18 +1,27 @@
 //! Every limit, and one past it.
 
-use tests::compare::{check, listing, read, run, run_exactly, write, written_up_to};
+use tests::compare::{check, listing, long_run, read, run, run_exactly, write, written_up_to, Lengths, Outcome};
 use tests::implementation::{Parts, ALL, QUICK};
 use tests::rng::Rng;
 use tests::{Plan, LISTING_MAX};
 
-/// What the check answers.
-fn checked(rows: &[[u32; 4]]) -> Parts {
-    check(&ALL, &Plan::of(rows), 7 * rows.len()).parts
+/// A long run without ticks, log or buffers: refused by 35 where nothing else is wrong.
+fn without_buffers(plan: &Plan) -> Outcome {
+    long_run(&ALL, plan, &[], 0, Lengths::default())
 }
 
-/// Write, check and run refuse a plain table alike, by number and row, and touch nothing.
+/// What the check answers. A long run hands on its refusal.
+fn checked(rows: &[[u32; 4]]) -> Parts {
+    let plan = Plan::of(rows);
+    let parts = check(&ALL, &plan, 7 * rows.len()).parts;
+    assert_eq!(without_buffers(&plan).parts, if parts.0 == 0 { (35, 0, 0, 0) } else { parts }, "{rows:?}");
+    parts
+}
+
+/// Write, check, run and long run refuse a plain table alike, by number and row, and touch nothing.
 fn refused_plan(plan: &Plan, number: u32, row: u32) {
-    for outcome in [write(&ALL, plan, 489), check(&ALL, plan, 489), run(&ALL, plan, &[1, 2], 2, (9, 8))] {
+    let run = run(&ALL, plan, &[1, 2], 2, (9, 8));
+    for outcome in [write(&ALL, plan, 489), check(&ALL, plan, 489), run, without_buffers(plan)] {
         assert_eq!(outcome.parts, (number, row, 0, 0), "{plan:?}");
         assert!(outcome.is_untouched(), "{plan:?}");
     }

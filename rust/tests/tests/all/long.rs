@@ -1,4 +1,4 @@
-//! Long runs: the library against the quick implementation, which the short runs hold against the paper.
+//! Runs of many ticks: the library against the quick implementation, which the short runs hold against the paper.
 
 use tests::compare::{run, run_exactly};
 use tests::faults::plant;

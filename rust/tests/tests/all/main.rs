@@ -3,6 +3,7 @@
 mod bridge;
 mod clashes;
 mod demand;
+mod endurance;
 mod extremes;
 mod header;
 mod limits;
@@ -15,4 +16,5 @@ mod readme;
 mod short;
 mod summary;
 mod traces;
+mod window;
 mod wrapper;

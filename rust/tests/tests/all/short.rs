@@ -1,6 +1,6 @@
 //! Many plans with short runs: all calls of all implementations, every cell compared.
 
-use tests::compare::{check, listing, read, run, write};
+use tests::compare::{check, listing, long_run, read, run, window, write, Lengths};
 use tests::faults::{any_rows, disturb, plant};
 use tests::generate::{accepted, Clock, Shape};
 use tests::implementation::{Implementation, ALL};
@@ -29,6 +29,7 @@ pub fn every_call(rng: &mut Rng, of: &[&Implementation], plan: &Plan, tally: &mu
     assert!(checked.parts.0 == 0 || checked.is_untouched());
 
     short_run(rng, of, plan, tally);
+    short_long_run(rng, of, plan, tally);
 
     let written = write(of, plan, 520);
     tally.add("write", written.parts.0);
@@ -42,19 +43,23 @@ pub fn every_call(rng: &mut Rng, of: &[&Implementation], plan: &Plan, tally: &mu
     Some(written.bytes[..bytes].to_vec())
 }
 
-/// A run of few ticks, its log and traces now and then of the wrong length, its ticks now and then too many.
-fn short_run(rng: &mut Rng, of: &[&Implementation], plan: &Plan, tally: &mut Tally) {
-    let flows = plan.words.len() / 4;
+/// Few ticks, now and then one of the others, and a log for the first 64 of them, now and then of the wrong length.
+pub fn ticks_and_log(rng: &mut Rng, plan: &Plan, others: &[u32]) -> (u32, Vec<u32>) {
     let ticks = match rng.below(50) {
         0 => 0,
         1 => 1,
-        2 => rng.pick(&[65_535, 65_536, 65_537, u32::MAX]),
+        2 => rng.pick(others),
         _ => rng.below(rng.clone().pick(&[8, 24, 48])) as u32,
     };
-    let held = ticks.min(64) as usize;
-    let log_len = if rng.percent(95) { held * plan.inputs() } else { rng.around(held * plan.inputs()) };
-    let log = rng.log(log_len);
-    let cells = held * flows;
+    let words = ticks.min(64) as usize * plan.inputs();
+    let log_len = if rng.percent(95) { words } else { rng.around(words) };
+    (ticks, rng.log(log_len))
+}
+
+/// A run of few ticks, its log and traces now and then of the wrong length, its ticks now and then too many.
+fn short_run(rng: &mut Rng, of: &[&Implementation], plan: &Plan, tally: &mut Tally) {
+    let (ticks, log) = ticks_and_log(rng, plan, &[65_535, 65_536, 65_537, u32::MAX]);
+    let cells = ticks.min(64) as usize * (plan.words.len() / 4);
     let lengths = match rng.percent(80) {
         true => (cells, cells),
         false => (rng.around(cells), rng.around(cells)),
@@ -62,6 +67,19 @@ fn short_run(rng: &mut Rng, of: &[&Implementation], plan: &Plan, tally: &mut Tal
     let outcome = run(of, plan, &log, ticks, lengths);
     tally.add("run", outcome.parts.0);
     assert!(matches!(outcome.parts.0, 0 | 34) || outcome.is_untouched());
+}
+
+/// A long run of few ticks. Its window is long and takes time to compare, so that it is mostly too short here;
+/// `endurance` has the others.
+fn short_long_run(rng: &mut Rng, of: &[&Implementation], plan: &Plan, tally: &mut Tally) {
+    let (ticks, log) = ticks_and_log(rng, plan, &[4_194_304, 4_194_305, u32::MAX]);
+    let lengths = match rng.below(400) {
+        0 => window(plan.words.len() / 4),
+        _ => Lengths { bytes: rng.below(64), words: rng.below(64), tallies: rng.below(130) },
+    };
+    let outcome = long_run(of, plan, &log, ticks, lengths);
+    tally.add("long run", outcome.parts.0);
+    assert!(outcome.parts.0 == 0 || outcome.is_untouched());
 }
 
 /// Sound plans: accepted with the clocks that they were made to have, read back as written, and never a clash.

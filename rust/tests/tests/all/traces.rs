@@ -6,7 +6,7 @@ use tests::Plan;
 
 /// A trace in writing: ticks parted by `|`, and in each tick the value of every flow, `.` where it is absent and `_`
 /// where its cell is left as it was.
-fn in_writing(outcome: &Outcome, flows: usize, ticks: usize) -> String {
+pub fn in_writing(outcome: &Outcome, flows: usize, ticks: usize) -> String {
     let cell = |place: usize| match (outcome.bytes[place], outcome.words[place]) {
         (1, value) => value.to_string(),
         (0, 0) => ".".to_string(),

@@ -2,8 +2,8 @@
 
 use std::error::Error;
 
-use baarqidho::{list, Answer, Clash, Plan, Refusal, Row, RunError};
-use tests::compare::{run_exactly, written_up_to};
+use baarqidho::{list, Answer, Clash, LongRun, Plan, Refusal, Row, RunError};
+use tests::compare::{long_run_exactly, run_exactly, written_up_to, Outcome};
 use tests::faults::any_rows;
 use tests::implementation::LIBRARY;
 use tests::rng::Rng;
@@ -136,6 +136,89 @@ fn traces_of_random_plans() {
 }
 
 #[test]
+fn long_runs() {
+    // Flow 0 has values at ticks 1, 4, 7 and so on, by turns 0 and 3; flows 2 and 3 where they are 3; flow 4 never.
+    let rows = [[0, 3, 1, 0], [10, 0, 4, 0], [13, 0, 0, 0], [13, 2, 2, 0], [14, 3, 3, 0]];
+    let plan = Plan::new(rows.concat());
+    let log: Vec<u32> = (0..20_000).map(|tick| if tick % 2 == 0 { 3 } else { 0 }).collect();
+    let run = plan.long_run(&log, 20_000).expect("accepted");
+    assert_eq!((run.flows(), run.ticks(), run.first_tick()), (5, 20_000, 11_808));
+    assert_eq!([0, 1, 2, 3, 4, 5].map(|flow| run.count(flow)), [6_667, 6_665, 3_333, 3_333, 0, 0]);
+    assert_eq!([0, 1, 2, 3].map(|flow| run.last(flow)), [Some(0), Some(0), Some(3), Some(3)]);
+    assert_eq!((run.last(4), run.last(5), run.last(usize::MAX)), (None, None, None));
+    assert_eq!((run.value(19_999, 0), run.value(19_996, 0), run.value(19_998, 0)), (Some(0), Some(3), None));
+    assert_eq!((run.value(11_809, 0), run.value(11_810, 1), run.value(11_812, 2)), (Some(0), Some(3), Some(3)));
+    assert_eq!((run.value(11_808, 0), run.value(11_809, 2), run.value(11_806, 0)), (None, None, None));
+    assert!(run.has(11_808, 0) && run.has(19_999, 4) && !run.has(11_807, 0) && !run.has(20_000, 0));
+    assert!(!run.has(19_999, 5) && !run.has(usize::MAX, 0) && !run.has(12_000, usize::MAX));
+
+    let few = plan.long_run(&log[..5], 5).expect("accepted");
+    assert_eq!((few.ticks(), few.first_tick(), few.count(0), few.last(1)), (5, 0, 2, None));
+    assert!(few.has(0, 0) && few.has(4, 4) && !few.has(5, 0) && !few.has(8_192, 0));
+    let none = plan.long_run(&[], 0).expect("accepted");
+    assert_eq!((none.ticks(), none.first_tick(), none.count(0), none.last(0)), (0, 0, 0, None));
+    assert!(!none.has(0, 0));
+    let all = Plan::new([1, 8, 1, 0]).long_run(&[], 4_194_303).expect("accepted");
+    assert_eq!((all.ticks(), all.first_tick(), all.count(0), all.last(0)), (4_194_303, 4_186_111, 4_194_303, Some(8)));
+}
+
+#[test]
+fn errors_of_a_long_run() {
+    let plan = merged();
+    assert_eq!(plan.long_run(&[0; 20], 9), Err(Refusal::BadLogLength));
+    assert_eq!(plan.long_run(&[0; 20], 4_194_304), Err(Refusal::TooManyTicks));
+    assert_eq!(plan.long_run(&[], u32::MAX), Err(Refusal::TooManyTicks));
+    assert_eq!(Plan::new([0; 4 * 65]).long_run(&[], 0), Err(Refusal::BadCount));
+    assert_eq!(Plan::new([]).long_run(&[], 0), Err(Refusal::BadCount));
+    assert_eq!(Plan::new([0, 1, 0]).long_run(&[], 0), Err(Refusal::BadCount));
+    let differing = Plan::new([0, 10, 0, 0, 0, 20, 0, 0, 2, 0, 1, 0]);
+    assert_eq!(differing.long_run(&[0; 22], 11), Err(Refusal::ClocksDiffer { flow: 2 }));
+    let short = baarqidho::long_run(1, &[1, 5, 1, 0], &[], 0, &mut [], &mut [], &mut []);
+    assert_eq!(short.result(), Err(Refusal::WindowTooShort));
+}
+
+/// The same as the call over slices left: each cell of the window, each count and each last value.
+fn same_window(run: &LongRun, outcome: &Outcome) {
+    let (flows, ticks) = (run.flows(), run.ticks());
+    for tick in run.first_tick()..ticks {
+        for flow in 0..flows {
+            let place = tick % 8_192 * flows + flow;
+            let value = (outcome.bytes[place] == 1).then_some(outcome.words[place]);
+            assert_eq!((run.value(tick, flow), run.has(tick, flow)), (value, true), "tick {tick}, flow {flow}");
+        }
+    }
+    for flow in 0..flows {
+        let tally = [run.count(flow) as u32, run.last(flow).unwrap_or(0)];
+        assert_eq!(tally, outcome.tallies[2 * flow..][..2], "flow {flow}");
+    }
+    assert!(ticks <= 8_192 || !run.has(ticks - 8_193, 0));
+    assert!(!run.has(ticks, 0) && !run.has(ticks.saturating_sub(1), flows));
+}
+
+#[test]
+fn long_runs_of_random_plans() {
+    let mut rng = Rng::new(96);
+    let (mut ended, plans) = (0, rounds(2_000));
+    for round in 0..plans {
+        let mut plan = if round % 2 == 0 { any_rows(&mut rng) } else { faulty(&mut rng) };
+        plan.count = plan.words.len() as u32 / 4;
+        let ticks = if round % 20 == 0 { rng.range(8_190, 17_000) } else { rng.range(0, 20) };
+        let log = rng.log(ticks as usize * plan.inputs());
+        let outcome = long_run_exactly(&[&LIBRARY], &plan, &log, ticks);
+        let (number, flow, tick, count) = outcome.parts;
+        match Plan::new(&plan.words[..]).long_run(&log, ticks) {
+            Ok(run) => {
+                assert_eq!((number, run.ticks()), (0, count as usize));
+                same_window(&run, &outcome);
+                ended += 1;
+            }
+            Err(refusal) => assert_eq!(Err(refusal), Answer { number, flow, tick, count }.result(), "{plan:?}"),
+        }
+    }
+    assert!(ended > plans / 10, "{ended}");
+}
+
+#[test]
 fn errors_of_a_run() {
     let plan = Plan::new([0, 10, 0, 0, 0, 20, 0, 0, 2, 0, 1, 0]);
     let error = plan.run(&[0; 22], 11).expect_err("a clash");
@@ -154,7 +237,7 @@ fn errors_of_a_run() {
 #[test]
 fn numbers_and_refusals() {
     let mut meanings = Vec::new();
-    for number in (10..=16).chain(21..=23).chain(31..=34) {
+    for number in (10..=16).chain(21..=23).chain(31..=35) {
         let refusal = Answer { number, flow: 3, tick: 5, count: 0 }.result().expect_err("a refusal");
         assert_eq!(refusal.number(), number);
         assert!(!matches!(refusal, Refusal::Other { .. }));
