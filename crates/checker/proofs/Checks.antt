@@ -111,7 +111,9 @@ whole-refused m words old why f e = (rw e, rw e)
 
 -- the words that were copied
 pub whole-copied : (m : ℕ) (words old zeros buffer new : List ℕ) (rows : List Row) (ks : List Clock) → Table m words rows → clocksOf rows ≡ good ks
-    → checking m words (length old) ≡ clocksOf rows → buffer ≡ over (clocksWords ks) zeros → new ≡ take (clockSize * m) buffer ++ drop (clockSize * m) old → new ≡ clocksAfter m words old
+    → checking m words (length old) ≡ clocksOf rows → buffer ≡ over (clocksWords ks) zeros
+    → new ≡ take (clockSize * m) buffer ++ drop (clockSize * m) old → new ≡ clocksAfter m words old
 whole-copied m words old zeros buffer new rows ks t e w held copied =
     let n : length (clocksWords ks) ≡ clockSize * m = omega (arith, words-length ks, all-clocks rows ks e, t .size) in
-    rw (w, e) (copied ∙ ap₂ _++_ (ap (take (clockSize * m)) held ∙ take-at (clocksWords ks) (drop (length (clocksWords ks)) zeros) (clockSize * m) n) (ap (λ (i : ℕ). drop i old) (sym n)))
+    rw (w, e) (copied ∙ ap₂ _++_ (ap (take (clockSize * m)) held ∙ take-at (clocksWords ks) (drop (length (clocksWords ks)) zeros) (clockSize * m) n)
+    (ap (λ (i : ℕ). drop i old) (sym n)))
