@@ -50,7 +50,8 @@ clocks-length js (r ∷ rs) ks e =
     let x = then-good (clockOf (clockAt js) (length js) r) (λ k. clocksFrom (js ++ (k ∷ [])) rs) ks e in
     omega (arith, clocks-length (js ++ (x .0 ∷ [])) rs ks (x .2), length-append js (x .0 ∷ []))
 
-module _ (m : ℕ) (words : List ℕ) (rows : List Row) (t : Table m words rows) (ks : List Clock) (e : clocksFrom [] rows ≡ good ks) (old buffer : List ℕ) (held : buffer ≡ over (clocksWords ks) old) (within : AllWithin ks) where
+module _ (m : ℕ) (words : List ℕ) (rows : List Row) (t : Table m words rows) (ks : List Clock) (e : clocksFrom [] rows ≡ good ks)
+    (old buffer : List ℕ) (held : buffer ≡ over (clocksWords ks) old) (within : AllWithin ks) where
   fits-same : (b a : ℕ) → b < m → a < m → Kept.fitsIn buffer b a ≡ sourceFits ks b a
   fits-same b a p q =
       let n : length ks ≡ m = omega (arith, clocks-length [] rows ks e, t .size) in
