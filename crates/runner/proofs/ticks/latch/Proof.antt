@@ -23,20 +23,35 @@ abbrev μ-loop : tie.MeasureT-loop
 table-at : (c : tie.Start Inv-loop μ-loop) → Table (c .args .n) (c .args .words .now) (rowsIn (c .args .n) (c .args .words .now))
 table-at c = plain-table (c .args .n) (c .args .words .now) (c .pre .0)
 
--- the next register's number, beat and source are low
+-- the next register's number, beat and source are low, and the parts have room for them
 low : (c : tie.In-loop Inv-loop μ-loop) → (
-    let at-loop = c .before in
-    let start = at-loop .before .before .before .before .before .before in
-    let args = start .args in
-    let f = getD (args .registers .now) (at-loop .loop .j) 0 in (f < args .n) × (args .n ≤ 64) × (length (args .words .now) ≡ 4 * args .n) × (getD (args .words .now) (4 * f + 2) 0 < f) × (getD (args .words .now) (4 * f + 3) 0 < args .n) × (args .count ≤ length (args .registers .now)))
+    let loop = c .before .loop in
+    let start = c .before .before .before .before .before .before .before in
+    let n = start .args .n in
+    let words = start .args .words .now in
+    let registers = start .args .registers .now in
+    let f = getD registers (loop .j) 0 in
+    (f < n) × (n ≤ 64) × (length words ≡ 4 * n) × (getD words (4 * f + 2) 0 < f) × (getD words (4 * f + 3) 0 < n)
+    × (start .args .count ≤ length registers) × (loop .j < start .args .count) × (length (loop .state) ≡ 256)
+    × (n ≤ length (start .args .marks .now)) × (n ≤ length (start .args .values .now)))
 low c =
     let at-loop = c .before in
     let start = at-loop .before .before .before .before .before .before in
     let args = start .args in
     let pre = start .pre in
     let T = table-at start in
-    let o = operands-low (args .n) (args .count) (args .words .now) (args .registers .now) _ T (pre .4) (at-loop .loop .j) (c .loop-test .taken) in
-    (pre .4 .within (at-loop .loop .j) (c .loop-test .taken), T .few, T .words-size, o .0, o .1, pre .4 .room)
+    let o = operands-low (args .n) (args .count) (args .words .now) (args .registers .now) _ T (pre .4) (at-loop .loop .j) (c .loop-test .taken) in (
+      pre .4 .within (at-loop .loop .j) (c .loop-test .taken),
+      T .few,
+      T .words-size,
+      o .0,
+      o .1,
+      pre .4 .room,
+      c .loop-test .taken,
+      at-loop .loop .inv .1,
+      pre .1,
+      pre .2,
+    )
 
 loop-holds : tie.Need-loop-holds Inv-loop μ-loop
 loop-holds c =
@@ -49,108 +64,57 @@ loop-holds c =
     )
 
 mul-f : tie.Need-mul-f Inv-loop μ-loop
-mul-f c =
-    let at-loop = c .before in
-    let start = at-loop .before .before .before .before .before .before in
-    omega (arith, low (c), c .loop-test .taken, at-loop .loop .inv .1, start .pre .1, start .pre .2)
+mul-f c = omega (arith, low c)
 
 shared-slice-read-f : tie.Need-shared-slice-read-f Inv-loop μ-loop
-shared-slice-read-f c =
-    let in-loop = c .before in
-    let at-loop = in-loop .before in
-    let start = at-loop .before .before .before .before .before .before in
-    omega (arith, low in-loop, in-loop .loop-test .taken, at-loop .loop .inv .1, start .pre .1, start .pre .2)
+shared-slice-read-f c = omega (arith, low (c .before))
 
 cast-f : tie.Need-cast-f Inv-loop μ-loop
-cast-f c =
-    let in-loop = c .before in
-    let at-loop = in-loop .before in
-    let start = at-loop .before .before .before .before .before .before in
-    omega (arith, low in-loop, in-loop .loop-test .taken, at-loop .loop .inv .1, start .pre .1, start .pre .2)
+cast-f c = omega (arith, low (c .before))
 
 mul-b : tie.Need-mul-b Inv-loop μ-loop
-mul-b c =
-    let in-loop = c .before in
-    let at-loop = in-loop .before in
-    let start = at-loop .before .before .before .before .before .before in
-    omega (arith, low in-loop, in-loop .loop-test .taken, at-loop .loop .inv .1, start .pre .1, start .pre .2)
+mul-b c = omega (arith, low (c .before))
 
 add-b : tie.Need-add-b Inv-loop μ-loop
-add-b c =
-    let in-loop = c .before in
-    let at-loop = in-loop .before in
-    let start = at-loop .before .before .before .before .before .before in
-    omega (arith, low in-loop, in-loop .loop-test .taken, at-loop .loop .inv .1, start .pre .1, start .pre .2)
+add-b c = omega (arith, low (c .before))
 
 mul-b-2 : tie.Need-mul-b-2 Inv-loop μ-loop
-mul-b-2 c =
-    let in-loop = c .before in
-    let at-loop = in-loop .before in
-    let start = at-loop .before .before .before .before .before .before in
-    omega (arith, low in-loop, in-loop .loop-test .taken, at-loop .loop .inv .1, start .pre .1, start .pre .2)
+mul-b-2 c = omega (arith, low (c .before))
 
 shared-slice-read-b : tie.Need-shared-slice-read-b Inv-loop μ-loop
-shared-slice-read-b c =
-    let in-loop = c .before .before in
-    let at-loop = in-loop .before in
-    let start = at-loop .before .before .before .before .before .before in
-    omega (arith, low in-loop, in-loop .loop-test .taken, at-loop .loop .inv .1, start .pre .1, start .pre .2)
+shared-slice-read-b c = omega (arith, low (c .before .before))
 
 cast-b : tie.Need-cast-b Inv-loop μ-loop
-cast-b c =
-    let in-loop = c .before .before in
-    let at-loop = in-loop .before in
-    let start = at-loop .before .before .before .before .before .before in
-    omega (arith, low in-loop, in-loop .loop-test .taken, at-loop .loop .inv .1, start .pre .1, start .pre .2)
+cast-b c = omega (arith, low (c .before .before))
 
 mul-a : tie.Need-mul-a Inv-loop μ-loop
-mul-a c =
-    let in-loop = c .before .before in
-    let at-loop = in-loop .before in
-    let start = at-loop .before .before .before .before .before .before in
-    omega (arith, low in-loop, in-loop .loop-test .taken, at-loop .loop .inv .1, start .pre .1, start .pre .2)
+mul-a c = omega (arith, low (c .before .before))
 
 add-a : tie.Need-add-a Inv-loop μ-loop
-add-a c =
-    let in-loop = c .before .before in
-    let at-loop = in-loop .before in
-    let start = at-loop .before .before .before .before .before .before in
-    omega (arith, low in-loop, in-loop .loop-test .taken, at-loop .loop .inv .1, start .pre .1, start .pre .2)
+add-a c = omega (arith, low (c .before .before))
 
 mul-a-2 : tie.Need-mul-a-2 Inv-loop μ-loop
-mul-a-2 c =
-    let in-loop = c .before .before in
-    let at-loop = in-loop .before in
-    let start = at-loop .before .before .before .before .before .before in
-    omega (arith, low in-loop, in-loop .loop-test .taken, at-loop .loop .inv .1, start .pre .1, start .pre .2)
+mul-a-2 c = omega (arith, low (c .before .before))
 
 shared-slice-read-a : tie.Need-shared-slice-read-a Inv-loop μ-loop
 shared-slice-read-a c =
     let in-loop = c .before .before .before in
-    let at-loop = in-loop .before in
-    let start = at-loop .before .before .before .before .before .before in
-    omega (arith, low in-loop, in-loop .loop-test .taken, at-loop .loop .inv .1, start .pre .1, start .pre .2)
+    omega (arith, low in-loop)
 
 cast-a : tie.Need-cast-a Inv-loop μ-loop
 cast-a c =
     let in-loop = c .before .before .before in
-    let at-loop = in-loop .before in
-    let start = at-loop .before .before .before .before .before .before in
-    omega (arith, low in-loop, in-loop .loop-test .taken, at-loop .loop .inv .1, start .pre .1, start .pre .2)
+    omega (arith, low in-loop)
 
 shared-slice-read-if1 : tie.Need-shared-slice-read-if1 Inv-loop μ-loop
 shared-slice-read-if1 c =
     let in-loop = c .before .before .before .before in
-    let at-loop = in-loop .before in
-    let start = at-loop .before .before .before .before .before .before in
-    omega (arith, low in-loop, in-loop .loop-test .taken, at-loop .loop .inv .1, start .pre .1, start .pre .2)
+    omega (arith, low in-loop)
 
 shared-slice-read-if1-2 : tie.Need-shared-slice-read-if1-2 Inv-loop μ-loop
 shared-slice-read-if1-2 c =
     let in-loop = c .before .before .before .before .before in
-    let at-loop = in-loop .before in
-    let start = at-loop .before .before .before .before .before .before in
-    omega (arith, low in-loop, in-loop .loop-test .taken, at-loop .loop .inv .1, start .pre .1, start .pre .2)
+    omega (arith, low in-loop)
 
 same-length : tie.Need-same-length Inv-loop μ-loop
 same-length c =
@@ -172,44 +136,32 @@ returns c =
 mul-latched : tie.Need-mul-latched Inv-loop μ-loop
 mul-latched c =
     let in-loop = c .before .before .before .before .before .before in
-    let at-loop = in-loop .before in
-    let start = at-loop .before .before .before .before .before .before in
-    omega (arith, low in-loop, in-loop .loop-test .taken, at-loop .loop .inv .1, start .pre .1, start .pre .2)
+    omega (arith, low in-loop)
 
 mul-latched-2 : tie.Need-mul-latched-2 Inv-loop μ-loop
 mul-latched-2 c =
     let in-loop = c .before .before .before .before .before .before in
-    let at-loop = in-loop .before in
-    let start = at-loop .before .before .before .before .before .before in
-    omega (arith, low in-loop, in-loop .loop-test .taken, at-loop .loop .inv .1, start .pre .1, start .pre .2)
+    omega (arith, low in-loop)
 
 slice-read-latched : tie.Need-slice-read-latched Inv-loop μ-loop
 slice-read-latched c =
     let in-loop = c .before .before .before .before .before .before .before in
-    let at-loop = in-loop .before in
-    let start = at-loop .before .before .before .before .before .before in
-    omega (arith, low in-loop, in-loop .loop-test .taken, at-loop .loop .inv .1, start .pre .1, start .pre .2)
+    omega (arith, low in-loop)
 
 shared-slice-read-latched : tie.Need-shared-slice-read-latched Inv-loop μ-loop
 shared-slice-read-latched c =
     let in-loop = c .before .before .before .before .before .before .before .before in
-    let at-loop = in-loop .before in
-    let start = at-loop .before .before .before .before .before .before in
-    omega (arith, low in-loop, in-loop .loop-test .taken, at-loop .loop .inv .1, start .pre .1, start .pre .2)
+    omega (arith, low in-loop)
 
 mul-latched-3 : tie.Need-mul-latched-3 Inv-loop μ-loop
 mul-latched-3 c =
     let in-loop = c .before .before .before .before .before .before .before .before in
-    let at-loop = in-loop .before in
-    let start = at-loop .before .before .before .before .before .before in
-    omega (arith, low in-loop, in-loop .loop-test .taken, at-loop .loop .inv .1, start .pre .1, start .pre .2)
+    omega (arith, low in-loop)
 
 shared-slice-read-latched-2 : tie.Need-shared-slice-read-latched-2 Inv-loop μ-loop
 shared-slice-read-latched-2 c =
     let in-loop = c .before .before .before .before .before .before .before .before .before in
-    let at-loop = in-loop .before in
-    let start = at-loop .before .before .before .before .before .before in
-    omega (arith, low in-loop, in-loop .loop-test .taken, at-loop .loop .inv .1, start .pre .1, start .pre .2)
+    omega (arith, low in-loop)
 
 latched-requires : tie.Need-latched-requires Inv-loop μ-loop
 latched-requires c κs = tt
@@ -217,37 +169,27 @@ latched-requires c κs = tt
 mul-state : tie.Need-mul-state Inv-loop μ-loop
 mul-state c =
     let in-loop = c .before .before .before .before .before .before .before .before .before .before in
-    let at-loop = in-loop .before in
-    let start = at-loop .before .before .before .before .before .before in
-    omega (arith, low in-loop, in-loop .loop-test .taken, at-loop .loop .inv .1, start .pre .1, start .pre .2)
+    omega (arith, low in-loop)
 
 mul-state-2 : tie.Need-mul-state-2 Inv-loop μ-loop
 mul-state-2 c =
     let in-loop = c .before .before .before .before .before .before .before .before .before .before in
-    let at-loop = in-loop .before in
-    let start = at-loop .before .before .before .before .before .before in
-    omega (arith, low in-loop, in-loop .loop-test .taken, at-loop .loop .inv .1, start .pre .1, start .pre .2)
+    omega (arith, low in-loop)
 
 slice-write-state : tie.Need-slice-write-state Inv-loop μ-loop
 slice-write-state c =
     let in-loop = c .before .before .before .before .before .before .before .before .before .before in
-    let at-loop = in-loop .before in
-    let start = at-loop .before .before .before .before .before .before in
-    omega (arith, low in-loop, in-loop .loop-test .taken, at-loop .loop .inv .1, start .pre .1, start .pre .2)
+    omega (arith, low in-loop)
 
 add-j : tie.Need-add-j Inv-loop μ-loop
 add-j c =
     let in-loop = c .before .before .before .before .before .before .before .before .before .before in
-    let at-loop = in-loop .before in
-    let start = at-loop .before .before .before .before .before .before in
-    omega (arith, low in-loop, in-loop .loop-test .taken, at-loop .loop .inv .1, start .pre .1, start .pre .2)
+    omega (arith, low in-loop)
 
 loop-less : tie.Need-loop-less Inv-loop μ-loop
 loop-less c =
     let in-loop = c .before .before .before .before .before .before .before .before .before .before in
-    let at-loop = in-loop .before in
-    let start = at-loop .before .before .before .before .before .before in
-    omega (arith, low in-loop, in-loop .loop-test .taken, at-loop .loop .inv .1, start .pre .1, start .pre .2)
+    omega (arith, low in-loop)
 
 loop-again : tie.Need-loop-again Inv-loop μ-loop
 loop-again c =
