@@ -70,13 +70,13 @@ loop-less c = search needs
 loop-again : tie.Need-loop-again Inv-loop μ-loop
 loop-again c =
     let after-store = c .before .before in
-    let store = after-store .store in
     let after-verdict = after-store .before .before .before in
     let after-rule = after-verdict .before .before in
     let after-record-at = after-rule .before .before in
     let in-loop = after-record-at .before in
     let at-loop = in-loop .before in
     let entry = at-loop .before .before .before in
+    let store = after-store .store in
     let a = entry .args in
     let l = at-loop .loop in
     let rows : List Row = rowsIn (tableOf (a .n) (now (a .words))) in

@@ -23,8 +23,8 @@ loop-holds c =
 listed-with-requires : tie.Need-listed-with-requires Inv-loop μ-loop
 listed-with-requires c κs =
     let in-loop = c .before in
-    let loop-test = in-loop .loop-test in
     let at-loop = in-loop .before in
+    let loop-test = in-loop .loop-test in
     (omega (arith, loop-test .taken), omega (arith, loop-test .taken), omega (arith, loop-test .taken, at-loop .loop .inv .2, at-loop .loop .inv .1))
 
 add-f : tie.Need-add-f Inv-loop μ-loop
@@ -38,11 +38,11 @@ loop-less c =
 loop-again : tie.Need-loop-again Inv-loop μ-loop
 loop-again c =
     let after-listed-with = c .before .before in
-    let listed-with = after-listed-with .listed-with in
     let in-loop = after-listed-with .before .before in
     let at-loop = in-loop .before in
-    let loop = at-loop .loop in
     let start = at-loop .before .before .before in
+    let listed-with = after-listed-with .listed-with in
+    let loop = at-loop .loop in
     let m = listed-more (start .args .kind) (loop .f) (start .args .words .now) (loop .list) (loop .found) (loop .inv .3) _ _
     (omega (arith, in-loop .loop-test .taken, loop .inv .2, loop .inv .1, start .pre .2)) (listed-with .ensures .0) (listed-with .ensures .1) in
     (omega (arith, in-loop .loop-test .taken), omega (arith, m .1, loop .inv .1), omega (arith, listed-with .kept .1 .1 .1 .0, loop .inv .2), m .0)
@@ -53,8 +53,8 @@ same-length c = c .before .loop .inv .2
 returns : tie.Need-returns Inv-loop μ-loop
 returns c =
     let at-loop = c .before in
-    let loop = at-loop .loop in
     let start = at-loop .before .before .before in
+    let loop = at-loop .loop in
     let args = start .args in
     let e : loop .f ≡ args .n = omega (arith, c .loop-test .left, loop .inv .0) in
     subst (λ (i : ℕ). Listed (args .kind) i (args .words .now) (loop .list) (loop .found)) e (loop .inv .3)

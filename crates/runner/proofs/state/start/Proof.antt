@@ -85,10 +85,10 @@ start-row-requires : tie.Need-start-row-requires Inv-loop μ-loop
 start-row-requires c κs =
     let in-loop = c .before .before .before .before .before in
     let at-loop = in-loop .before in
-    let start-2 = at-loop .before .before .before in
+    let start = at-loop .before .before .before in
     let loop = at-loop .loop in
     let loop-test = in-loop .loop-test in
-    (row-of _ _ _ (table-at start-2) (loop .f) (loop-test .taken) .known, omega (arith, loop-test .taken), loop .inv .3)
+    (row-of _ _ _ (table-at start) (loop .f) (loop-test .taken) .known, omega (arith, loop-test .taken), loop .inv .3)
 
 bit-requires : tie.Need-bit-requires Inv-loop μ-loop
 bit-requires c κs = tt
@@ -97,8 +97,8 @@ add-j : tie.Need-add-j Inv-loop μ-loop
 add-j c =
     let in-loop = c .before .before .before .before .before .before .before .before .before in
     let at-loop = in-loop .before in
-    let entry = at-loop .before .before .before in
-    let args = entry .args in
+    let start = at-loop .before .before .before in
+    let args = start .args in
     let loop = at-loop .loop in
     let loop-test = in-loop .loop-test in
     omega (arith, c .bit .ensures, bit-low (eqb (getD (args .words .now) (4 * loop .f) 0) 0), loop .inv .4, loop .inv .1, loop-test .taken)
@@ -133,8 +133,8 @@ loop-again c =
 same-length : tie.Need-same-length Inv-loop μ-loop
 same-length c =
     let at-loop = c .before in
-    let entry = at-loop .before .before .before in
-    let pre = entry .pre in
+    let start = at-loop .before .before .before in
+    let pre = start .pre in
     at-loop .loop .inv .3 ∙ sym (ap length (pre .1) ∙ length-replicate {A = ℕ} stateSize 0)
 
 returns : tie.Need-returns Inv-loop μ-loop

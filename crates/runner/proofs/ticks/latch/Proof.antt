@@ -25,30 +25,33 @@ table-at c = plain-table (c .args .n) (c .args .words .now) (c .pre .0)
 
 -- the next register's number, beat and source are low, and the parts have room for them
 low : (c : tie.In-loop Inv-loop μ-loop) → (
-    let loop = c .before .loop in
-    let start = c .before .before .before .before .before .before .before in
-    let n = start .args .n in
-    let words = start .args .words .now in
-    let registers = start .args .registers .now in
-    let f = getD registers (loop .j) 0 in
-    (f < n) × (n ≤ 64) × (length words ≡ 4 * n) × (getD words (4 * f + 2) 0 < f) × (getD words (4 * f + 3) 0 < n)
-    × (start .args .count ≤ length registers) × (loop .j < start .args .count) × (length (loop .state) ≡ 256)
-    × (n ≤ length (start .args .marks .now)) × (n ≤ length (start .args .values .now)))
-low c =
     let at-loop = c .before in
     let start = at-loop .before .before .before .before .before .before in
     let args = start .args in
+    let loop = at-loop .loop in
+    let n = args .n in
+    let words = args .words .now in
+    let registers = args .registers .now in
+    let f = getD registers (loop .j) 0 in
+    (f < n) × (n ≤ 64) × (length words ≡ 4 * n) × (getD words (4 * f + 2) 0 < f) × (getD words (4 * f + 3) 0 < n)
+    × (args .count ≤ length registers) × (loop .j < args .count) × (length (loop .state) ≡ 256)
+    × (n ≤ length (args .marks .now)) × (n ≤ length (args .values .now)))
+low c =
+    let at-loop = c .before in
+    let start = at-loop .before .before .before .before .before .before in
+    let loop = at-loop .loop in
+    let args = start .args in
     let pre = start .pre in
     let T = table-at start in
-    let o = operands-low (args .n) (args .count) (args .words .now) (args .registers .now) _ T (pre .4) (at-loop .loop .j) (c .loop-test .taken) in (
-      pre .4 .within (at-loop .loop .j) (c .loop-test .taken),
+    let o = operands-low (args .n) (args .count) (args .words .now) (args .registers .now) _ T (pre .4) (loop .j) (c .loop-test .taken) in (
+      pre .4 .within (loop .j) (c .loop-test .taken),
       T .few,
       T .words-size,
       o .0,
       o .1,
       pre .4 .room,
       c .loop-test .taken,
-      at-loop .loop .inv .1,
+      loop .inv .1,
       pre .1,
       pre .2,
     )
@@ -126,8 +129,8 @@ returns : tie.Need-returns Inv-loop μ-loop
 returns c =
     let in-loop = c .before .before .before .before .before .before in
     let at-loop = in-loop .before in
-    let loop = at-loop .loop in
     let start = at-loop .before .before .before .before .before .before in
+    let loop = at-loop .loop in
     let args = start .args in
     λ past cells ms vs t z w F. stops (args .n) (args .count) (args .words .now) (args .registers .now) _ (table-at start) (start .pre .4) past cells
     ms vs (args .marks .now) (args .values .now) (args .state .now) t z w F (loop .state) (loop .j) (loop .inv .2 past cells ms vs t z w F)
@@ -196,8 +199,8 @@ loop-again c =
     let else1 = c .before .before .before .before in
     let in-loop = else1 .before .before .before .before .before .before in
     let at-loop = in-loop .before in
-    let loop = at-loop .loop in
     let start = at-loop .before .before .before .before .before .before in
+    let loop = at-loop .loop in
     let args = start .args in (
       omega (arith, in-loop .loop-test .taken),
       length-set (loop .state) _ _ ∙ loop .inv .1,
@@ -216,8 +219,8 @@ same-length-2 c =
 returns-2 : tie.Need-returns-2 Inv-loop μ-loop
 returns-2 c =
     let at-loop = c .before in
-    let loop = at-loop .loop in
     let start = at-loop .before .before .before .before .before .before in
+    let loop = at-loop .loop in
     let args = start .args in
     λ past cells ms vs t z w F. ends (args .n) (args .count) (args .words .now) (args .registers .now) _ (table-at start) (start .pre .4) past cells
     ms vs (args .marks .now) (args .values .now) (args .state .now) t z w F (loop .state) (loop .j) (loop .inv .2 past cells ms vs t z w F)

@@ -43,9 +43,9 @@ shl-result-2 c = omega arith
 returns : tie.Need-returns
 returns c =
     let after-low-bits = c .before in
-    let low-bits = after-low-bits .low-bits in
     let after-byte-at = after-low-bits .before in
     let start = after-byte-at .before .before in
+    let low-bits = after-low-bits .low-bits in
     let a = start .args in
     let p = start .pre in
     let b = after-byte-at .byte-at in
