@@ -11,5 +11,6 @@ use Rattle.semantics.specs.Answers.{running}
 use Rattle.calendar.specs.Cases.{AllCases}
 
 pub all-cases : AllCases
-unfolding kinds ranged placed fieldsOf rowOf badRegister split joined rowsFrom tableOf clockOf clocksFrom clocksOf clocksWords checking latest onGrid combined registered history inputs cellOf flowsFrom tickOf run cells running
+unfolding kinds ranged placed fieldsOf rowOf badRegister split joined rowsFrom tableOf clockOf clocksFrom clocksOf clocksWords
+    checking latest onGrid combined registered history inputs cellOf flowsFrom tickOf run cells running
 all-cases = refl

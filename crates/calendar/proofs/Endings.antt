@@ -87,7 +87,9 @@ module _ (rows : List Row) (log : List ℕ) (clk : ℕ → Clock) (w : ℕ) (fro
   pub front-kept : (past : Ticks) (k : Kept clk (length front) past) → Kept clk (length front) (front-of past k .tick ∷ past)
   front-kept past k = subst (λ (i : ℕ). Kept clk i (front-of past k .tick ∷ past)) (front-size past k) (front-of past k .keeps)
 
-  pub front-filled : (past : Ticks) (k : Kept clk (length front) past) (now : Tick) → tickOf rows log past ≡ filled now → flowsFrom rows log past (front-of past k .tick) rest ≡ filled now
+  pub front-filled :
+      (past : Ticks) (k : Kept clk (length front) past) (now : Tick) → tickOf rows log past ≡ filled now
+      → flowsFrom rows log past (front-of past k .tick) rest ≡ filled now
   front-filled past k now e =
       sym (front-of past k .same rest) ∙ subst (λ (l : List Row). flowsFrom rows log past [] l ≡ filled now) whole (tick-parts rows log past now e .0)
 

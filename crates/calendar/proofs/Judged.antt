@@ -205,7 +205,9 @@ module _ (rows : List Row) (fit : AllFit (length rows) 0 rows) (free : AllFree 0
       flat : AllPlain clk (length front)
       flat = all-plain clk (length rows) front fit-front (each-front (λ (i : ℕ). FreeRow) 0 front (r ∷ back) frees) ck
 
-      stops : (c : Clashing rows log clk (length front) r) (past : Ticks) (now : Tick) → length past ≡ c .tick → Kept clk (length front) past → tickOf rows log past ≡ filled now → ⊥
+      stops :
+          (c : Clashing rows log clk (length front) r) (past : Ticks) (now : Tick) → length past ≡ c .tick → Kept clk (length front) past
+          → tickOf rows log past ≡ filled now → ⊥
       stops c past now l k y =
           let z : cellOf rows log past (front-of rows log clk (length rows) front (r ∷ back) e fit-front ck sane past k .tick) r ≡ clashes =
           c .clash past _ l (front-kept rows log clk (length rows) front (r ∷ back) e fit-front ck sane past k) in
@@ -241,7 +243,8 @@ module _ (rows : List Row) (fit : AllFit (length rows) 0 rows) (free : AllFree 0
           let nil : rows ≡ rows ++ [] = sym (append-nil rows) in
           let k = run-kept rows log clk (length rows) rows [] nil fit ck sane (p .tick) (y .1 .past) (y .1 .before) in
           let z : onRegister (sourceMeets (y .1 .now)) r ≡ true =
-          meets (y .1 .now) (subst (Registers (sourceMeets (y .1 .now)) 0 rows) (tick-parts rows log (y .1 .past) (y .1 .now) (y .1 .fills) .1) (registers (sourceMeets (y .1 .now)) 0 rows)) in
+          meets (y .1 .now) (subst (Registers (sourceMeets (y .1 .now)) 0 rows) (tick-parts rows log (y .1 .past) (y .1 .now) (y .1 .fills) .1)
+          (registers (sourceMeets (y .1 .now)) 0 rows)) in
           marks-part rows log clk (length rows) sane flat a b la lb p (y .1 .past) (y .1 .now) (k .0)
           (tick-kept rows log clk (length rows) rows [] nil fit ck sane (y .1 .past) (k .1) (y .1 .now) (y .1 .fills))
           (beq-true _ _ (subst (λ (q : Row). onRegister (sourceMeets (y .1 .now)) q ≡ true) er z))

@@ -112,7 +112,8 @@ module _ (m : ℕ) (words clocks log : List ℕ) (ticks : ℕ) (marks values : L
         mark-at = λ g z. written markByte (cells (r .past)) _ (t * m + g) (inside t g x z) ∙ ap markByte (s .cell g z);
         value-at = λ g z. written value (cells (r .past)) _ (t * m + g) (inside t g x z) ∙ ap value (s .cell g z);
       }
-      (a .clocks) (drop (length (clocksWords (a .clocks))) clocks) f (s .before) y (rw (a .clocks-size) y) (sane f y) (s .size) (s .keeps (clockAt (a .clocks) f) f (r .kept f (rw (a .size) y))))
+      (a .clocks) (drop (length (clocksWords (a .clocks))) clocks) f (s .before) y (rw (a .clocks-size) y) (sane f y) (s .size)
+      (s .keeps (clockAt (a .clocks) f) f (r .kept f (rw (a .size) y))))
 
 accepted-run : (m : ℕ) (words clocks : List ℕ) → Accepts m words clocks → (log : List ℕ) (ticks : ℕ) (marks values : List ℕ) → ticks ≤ maxTicks
     → Asked m words log ticks marks values → Ends m words log ticks marks values × OnCalendar m words clocks log ticks marks values

@@ -89,7 +89,15 @@ below-four P n l a b c d (suc (suc (suc (suc i)))) h = absurd (omega arith)
 same-itself : (k : Kept) → Kept.same k k ≡ true
 unfolding Kept.same
 same-itself k =
-    rw (eq-eqb (k .period) (k .period) refl, eq-eqb (k .phase) (k .phase) refl, eq-eqb (k .count) (k .count) refl, eq-eqb (k .first) (k .first) refl, eq-eqb (k .second) (k .second) refl, eq-eqb (k .third) (k .third) refl, eq-eqb (k .fourth) (k .fourth) refl)
+    rw (
+      eq-eqb (k .period) (k .period) refl,
+      eq-eqb (k .phase) (k .phase) refl,
+      eq-eqb (k .count) (k .count) refl,
+      eq-eqb (k .first) (k .first) refl,
+      eq-eqb (k .second) (k .second) refl,
+      eq-eqb (k .third) (k .third) refl,
+      eq-eqb (k .fourth) (k .fourth) refl,
+    )
 
 same-kept-there : (j k : Clock) → sameClock j k ≡ true → Kept.same (Kept.kept j) (Kept.kept k) ≡ true
 same-kept-there j k e =
@@ -155,7 +163,8 @@ agree-under f k c u w h =
     let q : leb (k .phase) maxDerived ≡ true = and-left (leb (k .phase) maxDerived) _ (and-right (leb (k .period) maxDerived) _ (w .0)) in
     let e : withinLimits (under k c u) ≡ leb l 4 = rw (p, q, one-more (k .conditions) (record { flow = c; truth = u })) in
     rw (under-kept k c u (few k w) h)
-    (agree-guard f (leb l 4) (withinLimits (under k c u)) beyondLimits (Is (Kept.kept (under k c u))) (good (under k c u)) e (λ (t : leb l 4 ≡ true). (refl, (e ∙ t, below-snoc maxFlows (k .conditions) (record { flow = c; truth = u }) (w .1) h))))
+    (agree-guard f (leb l 4) (withinLimits (under k c u)) beyondLimits (Is (Kept.kept (under k c u))) (good (under k c u)) e
+    (λ (t : leb l 4 ≡ true). (refl, (e ∙ t, below-snoc maxFlows (k .conditions) (record { flow = c; truth = u }) (w .1) h))))
 
 pub extends-kept : (a c : Clock) (f : ℕ) (u : Bool) → length (a .conditions) ≤ 4 → length (c .conditions) ≤ 4 → f < 64
     → sameClock a (under c f u) ≡ Kept.extends (Kept.kept a) (Kept.kept c) (Kept.condition f u)

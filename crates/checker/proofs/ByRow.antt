@@ -31,8 +31,12 @@ module _ (f : ℕ) (k : Clock) (w : Within k) where
   fitting x y n p a b = agree-guard f (eqb x y) (eqb x y) clocksDiffer (Is (Kept.every n p)) (good (every n p)) refl (λ (t : eqb x y ≡ true). agree-every f n p a b)
 
   -- a clock that has to be equal
-  beside : (j : Clock) (v : Verdict) (r : Result Clock) → Agrees f v r → Agrees f (Kept.guard (Kept.same (Kept.kept k) (Kept.kept j)) (number clocksDiffer) v) (unless (sameClock k j) clocksDiffer f r)
-  beside j v r h = agree-guard f (Kept.same (Kept.kept k) (Kept.kept j)) (sameClock k j) clocksDiffer v r (same-kept k j (few k w)) (λ (t : Kept.same (Kept.kept k) (Kept.kept j) ≡ true). h)
+  beside :
+      (j : Clock) (v : Verdict) (r : Result Clock) → Agrees f v r
+      → Agrees f (Kept.guard (Kept.same (Kept.kept k) (Kept.kept j)) (number clocksDiffer) v) (unless (sameClock k j) clocksDiffer f r)
+  beside j v r h =
+      agree-guard f (Kept.same (Kept.kept k) (Kept.kept j)) (sameClock k j) clocksDiffer v r (same-kept k j (few k w))
+      (λ (t : Kept.same (Kept.kept k) (Kept.kept j) ≡ true). h)
 
 -- two clocks that have to be equal, as one test and as two
 both-guards : (f : ℕ) (a b : Bool) (k : Clock) → Within k

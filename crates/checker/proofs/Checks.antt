@@ -50,7 +50,8 @@ clocks-length js (r ∷ rs) ks e =
     let x = then-good (clockOf (clockAt js) (length js) r) (λ k. clocksFrom (js ++ (k ∷ [])) rs) ks e in
     omega (arith, clocks-length (js ++ (x .0 ∷ [])) rs ks (x .2), length-append js (x .0 ∷ []))
 
-module _ (m : ℕ) (words : List ℕ) (rows : List Row) (t : Table m words rows) (ks : List Clock) (e : clocksFrom [] rows ≡ good ks) (old buffer : List ℕ) (held : buffer ≡ over (clocksWords ks) old) (within : AllWithin ks) where
+module _ (m : ℕ) (words : List ℕ) (rows : List Row) (t : Table m words rows) (ks : List Clock) (e : clocksFrom [] rows ≡ good ks)
+    (old buffer : List ℕ) (held : buffer ≡ over (clocksWords ks) old) (within : AllWithin ks) where
   fits-same : (b a : ℕ) → b < m → a < m → Kept.fitsIn buffer b a ≡ sourceFits ks b a
   fits-same b a p q =
       let n : length ks ≡ m = omega (arith, clocks-length [] rows ks e, t .size) in
@@ -111,7 +112,9 @@ whole-refused m words old why f e = (rw e, rw e)
 
 -- the words that were copied
 pub whole-copied : (m : ℕ) (words old zeros buffer new : List ℕ) (rows : List Row) (ks : List Clock) → Table m words rows → clocksOf rows ≡ good ks
-    → checking m words (length old) ≡ clocksOf rows → buffer ≡ over (clocksWords ks) zeros → new ≡ take (clockSize * m) buffer ++ drop (clockSize * m) old → new ≡ clocksAfter m words old
+    → checking m words (length old) ≡ clocksOf rows → buffer ≡ over (clocksWords ks) zeros
+    → new ≡ take (clockSize * m) buffer ++ drop (clockSize * m) old → new ≡ clocksAfter m words old
 whole-copied m words old zeros buffer new rows ks t e w held copied =
     let n : length (clocksWords ks) ≡ clockSize * m = omega (arith, words-length ks, all-clocks rows ks e, t .size) in
-    rw (w, e) (copied ∙ ap₂ _++_ (ap (take (clockSize * m)) held ∙ take-at (clocksWords ks) (drop (length (clocksWords ks)) zeros) (clockSize * m) n) (ap (λ (i : ℕ). drop i old) (sym n)))
+    rw (w, e) (copied ∙ ap₂ _++_ (ap (take (clockSize * m)) held ∙ take-at (clocksWords ks) (drop (length (clocksWords ks)) zeros) (clockSize * m) n)
+    (ap (λ (i : ℕ). drop i old) (sym n)))

@@ -116,14 +116,17 @@ module _ (m : ℕ) (words : List ℕ) (rows : List Row) (old : List ℕ) (f : �
   rows-here = drop-cons rows f (tail 0) (omega (arith, t .size))
 
   pub go-on : (k : Clock) (buffer′ : List ℕ) → clockOf (clockAt (s .clocks)) f (rowAt rows f) ≡ good k → Within k
-      → clockSize * f + clockSize ≤ length old → buffer′ ≡ take (clockSize * f) buffer ++ (Kept.words (Kept.kept k) ++ drop (clockSize * f + clockSize) buffer) → Going rows old (f + 1) buffer′
+      → clockSize * f + clockSize ≤ length old
+      → buffer′ ≡ take (clockSize * f) buffer ++ (Kept.words (Kept.kept k) ++ drop (clockSize * f + clockSize) buffer)
+      → Going rows old (f + 1) buffer′
   go-on k buffer′ e w fits b =
       let ks : List Clock = s .clocks in
       let n : length (clocksWords ks) ≡ clockSize * f = words-length ks ∙ ap (λ (i : ℕ). clockSize * i) (s .size) in
       let front : take (clockSize * f) buffer ≡ clocksWords ks = ap (take (clockSize * f)) (s .held) ∙ take-at (clocksWords ks) (drop (clockSize * f) old) (clockSize * f) n in
       let next : clockSize * f + clockSize ≡ clockSize * (f + 1) = omega arith in
       let back : drop (clockSize * f + clockSize) buffer ≡ drop (clockSize * (f + 1)) old =
-      sym (drop-drop clockSize (clockSize * f) buffer) ∙ ap (λ (x : List ℕ). drop clockSize (drop (clockSize * f) x)) (s .held) ∙ ap (drop 7) (drop-at (clocksWords ks) (drop (clockSize * f) old) (clockSize * f) n)
+      sym (drop-drop clockSize (clockSize * f) buffer) ∙ ap (λ (x : List ℕ). drop clockSize (drop (clockSize * f) x)) (s .held)
+      ∙ ap (drop 7) (drop-at (clocksWords ks) (drop (clockSize * f) old) (clockSize * f) n)
       ∙ drop-drop clockSize (clockSize * f) old ∙ ap (λ (i : ℕ). drop i old) next in
       record {
         clocks = ks ++ (k ∷ []);

@@ -33,7 +33,15 @@ clock-set l i k h =
 
 -- clockIn words that are read one by one
 pub clock-read : (l : List ℕ) (i : ℕ) → _≡_ {A = Kept}
-    (record { period = getD l i 0; phase = getD l (i + 1) 0; count = getD l (i + 2) 0; first = getD l (i + 3) 0; second = getD l (i + 4) 0; third = getD l (i + 5) 0; fourth = getD l (i + 6) 0 })
+    (record {
+      period = getD l i 0;
+      phase = getD l (i + 1) 0;
+      count = getD l (i + 2) 0;
+      first = getD l (i + 3) 0;
+      second = getD l (i + 4) 0;
+      third = getD l (i + 5) 0;
+      fourth = getD l (i + 6) 0;
+    })
     (clockIn (drop i l))
 clock-read l i =
     let e : i ≡ i + 0 = omega arith in

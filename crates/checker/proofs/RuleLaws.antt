@@ -45,7 +45,9 @@ pub data Rule (clk : ℕ → Clock) : Row → Clock → Type 0 where
   by-slower : {a k : ℕ} → plain (clk a) ≡ true → Limited (every (k * clk a .period) (clk a .phase)) → Rule clk (slower a k) (every (k * clk a .period) (clk a .phase))
   by-later : {a d : ℕ} → plain (clk a) ≡ true → Limited (every (clk a .period) (clk a .phase + d)) → Rule clk (later a d) (every (clk a .period) (clk a .phase + d))
   by-head : {a v s : ℕ} → plain (clk a) ≡ true → clk a .phase ≡ s + clk a .period → Rule clk (head a v s) (every (clk a .period) s)
-  by-tail : {a : ℕ} → plain (clk a) ≡ true → Limited (every (clk a .period) (clk a .phase + clk a .period)) → Rule clk (tail a) (every (clk a .period) (clk a .phase + clk a .period))
+  by-tail :
+      {a : ℕ} → plain (clk a) ≡ true → Limited (every (clk a .period) (clk a .phase + clk a .period))
+      → Rule clk (tail a) (every (clk a .period) (clk a .phase + clk a .period))
   by-sample : {u : Bool} {a c : ℕ} → clk a ≡ clk c → Limited (under (clk a) c u) → Rule clk (sample u a c) (under (clk a) c u)
   by-merge : {c a b : ℕ} → clk a ≡ under (clk c) c true → clk b ≡ under (clk c) c false → Rule clk (merge c a b) (clk c)
 

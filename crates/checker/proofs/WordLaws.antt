@@ -29,7 +29,9 @@ word-at (k ∷ ks) old (suc f) i l x =
     (rw (append-assoc (clockWords k) (clocksWords ks) old) (getD-append-add (clockWords k) (clocksWords ks ++ old) (clockSize * f + i) 0 ∙ word-at ks old f i (omega arith) x))
 
 -- the word of condition number i
-pub condition-at : (ks : List Clock) (old : List ℕ) (f i : ℕ) (d : Condition) → f < length ks → i < length (clockAt ks f .conditions) → length (clockAt ks f .conditions) ≤ maxConditions
+pub condition-at :
+    (ks : List Clock) (old : List ℕ) (f i : ℕ) (d : Condition) → f < length ks → i < length (clockAt ks f .conditions)
+    → length (clockAt ks f .conditions) ≤ maxConditions
     → getD (clocksWords ks ++ old) (clockSize * f + (3 + i)) 0 ≡ conditionWord (getD (clockAt ks f .conditions) i d)
 condition-at ks old f i d l x few =
     word-at ks old f (3 + i) l (omega arith)

@@ -3,7 +3,8 @@ use mathlib.Core.Path.{_≡_, refl, sym, ap, _∙_}
 use mathlib.Core.Bool.{Bool, true, false}
 use mathlib.Core.List.{List, [], _∷_, _++_, append-assoc}
 use Prim.Native.Nat.{ℕ, zero, suc, _+_, _-_, _*_, _/_, _%_, _^_, _<_}
-use native.Mathlib.Nat.{add-suc, suc-add, zero-add, zero-mul, add-assoc, add-mul, mul-assoc, mul-comm, add-comm, mod-one, pow-suc, mod-lt, mod-eq-of-lt, zero-lt-suc, zero-div, mul-add-mod-self-right, sub-zero, zero-sub, suc-sub-suc}
+use native.Mathlib.Nat.{add-suc, suc-add, zero-add, zero-mul, add-assoc, add-mul, mul-assoc, mul-comm, add-comm, mod-one, pow-suc, mod-lt}
+use native.Mathlib.Nat.{mod-eq-of-lt, zero-lt-suc, zero-div, mul-add-mod-self-right, sub-zero, zero-sub, suc-sub-suc}
 use native.Mathlib.Numerals.{add-one}
 use native.Mathlib.Omega.{arith}
 use lib.Dec.{eqb}

@@ -63,7 +63,13 @@ unfolding bytesFrom bits
 bytes-bits [] h = refl
 bytes-bits (x ∷ s) h =
     let l : 8 ≤ length (toBits 8 x ++ bits s) = omega (arith, length-append (toBits 8 x) (bits s), length-toBits 8 x) in
-    rw (next-whole (toBits 8 x ++ bits s) l, take-at (toBits 8 x) (bits s) 8 (length-toBits 8 x), drop-at (toBits 8 x) (bits s) 8 (length-toBits 8 x), from-to 8 (h 0), bytes-bits s (λ k. h (suc k)))
+    rw (
+      next-whole (toBits 8 x ++ bits s) l,
+      take-at (toBits 8 x) (bits s) 8 (length-toBits 8 x),
+      drop-at (toBits 8 x) (bits s) 8 (length-toBits 8 x),
+      from-to 8 (h 0),
+      bytes-bits s (λ k. h (suc k)),
+    )
 
 -- the bits of whole bytes
 bits-bytes : (n : ℕ) (bs : List Bool) → length bs ≡ 8 * n → bits (bytesFrom n bs) ≡ bs

@@ -47,7 +47,9 @@ module _ (m f at : ℕ) (bs : List Bool) (below : f < m) where
       where
         go : (x : Result Row) → Outcome f x → verdict x ≡ 0
             → answer (λ ws. m) (takeRows m (m - suc f) (suc f) (drop (p .at) bs))
-            ≡ answer (λ ws. m) (then {B = List Words} (then {B = TakenRow} x λ y. good (record { words = wordsOf r; rest = drop (p .at) bs })) λ t. then (takeRows m (m - suc f) (suc f) (t .rest)) λ ws. good (t .words ∷ ws))
+            ≡ answer (λ ws. m)
+            (then {B = List Words} (then {B = TakenRow} x λ y. good (record { words = wordsOf r; rest = drop (p .at) bs }))
+            λ t. then (takeRows m (m - suc f) (suc f) (t .rest)) λ ws. good (t .words ∷ ws))
         go x (fine y) e = sym (answer-then m (takeRows m (m - suc f) (suc f) (drop (p .at) bs)) (λ ws. wordsOf r ∷ ws))
         go x (stopped why) e = absurd (no-zero why e)
 
@@ -57,7 +59,9 @@ module _ (m f at : ℕ) (bs : List Bool) (below : f < m) where
     scan-stop n e h = rw (more, found .taken m f) (go (rowOf m f (wordsOf r)) (row-outcome m f (wordsOf r)) e)
       where
         go : (x : Result Row) → Outcome f x → n ≡ verdict x
-            → answer (λ ws. m) (then {B = List Words} (then {B = TakenRow} x λ y. good (record { words = wordsOf r; rest = drop (p .at) bs })) λ t. then (takeRows m (m - (f + 1)) (suc f) (t .rest)) λ ws. good (t .words ∷ ws))
+            → answer (λ ws. m)
+            (then {B = List Words} (then {B = TakenRow} x λ y. good (record { words = wordsOf r; rest = drop (p .at) bs }))
+            λ t. then (takeRows m (m - (f + 1)) (suc f) (t .rest)) λ ws. good (t .words ∷ ws))
             ≡ numbered n f
         go x (fine y) e = absurd (h e)
         go x (stopped why) e = rw e

@@ -11,10 +11,12 @@ use lib.ListN.{length, getD, take, drop, replicate, length-append, length-replic
 use lib.Seq.{take-at, drop-at, length-take-le}
 use borrow.Author.Tests.{le-leb, leb-true, lt-ltb, ltb-true, eq-eqb, eqb-true}
 use Rattle.table.specs.Answers.{Result, good, refused, then, answer, leaves, over, success, cutShort, badCount, badFilling, noRoom}
-use Rattle.table.specs.Rows.{Row, Field, operand, source, copies, period, ticks, value, unused, width, ranged, Kind, kinds, kindAt, Words, rowSize, kindOf, fieldsOf, rowOf, maxFlows}
+use Rattle.table.specs.Rows.{Row, Field, operand, source, copies, period, ticks, value, unused, width, ranged, Kind, kinds, kindAt, Words}
+use Rattle.table.specs.Rows.{rowSize, kindOf, fieldsOf, rowOf, maxFlows}
 use Rattle.table.specs.Plain.{split, joined, rowsFrom, countFits, tableOf}
 use Rattle.table.specs.Bits.{toBits, fromBits, bits, bytesFrom, byteCount}
-use Rattle.table.specs.Packed.{Taken, takeField, TakenRow, takeFields, takeRow, takeRows, filling, unpacked, rowBits, rowsBits, packed, reading, writing, readAnswer, wordsAfter, writeAnswer, bytesAfter, countWidth, kindWidth}
+use Rattle.table.specs.Packed.{Taken, takeField, TakenRow, takeFields, takeRow, takeRows, filling, unpacked, rowBits, rowsBits, packed, reading}
+use Rattle.table.specs.Packed.{writing, readAnswer, wordsAfter, writeAnswer, bytesAfter, countWidth, kindWidth}
 use Rattle.table.specs.RoundTrip.{bytesGiven, wordsGiven, RoundTrip}
 use Rattle.table.specs.Private.Laid.{fill, whole}
 use Rattle.table.proofs.Tests.{and-left, and-right, and-both, good-inj, unless-good, then-good}
@@ -277,7 +279,8 @@ written-back bs old buf below ok room = go (reading bs (length old)) refl ok
         let t = then-good (unpacked bs) _ ws e in
         let u = unless-good (leb (rowSize * length (t .0)) (length old)) noRoom 0 (good (t .0)) ws (t .2) in
         let q : unpacked bs ≡ good ws = t .1 ∙ u .1 in
-        let p : take (rowSize * length ws) (joined ws ++ drop (length (joined ws)) old) ≡ joined ws = take-at (joined ws) (drop (length (joined ws)) old) (rowSize * length ws) (length-joined ws) in
+        let p : take (rowSize * length ws) (joined ws ++ drop (length (joined ws)) old) ≡ joined ws =
+        take-at (joined ws) (drop (length (joined ws)) old) (rowSize * length ws) (length-joined ws) in
         rw (p, table-unpacked bs ws q, split-joined ws, packed-unpacked bs ws q below, le-leb (length bs) (length buf) room) (refl, refl)
 
 pub round-trip : RoundTrip

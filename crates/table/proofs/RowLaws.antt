@@ -54,7 +54,12 @@ module _ (bs : List Bool) (at : ℕ) (room : at + longestRecord ≤ lastPlace) (
         no-two e =
             let l : q .at ≤ lastPlace = omega (arith, hk .past, h1 .past, lengths) in
             let i : q .at ≤ length bs = omega (arith, h1 .past, h1 .within) in
-            record { why = cutShort; is = refl; taken = λ m f. rw (hk .field f, kind-there n known, h1 .field f, too-short bs (q .at) (width (kindAt n .two)) l (width-le (kindAt n .two)) i e f) }
+            record {
+              why = cutShort;
+              is = refl;
+              taken = λ m f. rw
+                  (hk .field f, kind-there n known, h1 .field f, too-short bs (q .at) (width (kindAt n .two)) l (width-le (kindAt n .two)) i e f);
+            }
 
         -- the second field was taken
         module _ (y : ℕ) (r : Cursor) (two : takeAt bs (q .at) (width (kindAt n .two)) ≡ takingParts (Got y r)) where
@@ -66,7 +71,17 @@ module _ (bs : List Bool) (at : ℕ) (room : at + longestRecord ≤ lastPlace) (
           no-three e =
               let l : r .at ≤ lastPlace = omega (arith, hk .past, h1 .past, h2 .past, lengths) in
               let i : r .at ≤ length bs = omega (arith, h2 .past, h2 .within) in
-              record { why = cutShort; is = refl; taken = λ m f. rw (hk .field f, kind-there n known, h1 .field f, h2 .field f, too-short bs (r .at) (width (kindAt n .three)) l (width-le (kindAt n .three)) i e f) }
+              record {
+                why = cutShort;
+                is = refl;
+                taken = λ m f. rw (
+                  hk .field f,
+                  kind-there n known,
+                  h1 .field f,
+                  h2 .field f,
+                  too-short bs (r .at) (width (kindAt n .three)) l (width-le (kindAt n .three)) i e f,
+                );
+              }
 
           pub found : (z : ℕ) (s : Cursor) → takeAt bs (r .at) (width (kindAt n .three)) ≡ takingParts (Got z s) → Found bs at (record { kind = n; one = x; two = y; three = z }) s
           unfolding takeRow takeFields rowOf

@@ -85,8 +85,10 @@ module _ (bs : List Bool) (m row at : ℕ) (words old : List ℕ) (st : Storing 
         let len : length head ≡ i + rowSize = length-append (take i words) (plainWords r) ∙ ap (λ (k : ℕ). k + rowSize) (length-take-le i words (omega arith)) in
         let e′ : new ≡ head ++ drop (i + rowSize) words = e ∙ sym (append-assoc (take i words) (plainWords r) (drop (i + rowSize) words)) in
         let t : take (rowSize * (row + 1)) new ≡ head = ap (λ (k : ℕ). take k new) j ∙ ap (take (i + rowSize)) e′ ∙ take-at head (drop (i + rowSize) words) (i + rowSize) len in
-        let u : drop (rowSize * (row + 1)) new ≡ drop (i + rowSize) words = ap (λ (k : ℕ). drop k new) j ∙ ap (drop (i + rowSize)) e′ ∙ drop-at head (drop (i + rowSize) words) (i + rowSize) len in
-        let w : over (joined (n .later)) (drop (i + rowSize) words) ≡ over (joined (n .later)) (drop rowSize (drop i words)) = ap (over (joined (n .later))) (sym (drop-drop rowSize i words)) in
+        let u : drop (rowSize * (row + 1)) new ≡ drop (i + rowSize) words =
+        ap (λ (k : ℕ). drop k new) j ∙ ap (drop (i + rowSize)) e′ ∙ drop-at head (drop (i + rowSize) words) (i + rowSize) len in
+        let w : over (joined (n .later)) (drop (i + rowSize) words) ≡ over (joined (n .later)) (drop rowSize (drop i words)) =
+        ap (over (joined (n .later))) (sym (drop-drop rowSize i words)) in
         let k : ℕ = length (joined (n .later)) in
         let four : 4 + k ≡ suc (suc (suc (suc k))) = omega arith in
         record {

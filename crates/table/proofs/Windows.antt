@@ -57,7 +57,13 @@ run-bits s zero i (suc n) h l = absurd (omega arith)
 run-bits s (suc m) i zero h l = refl
 run-bits s (suc m) i (suc n) h l =
     let x = getD s i 0 in
-    rw (drop-cons s i 0 (omega arith), take-append (suc n) (toBits 8 x) (bits (run s m (suc i))), take-append (suc n) (toBits 8 x) (bits (drop (suc i) s)), length-toBits 8 x, run-bits s m (suc i) (suc n - 8) (omega arith) (omega arith))
+    rw (
+      drop-cons s i 0 (omega arith),
+      take-append (suc n) (toBits 8 x) (bits (run s m (suc i))),
+      take-append (suc n) (toBits 8 x) (bits (drop (suc i) s)),
+      length-toBits 8 x,
+      run-bits s m (suc i) (suc n - 8) (omega arith) (omega arith),
+    )
 
 joined-byte : (x : ℕ) (s : List ℕ) → x < 256 → fromBits (bits (x ∷ s)) ≡ x * 2 ^ (8 * length s) + fromBits (bits s)
 unfolding bits
@@ -151,7 +157,9 @@ had bs at w x p e =
       within = l;
     }
 
-pub too-short : (bs : List Bool) (at w : ℕ) → at ≤ lastPlace → w ≤ widest → at ≤ length bs → takeAt bs at w ≡ takingParts Short → (f : ℕ) → takeField f w (drop at bs) ≡ refused cutShort f
+pub too-short :
+    (bs : List Bool) (at w : ℕ) → at ≤ lastPlace → w ≤ widest → at ≤ length bs → takeAt bs at w ≡ takingParts Short → (f : ℕ)
+    → takeField f w (drop at bs) ≡ refused cutShort f
 unfolding takeAt takeField
 too-short bs at w p q l e f =
     let b = short-of (leb at lastPlace && (leb w widest && leb (at + w) (length bs))) _ e in

@@ -36,7 +36,8 @@ field-more old b₁ b₂ f at q w w′ v h e q= w= e₂ =
 
 -- the bits of a row of a known kind
 pub row-bits : (w : Words) → w .kind < kindCount
-    → ((toBits kindWidth (w .kind) ++ toBits (width (kindAt (w .kind) .one)) (w .one)) ++ toBits (width (kindAt (w .kind) .two)) (w .two)) ++ toBits (width (kindAt (w .kind) .three)) (w .three) ≡ rowBits w
+    → ((toBits kindWidth (w .kind) ++ toBits (width (kindAt (w .kind) .one)) (w .one)) ++ toBits (width (kindAt (w .kind) .two)) (w .two))
+    ++ toBits (width (kindAt (w .kind) .three)) (w .three) ≡ rowBits w
 unfolding rowBits
 row-bits w h = rw (kind-there (w .kind) h) (simp append-assoc)
 

@@ -44,13 +44,21 @@ same-length : tie.Need-same-length Inv-loop μ-loop
 same-length c = search needs
 
 returns : tie.Need-returns Inv-loop μ-loop
-returns c = let a = c .before .before .before .before .before .before .before .before .before .before .before .args in
-    let l = c .before .before .before .before .before .before .before .before .loop in
+returns c =
+    let after-verdict2 = c .before .before in
+    let after-rule = after-verdict2 .before .before in
+    let after-record-at = after-rule .before .before in
+    let in-loop = after-record-at .before in
+    let at-loop = in-loop .before in
+    let entry = at-loop .before .before .before in
+    let a = entry .args in
+    let l = at-loop .loop in
     let rows : List Row = rowsIn (tableOf (a .n) (now (a .words))) in
-    let t = table-made (a .n) (now (a .words)) rows (c .before .before .before .before .before .before .before .before .before .before .before .pre .2) in
-    let r = c .before .before .before .before .before .before .record-at in
-    let g = c .before .before .verdict2 .given in
-    let x = stop (a .n) (now (a .words)) rows (now (a .kept)) (l .f) (l .kept) t (l .inv .2) (c .before .before .before .before .before .before .before .loop-test .taken) (wordsOf (r .result)) (r .ensures) (g .0 .0) (sym (g .1) ∙ c .before .before .before .before .rule .ensures) in
+    let t = table-made (a .n) (now (a .words)) rows (entry .pre .2) in
+    let r = after-record-at .record-at in
+    let g = after-verdict2 .verdict2 .given in
+    let x = stop (a .n) (now (a .words)) rows (now (a .kept)) (l .f) (l .kept) t (l .inv .2) (in-loop .loop-test .taken) (wordsOf (r .result))
+    (r .ensures) (g .0 .0) (sym (g .1) ∙ after-rule .rule .ensures) in
     (c .refusal .ensures ∙ x .0, λ ks e. absurd (x .1 ks e))
 
 add-f : tie.Need-add-f Inv-loop μ-loop
@@ -60,15 +68,25 @@ loop-less : tie.Need-loop-less Inv-loop μ-loop
 loop-less c = search needs
 
 loop-again : tie.Need-loop-again Inv-loop μ-loop
-loop-again c = let a = c .before .before .before .before .before .before .before .before .before .before .before .before .before .before .args in
-    let l = c .before .before .before .before .before .before .before .before .before .before .before .loop in
+loop-again c =
+    let after-store = c .before .before in
+    let after-verdict = after-store .before .before .before in
+    let after-rule = after-verdict .before .before in
+    let after-record-at = after-rule .before .before in
+    let in-loop = after-record-at .before in
+    let at-loop = in-loop .before in
+    let entry = at-loop .before .before .before in
+    let store = after-store .store in
+    let a = entry .args in
+    let l = at-loop .loop in
     let rows : List Row = rowsIn (tableOf (a .n) (now (a .words))) in
-    let t = table-made (a .n) (now (a .words)) rows (c .before .before .before .before .before .before .before .before .before .before .before .before .before .before .pre .2) in
-    let r = c .before .before .before .before .before .before .before .before .before .record-at in
-    let g = c .before .before .before .before .before .verdict .given in (
+    let t = table-made (a .n) (now (a .words)) rows (entry .pre .2) in
+    let r = after-record-at .record-at in
+    let g = after-verdict .verdict .given in (
       search needs,
-      c .before .before .store .kept .0 ∙ l .inv .1,
-      next (a .n) (now (a .words)) rows (now (a .kept)) (l .f) (l .kept) t (l .inv .2) (c .before .before .before .before .before .before .before .before .before .before .loop-test .taken) (wordsOf (r .result)) (r .ensures) (g .0 .0) (c .before .before .store .last .0) (sym (g .1) ∙ c .before .before .before .before .before .before .before .rule .ensures) (search needs) (c .before .before .store .ensures),
+      store .kept .0 ∙ l .inv .1,
+      next (a .n) (now (a .words)) rows (now (a .kept)) (l .f) (l .kept) t (l .inv .2) (in-loop .loop-test .taken) (wordsOf (r .result)) (r .ensures)
+          (g .0 .0) (store .last .0) (sym (g .1) ∙ after-rule .rule .ensures) (search needs) (store .ensures),
     )
 
 success-requires : tie.Need-success-requires Inv-loop μ-loop
@@ -78,10 +96,13 @@ same-length-2 : tie.Need-same-length-2 Inv-loop μ-loop
 same-length-2 c = search needs
 
 returns-2 : tie.Need-returns-2 Inv-loop μ-loop
-returns-2 c = let a = c .before .before .before .before .before .args in
-    let l = c .before .before .loop in
+returns-2 c =
+    let at-loop = c .before .before in
+    let entry = at-loop .before .before .before in
+    let a = entry .args in
+    let l = at-loop .loop in
     let rows : List Row = rowsIn (tableOf (a .n) (now (a .words))) in
-    let t = table-made (a .n) (now (a .words)) rows (c .before .before .before .before .before .pre .2) in
+    let t = table-made (a .n) (now (a .words)) rows (entry .pre .2) in
     let e : length rows ≡ l .f = omega (arith, t .size) in
     let at : l .f ≡ a .n = omega arith in
     let x = finish rows (now (a .kept)) (l .f) (l .kept) e (l .inv .2) in

@@ -32,12 +32,19 @@ source-fits-requires : tie.Need-source-fits-requires Inv-loop μ-loop
 source-fits-requires c κs = search needs
 
 returns : tie.Need-returns Inv-loop μ-loop
-returns c = let a = c .before .before .before .before .before .before .args in
-    let l = c .before .before .before .loop in
+returns c =
+    let after-source-fits = c .before in
+    let in-loop = after-source-fits .before in
+    let at-loop = in-loop .before in
+    let start = at-loop .before .before .before in
+    let a = start .args in
+    let l = at-loop .loop in
     let rows : List Row = rowsIn (tableOf (a .n) (now (a .words))) in
-    let t = table-made (a .n) (now (a .words)) rows (c .before .before .before .before .before .before .pre .1) in
+    let t = table-made (a .n) (now (a .words)) rows (start .pre .1) in
     let test : ℕ → ℕ → Bool = fitsIn (now (a .kept)) in
-    let e : onRegister test (rowAt rows (l .f)) ≡ false = row-register test (a .n) (l .f) (rowWords (now (a .words)) (l .f)) (rowAt rows (l .f)) (t .row-at (l .f) (c .before .before .loop-test .taken)) ∙ sym (c .before .source-fits .ensures) ∙ not-true (c .before .source-fits .result) (c .if1 .taken) in
+    let e : onRegister test (rowAt rows (l .f)) ≡ false =
+    row-register test (a .n) (l .f) (rowWords (now (a .words)) (l .f)) (rowAt rows (l .f)) (t .row-at (l .f) (in-loop .loop-test .taken))
+    ∙ sym (after-source-fits .source-fits .ensures) ∙ not-true (after-source-fits .source-fits .result) (c .if1 .taken) in
     sym (bad-here test (l .f) rows (omega (arith, t .size)) e) ∙ l .inv .1
 
 add-f : tie.Need-add-f Inv-loop μ-loop
@@ -47,19 +54,29 @@ loop-less : tie.Need-loop-less Inv-loop μ-loop
 loop-less c = search needs
 
 loop-again : tie.Need-loop-again Inv-loop μ-loop
-loop-again c = let a = c .before .before .before .before .before .before .args in
-    let l = c .before .before .before .loop in
+loop-again c =
+    let after-source-fits = c .before in
+    let in-loop = after-source-fits .before in
+    let at-loop = in-loop .before in
+    let start = at-loop .before .before .before in
+    let a = start .args in
+    let l = at-loop .loop in
     let rows : List Row = rowsIn (tableOf (a .n) (now (a .words))) in
-    let t = table-made (a .n) (now (a .words)) rows (c .before .before .before .before .before .before .pre .1) in
+    let t = table-made (a .n) (now (a .words)) rows (start .pre .1) in
     let test : ℕ → ℕ → Bool = fitsIn (now (a .kept)) in
-    let e : onRegister test (rowAt rows (l .f)) ≡ true = row-register test (a .n) (l .f) (rowWords (now (a .words)) (l .f)) (rowAt rows (l .f)) (t .row-at (l .f) (c .before .before .loop-test .taken)) ∙ sym (c .before .source-fits .ensures) ∙ not-false (c .before .source-fits .result) (c .if1 .left) in
+    let e : onRegister test (rowAt rows (l .f)) ≡ true =
+    row-register test (a .n) (l .f) (rowWords (now (a .words)) (l .f)) (rowAt rows (l .f)) (t .row-at (l .f) (in-loop .loop-test .taken))
+    ∙ sym (after-source-fits .source-fits .ensures) ∙ not-false (after-source-fits .source-fits .result) (c .if1 .left) in
     (search needs, sym (bad-next test (l .f) rows (omega (arith, t .size)) e) ∙ l .inv .1)
 
 returns-2 : tie.Need-returns-2 Inv-loop μ-loop
-returns-2 c = let a = c .before .before .before .before .args in
-    let l = c .before .loop in
+returns-2 c =
+    let at-loop = c .before in
+    let start = at-loop .before .before .before in
+    let a = start .args in
+    let l = at-loop .loop in
     let rows : List Row = rowsIn (tableOf (a .n) (now (a .words))) in
-    let t = table-made (a .n) (now (a .words)) rows (c .before .before .before .before .pre .1) in
+    let t = table-made (a .n) (now (a .words)) rows (start .pre .1) in
     sym (bad-none (fitsIn (now (a .kept))) (l .f) rows (omega (arith, t .size))) ∙ l .inv .1
 
 pub bad-register-spec : {M : Type 1} → statement M

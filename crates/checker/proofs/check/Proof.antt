@@ -19,10 +19,13 @@ examine-requires : tie.Need-examine-requires
 examine-requires c κs = search needs
 
 returns : tie.Need-returns
-returns c = let a = c .before .before .before .before .before .args in
+returns c =
+    let after-examine = c .before .before in
+    let start = after-examine .before .before .before in
+    let a = start .args in
     let ws = now (a .words) in
     let old = now (a .clocks) in
-    let x = c .before .before .examine in
+    let x = after-examine .examine in
     let o = answer-other length (tableOf (a .count) ws) (λ z. c .if1 .taken (ap (λ w. w .number) (x .ensures) ∙ z)) in
     let e = whole-refused (a .count) ws old (o .0) (o .1) (check-table (a .count) ws (length old) (o .0) (o .1) (o .2)) in
     (x .ensures ∙ ap (answer length) (o .2) ∙ e .0, e .1)
@@ -34,72 +37,101 @@ refusal-requires : tie.Need-refusal-requires
 refusal-requires c κs = search needs
 
 returns-2 : tie.Need-returns-2
-returns-2 c = let a = c .before .before .before .before .before .before .before .args in
+returns-2 c =
+    let then2 = c .before in
+    let else1 = then2 .before in
+    let after-examine = else1 .before .before in
+    let start = after-examine .before .before .before in
+    let a = start .args in
     let ws = now (a .words) in
     let old = now (a .clocks) in
-    let x = c .before .before .before .before .examine in
-    let z = answer-zero length (tableOf (a .count) ws) (ap (λ w. w .number) (sym (x .ensures)) ∙ c .before .before .if1 .left) in
+    let x = after-examine .examine in
+    let z = answer-zero length (tableOf (a .count) ws) (ap (λ w. w .number) (sym (x .ensures)) ∙ else1 .if1 .left) in
     let g : tableOf (a .count) ws ≡ good (rowsIn (tableOf (a .count) ws)) = rows-good (a .count) ws (z .0) (z .1) in
     let t = table-made (a .count) ws (rowsIn (tableOf (a .count) ws)) g in
-    let e = whole-refused (a .count) ws old noRoom 0 (check-room (a .count) ws (length old) (z .0) (z .1) (c .before .if2 .taken)) in
+    let e = whole-refused (a .count) ws old noRoom 0 (check-room (a .count) ws (length old) (z .0) (z .1) (then2 .if2 .taken)) in
     (c .refusal .ensures ∙ e .0, e .1)
 
 slice-aggregate-judge : tie.Need-slice-aggregate-judge
 slice-aggregate-judge c = search needs
 
 judge-requires : tie.Need-judge-requires
-judge-requires c κs = let a = c .before .before .before .before .before .before .before .args in
+judge-requires c κs =
+    let else1 = c .before .before in
+    let after-examine = else1 .before .before in
+    let start = after-examine .before .before .before in
+    let a = start .args in
     let ws = now (a .words) in
     let old = now (a .clocks) in
-    let x = c .before .before .before .before .examine in
-    let z = answer-zero length (tableOf (a .count) ws) (ap (λ w. w .number) (sym (x .ensures)) ∙ c .before .before .if1 .left) in
+    let x = after-examine .examine in
+    let z = answer-zero length (tableOf (a .count) ws) (ap (λ w. w .number) (sym (x .ensures)) ∙ else1 .if1 .left) in
     let g : tableOf (a .count) ws ≡ good (rowsIn (tableOf (a .count) ws)) = rows-good (a .count) ws (z .0) (z .1) in
     let t = table-made (a .count) ws (rowsIn (tableOf (a .count) ws)) g in
     (t .few, omega (arith, t .few), g)
 
 returns-3 : tie.Need-returns-3
-returns-3 c = let a = c .before .before .before .before .before .before .before .before .before .before .before .args in
+returns-3 c =
+    let after-judge = c .before .before .before in
+    let else2 = after-judge .before .before in
+    let else1 = else2 .before in
+    let after-examine = else1 .before .before in
+    let start = after-examine .before .before .before in
+    let a = start .args in
     let ws = now (a .words) in
     let old = now (a .clocks) in
-    let x = c .before .before .before .before .before .before .before .before .examine in
-    let z = answer-zero length (tableOf (a .count) ws) (ap (λ w. w .number) (sym (x .ensures)) ∙ c .before .before .before .before .before .before .if1 .left) in
+    let x = after-examine .examine in
+    let z = answer-zero length (tableOf (a .count) ws) (ap (λ w. w .number) (sym (x .ensures)) ∙ else1 .if1 .left) in
     let g : tableOf (a .count) ws ≡ good (rowsIn (tableOf (a .count) ws)) = rows-good (a .count) ws (z .0) (z .1) in
     let t = table-made (a .count) ws (rowsIn (tableOf (a .count) ws)) g in
-    let j = c .before .before .before .judge in
+    let j = after-judge .judge in
     let rows : List Row = rowsIn (tableOf (a .count) ws) in
     let o = answer-other length (clocksOf rows) (λ z. c .if3 .taken (ap (λ w. w .number) (j .ensures .0) ∙ z)) in
-    let e = whole-refused (a .count) ws old (o .0) (o .1) (check-clocks (a .count) ws (length old) g (c .before .before .before .before .before .if2 .left) ∙ o .2) in
+    let e = whole-refused (a .count) ws old (o .0) (o .1) (check-clocks (a .count) ws (length old) g (else2 .if2 .left) ∙ o .2) in
     (j .ensures .0 ∙ ap (answer length) (o .2) ∙ e .0, e .1)
 
 slice-aggregate-copy : tie.Need-slice-aggregate-copy
 slice-aggregate-copy c = search needs
 
 copy-requires : tie.Need-copy-requires
-copy-requires c κs = let a = c .before .before .before .before .before .before .before .before .before .before .before .before .before .args in
+copy-requires c κs =
+    let after-judge = c .before .before .before .before .before in
+    let else2 = after-judge .before .before in
+    let else1 = else2 .before in
+    let after-examine = else1 .before .before in
+    let start = after-examine .before .before .before in
+    let a = start .args in
     let ws = now (a .words) in
     let old = now (a .clocks) in
-    let x = c .before .before .before .before .before .before .before .before .before .before .examine in
-    let z = answer-zero length (tableOf (a .count) ws) (ap (λ w. w .number) (sym (x .ensures)) ∙ c .before .before .before .before .before .before .before .before .if1 .left) in
+    let x = after-examine .examine in
+    let z = answer-zero length (tableOf (a .count) ws) (ap (λ w. w .number) (sym (x .ensures)) ∙ else1 .if1 .left) in
     let g : tableOf (a .count) ws ≡ good (rowsIn (tableOf (a .count) ws)) = rows-good (a .count) ws (z .0) (z .1) in
     let t = table-made (a .count) ws (rowsIn (tableOf (a .count) ws)) g in
-    (omega (arith, t .few, c .before .before .before .before .before .judge .kept .1 .1 .0), c .before .before .before .before .before .before .before .if2 .left)
+    (omega (arith, t .few, after-judge .judge .kept .1 .1 .0), else2 .if2 .left)
 
 same-length : tie.Need-same-length
 same-length c = search needs
 
 returns-4 : tie.Need-returns-4
-returns-4 c = let a = c .before .before .before .before .before .before .before .before .before .before .before .before .before .before .before .before .args in
+returns-4 c =
+    let after-copy = c .before .before in
+    let else3 = after-copy .before .before .before in
+    let after-judge = else3 .before .before .before in
+    let else2 = after-judge .before .before in
+    let else1 = else2 .before in
+    let after-examine = else1 .before .before in
+    let start = after-examine .before .before .before in
+    let a = start .args in
     let ws = now (a .words) in
     let old = now (a .clocks) in
-    let x = c .before .before .before .before .before .before .before .before .before .before .before .before .before .examine in
-    let z = answer-zero length (tableOf (a .count) ws) (ap (λ w. w .number) (sym (x .ensures)) ∙ c .before .before .before .before .before .before .before .before .before .before .before .if1 .left) in
+    let x = after-examine .examine in
+    let z = answer-zero length (tableOf (a .count) ws) (ap (λ w. w .number) (sym (x .ensures)) ∙ else1 .if1 .left) in
     let g : tableOf (a .count) ws ≡ good (rowsIn (tableOf (a .count) ws)) = rows-good (a .count) ws (z .0) (z .1) in
     let t = table-made (a .count) ws (rowsIn (tableOf (a .count) ws)) g in
-    let j = c .before .before .before .before .before .before .before .before .judge in
+    let j = after-judge .judge in
     let rows : List Row = rowsIn (tableOf (a .count) ws) in
-    let y = answer-zero length (clocksOf rows) (ap (λ w. w .number) (sym (j .ensures .0)) ∙ c .before .before .before .before .before .if3 .left) in
-    let w = check-clocks (a .count) ws (length old) g (c .before .before .before .before .before .before .before .before .before .before .if2 .left) in
-    (j .ensures .0 ∙ ap (answer length) (sym w), whole-copied (a .count) ws old _ _ _ rows (y .0) t (y .1) w (j .ensures .1 (y .0) (y .1) .0) (c .before .before .copy .ensures))
+    let y = answer-zero length (clocksOf rows) (ap (λ w. w .number) (sym (j .ensures .0)) ∙ else3 .if3 .left) in
+    let w = check-clocks (a .count) ws (length old) g (else2 .if2 .left) in
+    (j .ensures .0 ∙ ap (answer length) (sym w), whole-copied (a .count) ws old _ _ _ rows (y .0) t (y .1) w (j .ensures .1 (y .0) (y .1) .0) (after-copy .copy .ensures))
 
 pub check-spec : {M : Type 1} → statement M
 check-spec =

@@ -50,8 +50,24 @@ word-at-requires-7 : tie.Need-word-at-requires-7
 word-at-requires-7 c κs = search needs
 
 returns : tie.Need-returns
-returns c = rw (c .word-at7 .ensures, c .before .word-at6 .ensures, c .before .before .word-at5 .ensures, c .before .before .before .word-at4 .ensures, c .before .before .before .before .word-at3 .ensures, c .before .before .before .before .before .word-at2 .ensures, c .before .before .before .before .before .before .word-at .ensures)
-    (clock-read (now (c .before .before .before .before .before .before .before .before .args .kept)) (clockSize * c .before .before .before .before .before .before .before .before .args .f))
+returns c =
+    let after-word-at6 = c .before in
+    let after-word-at5 = after-word-at6 .before in
+    let after-word-at4 = after-word-at5 .before in
+    let after-word-at3 = after-word-at4 .before in
+    let after-word-at2 = after-word-at3 .before in
+    let after-word-at = after-word-at2 .before in
+    let start = after-word-at .before .before in
+    rw (
+      c .word-at7 .ensures,
+      after-word-at6 .word-at6 .ensures,
+      after-word-at5 .word-at5 .ensures,
+      after-word-at4 .word-at4 .ensures,
+      after-word-at3 .word-at3 .ensures,
+      after-word-at2 .word-at2 .ensures,
+      after-word-at .word-at .ensures,
+    )
+    (clock-read (now (start .args .kept)) (clockSize * start .args .f))
 
 pub clock-at-spec : {M : Type 1} → statement M
 clock-at-spec =

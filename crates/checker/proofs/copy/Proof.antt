@@ -29,8 +29,11 @@ mul-to-2 : tie.Need-mul-to-2 Inv-loop μ-loop
 mul-to-2 c = search needs
 
 slice-write-to : tie.Need-slice-write-to Inv-loop μ-loop
-slice-write-to c = let a = c .before .before .before .args in
-    let l = c .before .before .loop in
+slice-write-to c =
+    let at-loop = c .before .before in
+    let start = at-loop .before in
+    let a = start .args in
+    let l = at-loop .loop in
     omega (arith, ap length (l .inv .1), copy-length (now (a .from)) (now (a .to)) (l .i) (search needs) (search needs))
 
 add-i : tie.Need-add-i Inv-loop μ-loop
@@ -40,8 +43,11 @@ loop-less : tie.Need-loop-less Inv-loop μ-loop
 loop-less c = search needs
 
 loop-again : tie.Need-loop-again Inv-loop μ-loop
-loop-again c = let a = c .before .before .before .args in
-    let l = c .before .before .loop in
+loop-again c =
+    let at-loop = c .before .before in
+    let start = at-loop .before in
+    let a = start .args in
+    let l = at-loop .loop in
     (search needs, ap (λ (t : List ℕ). set t (l .i) (getD (now (a .from)) (l .i) 0)) (l .inv .1) ∙ copy-more (now (a .from)) (now (a .to)) (l .i) (search needs) (search needs))
 
 same-length : tie.Need-same-length Inv-loop μ-loop

@@ -126,26 +126,52 @@ returns-8 c = rw (c .before .before .match .keys8, c .tail .ensures, c .before .
 
 returns-9 : tie.Need-returns-9
 unfolding rule ruleOf kinds
-returns-9 c = rw (c .before .before .before .before .match .keys9, c .sampled .ensures, c .before .condition .ensures, c .before .before .clock-at8 .ensures, c .before .before .before .clock-at7 .ensures)
+returns-9 c =
+    let after-condition = c .before in
+    let after-clock-at8 = after-condition .before in
+    let after-clock-at7 = after-clock-at8 .before in
+    let at-match-keys9 = after-clock-at7 .before in
+    rw (at-match-keys9 .match .keys9, c .sampled .ensures, after-condition .condition .ensures, after-clock-at8 .clock-at8 .ensures, after-clock-at7 .clock-at7 .ensures)
 
 returns-10 : tie.Need-returns-10
 unfolding rule ruleOf kinds
-returns-10 c = rw (c .before .before .before .before .match .keys10, c .sampled2 .ensures, c .before .condition2 .ensures, c .before .before .clock-at10 .ensures, c .before .before .before .clock-at9 .ensures)
+returns-10 c =
+    let after-condition2 = c .before in
+    let after-clock-at10 = after-condition2 .before in
+    let after-clock-at9 = after-clock-at10 .before in
+    let at-match-keys10 = after-clock-at9 .before in
+    rw (at-match-keys10 .match .keys10, c .sampled2 .ensures, after-condition2 .condition2 .ensures, after-clock-at10 .clock-at10 .ensures, after-clock-at9 .clock-at9 .ensures)
 
 returns-11 : tie.Need-returns-11
 unfolding rule ruleOf kinds
-returns-11 c = rw (c .before .before .before .before .match .keys11, c .merged .ensures, c .before .clock-at13 .ensures, c .before .before .clock-at12 .ensures, c .before .before .before .clock-at11 .ensures)
+returns-11 c =
+    let after-clock-at13 = c .before in
+    let after-clock-at12 = after-clock-at13 .before in
+    let after-clock-at11 = after-clock-at12 .before in
+    let at-match-keys11 = after-clock-at11 .before in
+    rw (at-match-keys11 .match .keys11, c .merged .ensures, after-clock-at13 .clock-at13 .ensures, after-clock-at12 .clock-at12 .ensures, after-clock-at11 .clock-at11 .ensures)
 
 returns-12 : tie.Need-returns-12
 returns-12 c =
-    let a = c .before .before .before .before .before .before .args in
-    let n = c .before .before .before .before .match .rest in
-    rw (rule-combine _ (a .kind) (a .p) (a .q) (a .r) (n .0 .0 .0 .0 .0 .0 .0 .0 .0 .0 .1) (n .0 .0 .0 .0 .0 .0 .0 .0 .0 .1) (omega arith), c .combined .ensures, c .before .clock-at15 .ensures, c .before .before .clock-at14 .ensures)
+    let after-clock-at15 = c .before in
+    let after-clock-at14 = after-clock-at15 .before in
+    let at-match-rest = after-clock-at14 .before .before in
+    let start = at-match-rest .before .before in
+    let a = start .args in
+    let n = at-match-rest .match .rest in
+    rw (
+      rule-combine _ (a .kind) (a .p) (a .q) (a .r) (n .0 .0 .0 .0 .0 .0 .0 .0 .0 .0 .1) (n .0 .0 .0 .0 .0 .0 .0 .0 .0 .1) (omega arith),
+      c .combined .ensures,
+      after-clock-at15 .clock-at15 .ensures,
+      after-clock-at14 .clock-at14 .ensures,
+    )
 
 returns-13 : tie.Need-returns-13
 returns-13 c =
-    let a = c .before .before .before .args in
-    let n = c .before .match .rest in
+    let at-match-rest = c .before in
+    let start = at-match-rest .before .before in
+    let a = start .args in
+    let n = at-match-rest .match .rest in
     let other = no-kind (a .kind) (omega arith) (n .0 .0 .0 .0 .0 .0 .0 .0 .1) (n .0 .0 .0 .0 .0 .0 .0 .1) (n .0 .0 .0 .0 .0 .0 .1) (n .0 .0 .0 .0 .0 .1) (n .0 .0 .0 .0 .1)
     (n .0 .0 .0 .1) (n .0 .0 .1) (n .0 .1) (n .1) in
     rw (rule-unknown _ (a .kind) (a .p) (a .q) (a .r) other)

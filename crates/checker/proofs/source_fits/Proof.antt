@@ -13,8 +13,11 @@ record-at-requires : tie.Need-record-at-requires
 record-at-requires c κs = search needs
 
 returns : tie.Need-returns
-returns c = let r = c .before .before .record-at in
-    let k = now (c .before .before .before .before .before .args .kept) in
+returns c =
+    let after-record-at = c .before .before in
+    let start = after-record-at .before .before .before in
+    let r = after-record-at .record-at in
+    let k = now (start .args .kept) in
     let e : true ≡ sourceIn k (wordsOf (r .result)) = rw (ne-eqb _ _ (c .if1 .taken)) in
     e ∙ ap (sourceIn k) (r .ensures)
 
@@ -28,9 +31,16 @@ same-requires : tie.Need-same-requires
 same-requires c κs = search needs
 
 returns-2 : tie.Need-returns-2
-returns-2 c = let r = c .before .before .before .before .before .record-at in
-    let k = now (c .before .before .before .before .before .before .before .before .args .kept) in
-    let e : c .same .result ≡ sourceIn k (wordsOf (r .result)) = rw (eq-eqb _ _ (c .before .before .before .if1 .left), c .same .ensures, c .before .clock-at2 .ensures, c .before .before .clock-at .ensures) in
+returns-2 c =
+    let after-clock-at2 = c .before in
+    let after-clock-at = after-clock-at2 .before in
+    let else1 = after-clock-at .before in
+    let after-record-at = else1 .before .before in
+    let start = after-record-at .before .before .before in
+    let r = after-record-at .record-at in
+    let k = now (start .args .kept) in
+    let e : c .same .result ≡ sourceIn k (wordsOf (r .result)) =
+    rw (eq-eqb _ _ (else1 .if1 .left), c .same .ensures, after-clock-at2 .clock-at2 .ensures, after-clock-at .clock-at .ensures) in
     e ∙ ap (sourceIn k) (r .ensures)
 
 pub source-fits-spec : {M : Type 1} → statement M

@@ -28,17 +28,21 @@ cast-end c = search needs
 
 array-share-prefix-text : tie.Need-array-share-prefix-text
 array-share-prefix-text c =
-    let given = c .before .listed .given .1 in
-    let before = c .before .before .before .before in
-    let l = before .listing .ensures in
-    size-fits (now (before .before .before .before .args .packed)) (replicate longest 0) (ap parts (sym given) ∙ l .0) (l .1) .0
+    let after-listed = c .before in
+    let after-listing = after-listed .before .before .before in
+    let start = after-listing .before .before .before in
+    let given = after-listed .listed .given .1 in
+    let l = after-listing .listing .ensures in
+    size-fits (now (start .args .packed)) (replicate longest 0) (ap parts (sym given) ∙ l .0) (l .1) .0
 
 slice-aggregate-write-all : tie.Need-slice-aggregate-write-all
 slice-aggregate-write-all c =
-    let given = c .before .before .listed .given .1 in
-    let before = c .before .before .before .before .before in
-    let l = before .listing .ensures in
-    size-fits (now (before .before .before .before .args .packed)) (replicate longest 0) (ap parts (sym given) ∙ l .0) (l .1) .1
+    let after-listed = c .before .before in
+    let after-listing = after-listed .before .before .before in
+    let start = after-listing .before .before .before in
+    let given = after-listed .listed .given .1 in
+    let l = after-listing .listing .ensures in
+    size-fits (now (start .args .packed)) (replicate longest 0) (ap parts (sym given) ∙ l .0) (l .1) .1
 
 write-all-requires : tie.Need-write-all-requires
 write-all-requires c κs = search needs

@@ -31,15 +31,19 @@ returns c = search needs
 
 array-share-prefix-packed : tie.Need-array-share-prefix-packed
 array-share-prefix-packed c =
-    let g = c .before .input .given in
-    let m = c .before .before .before .before .read-all in
+    let after-input = c .before in
+    let after-read-all = after-input .before .before .before in
+    let g = after-input .input .given in
+    let m = after-read-all .read-all in
     let h : g .0 .0 ≤ length (m .last .0) = subst (λ r. Within r (m .last .0)) (g .1) (m .ensures) in
     h
 
 slice-aggregate-list : tie.Need-slice-aggregate-list
 slice-aggregate-list c =
-    let g = c .before .before .input .given in
-    let m = c .before .before .before .before .before .read-all in
+    let after-input = c .before .before in
+    let after-read-all = after-input .before .before .before in
+    let g = after-input .input .given in
+    let m = after-read-all .read-all in
     let h : g .0 .0 ≤ length (m .last .0) = subst (λ r. Within r (m .last .0)) (g .1) (m .ensures) in
     sym (length-take-le (g .0 .0) (m .last .0) h)
 

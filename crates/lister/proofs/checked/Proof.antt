@@ -33,11 +33,12 @@ parts-requires c κs = search needs
 
 returns : tie.Need-returns
 returns c =
-    let before = c .before .before .before .before in
-    let start = before .before .before .before .before in
+    let after-enum-told = c .before in
+    let after-read = after-enum-told .before .before .before in
+    let start = after-read .before .before .before .before in
     let bs : List ℕ = now (start .args .packed) in
-    let r = before .read in
-    let g = c .before .enum-told .given in
+    let r = after-read .read in
+    let g = after-enum-told .enum-told .given in
     let x = read-refused bs (g .0 .0) (g .0 .1 .0) (ap parts (sym (g .1)) ∙ r .ensures .0) in
     let e : checked bs ≡ refused (x .0) (x .1) = checked-refused bs (x .0) (x .1) (x .2) in
     let y : c .parts .result ≡ refusal (x .0) (x .1) = c .parts .ensures ∙ r .ensures .0 ∙ ap (answer length) (reading-whole bs ∙ x .2) in
@@ -51,19 +52,23 @@ mul-size c = search needs
 
 array-share-prefix-words : tie.Need-array-share-prefix-words
 array-share-prefix-words c =
-    let before = c .before .before .before .before in
-    let r = before .read in
-    let g = c .before .reading .given in
-    let bs : List ℕ = now (before .before .before .before .before .args .packed) in
+    let after-reading = c .before in
+    let after-read = after-reading .before .before .before in
+    let start = after-read .before .before .before .before in
+    let r = after-read .read in
+    let g = after-reading .reading .given in
+    let bs : List ℕ = now (start .args .packed) in
     let x = read-table bs (g .0 .0) (ap parts (sym (g .1)) ∙ r .ensures .0) in
     omega (arith, r .kept .1 .0, x .2, opened bs (x .0) (x .1) .few)
 
 slice-aggregate-check : tie.Need-slice-aggregate-check
 slice-aggregate-check c =
-    let before = c .before .before .before .before .before in
-    let r = before .read in
-    let g = c .before .before .reading .given in
-    let bs : List ℕ = now (before .before .before .before .before .args .packed) in
+    let after-reading = c .before .before in
+    let after-read = after-reading .before .before .before in
+    let start = after-read .before .before .before .before in
+    let r = after-read .read in
+    let g = after-reading .reading .given in
+    let bs : List ℕ = now (start .args .packed) in
     let x = read-table bs (g .0 .0) (ap parts (sym (g .1)) ∙ r .ensures .0) in
     let h : rowSize * g .0 .0 ≤ length (r .last .1 .0) = omega (arith, r .kept .1 .0, x .2, opened bs (x .0) (x .1) .few) in
     sym (length-take-le (rowSize * g .0 .0) (r .last .1 .0) h)
@@ -76,13 +81,15 @@ same-length c = search needs
 
 returns-2 : tie.Need-returns-2
 returns-2 c =
-    let before = c .before .before .before .before .before .before .before .before .before in
-    let start = before .before .before .before .before in
-    let r = before .read in
-    let g = c .before .before .before .before .before .before .reading .given in
+    let after-check = c .before .before in
+    let after-reading = after-check .before .before .before .before in
+    let after-read = after-reading .before .before .before in
+    let start = after-read .before .before .before .before in
+    let r = after-read .read in
+    let g = after-reading .reading .given in
     let bs : List ℕ = now (start .args .packed) in
     let old : List ℕ = now (start .args .clocks) in
-    let k = c .before .before .check in
+    let k = after-check .check in
     let x = read-table bs (g .0 .0) (ap parts (sym (g .1)) ∙ r .ensures .0) in
     let e = checked-words bs (replicate (rowSize * maxFlows) 0) (x .0) (length old) (x .1) (x .2) refl (start .pre) (r .ensures .1) in
     (k .ensures .0 ∙ ap (answer length) e, k .ensures .1 ∙ ap (λ z. leaves clocksWords z old) e)

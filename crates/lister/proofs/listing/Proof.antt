@@ -33,11 +33,14 @@ same-length c = search needs
 
 returns-2 : tie.Need-returns-2
 returns-2 c =
-    let w = c .before .before .put-refusal .ensures in
-    let test = c .before .before .before .before in
-    let k = test .before .before .before .checked in
-    let entry = test .before .before .before .before .before in
-    let bs = now (entry .before .before .before .args .packed) in
+    let after-put-refusal = c .before .before in
+    let test = after-put-refusal .before .before in
+    let after-checked = test .before .before .before in
+    let entry = after-checked .before .before in
+    let start = entry .before .before .before in
+    let w = after-put-refusal .put-refusal .ensures in
+    let k = after-checked .checked in
+    let bs = now (start .args .packed) in
     all-room bs (entry .if1 .left) (w .1) (refusal-listed bs (k .result) (k .ensures .0) (test .if2 .taken)) (w .0)
 
 slice-aggregate-put-table : tie.Need-slice-aggregate-put-table
@@ -46,32 +49,38 @@ slice-aggregate-put-table c = search needs
 put-table-requires : tie.Need-put-table-requires
 put-table-requires c κs =
     let test = c .before .before in
-    let k = test .before .before .before .checked in
-    let entry = test .before .before .before .before .before in
-    let bs = now (entry .before .before .before .args .packed) in
+    let after-checked = test .before .before .before in
+    let start = after-checked .before .before .before .before .before in
+    let k = after-checked .checked in
+    let bs = now (start .args .packed) in
     let t = table-listed bs (k .result) (k .ensures .0) (replicate (clockSize * maxFlows) 0) (k .last .1 .0) (test .if2 .left) (k .ensures .1) in
     t .0
 
 cast-t18 : tie.Need-cast-t18
 cast-t18 c =
-    let test = c .before .before .before .before .before in
-    let k = test .before .before .before .checked in
-    let entry = test .before .before .before .before .before in
-    let bs = now (entry .before .before .before .args .packed) in
+    let after-put-table = c .before .before in
+    let test = after-put-table .before .before .before in
+    let after-checked = test .before .before .before in
+    let start = after-checked .before .before .before .before .before in
+    let k = after-checked .checked in
+    let bs = now (start .args .packed) in
     let t = table-listed bs (k .result) (k .ensures .0) (replicate (clockSize * maxFlows) 0) (k .last .1 .0) (test .if2 .left) (k .ensures .1) in
-    omega (arith, no-further (c .before .before .put-table .ensures), t .1)
+    omega (arith, no-further (after-put-table .put-table .ensures), t .1)
 
 same-length-2 : tie.Need-same-length-2
 same-length-2 c = search needs
 
 returns-3 : tie.Need-returns-3
 returns-3 c =
-    let test = c .before .before .before .before .before in
-    let k = test .before .before .before .checked in
-    let entry = test .before .before .before .before .before in
-    let bs = now (entry .before .before .before .args .packed) in
+    let after-put-table = c .before .before in
+    let test = after-put-table .before .before .before in
+    let after-checked = test .before .before .before in
+    let entry = after-checked .before .before in
+    let start = entry .before .before .before in
+    let k = after-checked .checked in
+    let bs = now (start .args .packed) in
     let t = table-listed bs (k .result) (k .ensures .0) (replicate (clockSize * maxFlows) 0) (k .last .1 .0) (test .if2 .left) (k .ensures .1) in
-    all-room bs (entry .if1 .left) (t .1) (t .2) (c .before .before .put-table .ensures)
+    all-room bs (entry .if1 .left) (t .1) (t .2) (after-put-table .put-table .ensures)
 
 pub listing-spec : {M : Type 1} → statement M
 listing-spec =

@@ -24,9 +24,10 @@ returns : tie.Need-returns
 unfolding wordText
 returns c =
     let end = c .before .before in
-    let number = end .before .before .before .before .before in
+    let after-sign = end .before in
+    let number = after-sign .before .before .before .before in
     let letter = number .before .before .before .before in
-    both (letter .put .ensures) (both (number .put-decimal .ensures) (rw (← end .before .sign .ensures) (end .put2 .ensures)))
+    both (letter .put .ensures) (both (number .put-decimal .ensures) (rw (← after-sign .sign .ensures) (end .put2 .ensures)))
 
 pub put-condition-spec : {M : Type 1} → statement M
 put-condition-spec =

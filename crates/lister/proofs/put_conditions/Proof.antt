@@ -13,7 +13,11 @@ same-length c = search needs
 
 returns : tie.Need-returns
 unfolding countedText
-returns c = rw (eq-eqb (c .before .before .before .before .before .before .before .args .n) 0 (c .before .before .before .before .if1 .taken)) (c .before .before .put .ensures)
+returns c =
+    let after-put = c .before .before in
+    let then1 = after-put .before .before in
+    let start = then1 .before .before .before in
+    rw (eq-eqb (start .args .n) 0 (then1 .if1 .taken)) (after-put .put .ensures)
 
 put-words-requires : tie.Need-put-words-requires
 put-words-requires c κs = search needs
@@ -23,7 +27,11 @@ same-length-2 c = search needs
 
 returns-2 : tie.Need-returns-2
 unfolding countedText
-returns-2 c = rw (ne-eqb (c .before .before .before .before .before .before .before .args .n) 0 (c .before .before .before .before .if1 .left)) (c .before .before .put-words .ensures)
+returns-2 c =
+    let after-put-words = c .before .before in
+    let else1 = after-put-words .before .before in
+    let start = else1 .before .before .before in
+    rw (ne-eqb (start .args .n) 0 (else1 .if1 .left)) (after-put-words .put-words .ensures)
 
 pub put-conditions-spec : {M : Type 1} → statement M
 put-conditions-spec =

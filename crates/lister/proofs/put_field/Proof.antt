@@ -14,7 +14,10 @@ same-length : tie.Need-same-length
 same-length c = search needs
 
 returns : tie.Need-returns
-returns c = both (c .before .before .before .before .before .before .put-decimal .ensures) (c .before .before .put .ensures)
+returns c =
+    let after-put = c .before .before in
+    let after-put-decimal = after-put .before .before .before .before in
+    both (after-put-decimal .put-decimal .ensures) (after-put .put .ensures)
 
 pub put-field-spec : {M : Type 1} → statement M
 put-field-spec = tie.close (tie.spec put-decimal-requires put-requires same-length returns)

@@ -57,7 +57,8 @@ returns c =
     let n = first .before .before in
     let phase = n .before in
     let period = phase .before in
-    let a = period .before .before .before .args in
+    let start = period .before .before .before in
+    let a = start .args in
     let by-words = clock-by (a .f) (clockSize * a .f) (now (a .words)) (period .word-at .ensures) (phase .word-at2 .ensures) (n .word-at3 .ensures) in
     let last = both (conditions .put-conditions .ensures) (end .put .ensures) in
     rw by-words (both (first .put-field .ensures) (both (second .put-field2 .ensures) (both (third .put-field3 .ensures) last)))

@@ -33,9 +33,12 @@ loop-less c = search needs
 
 loop-again : tie.Need-loop-again Inv-loop μ-loop
 loop-again c =
-    let a = c .before .before .before .before .before .before .before .before .args in
-    let l = c .before .before .before .before .before .loop in
-    let w = c .before .before .put-line in
+    let after-put-line = c .before .before in
+    let at-loop = after-put-line .before .before .before in
+    let start = at-loop .before .before .before in
+    let a = start .args in
+    let l = at-loop .loop in
+    let w = after-put-line .put-line in
     let s = rw (clocks-step (a .n) (l .f) (now (a .words)) (search needs)) at (l .inv .2) in
     (search needs, w .kept .0 ∙ l .inv .1, and-then s (w .ensures))
 
@@ -43,8 +46,11 @@ same-length : tie.Need-same-length Inv-loop μ-loop
 same-length c = c .before .loop .inv .1
 
 returns : tie.Need-returns Inv-loop μ-loop
-returns c = let a = c .before .before .before .before .args in
-    let l = c .before .loop in
+returns c =
+    let at-loop = c .before in
+    let start = at-loop .before .before .before in
+    let a = start .args in
+    let l = at-loop .loop in
     finish (rw (clocks-end (a .n) (l .f) (now (a .words)) (c .loop-test .left)) at (l .inv .2))
 
 pub put-lines-spec : {M : Type 1} → statement M

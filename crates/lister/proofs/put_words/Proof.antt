@@ -41,18 +41,25 @@ loop-less c = search needs
 
 loop-again : tie.Need-loop-again Inv-loop μ-loop
 loop-again c =
-    let a = c .before .before .before .before .before .before .before .before .before .args in
-    let l = c .before .before .before .before .before .before .loop in
-    let w = c .before .before .put-condition in
+    let after-put-condition = c .before .before in
+    let after-word-at = after-put-condition .before .before in
+    let at-loop = after-word-at .before .before in
+    let start = at-loop .before .before .before in
+    let a = start .args in
+    let l = at-loop .loop in
+    let w = after-put-condition .put-condition in
     let s = rw (words-step (a .n) (l .i) (a .from) (now (a .words)) (search needs)) at (l .inv .2) in
-    (search needs, w .kept .0 ∙ l .inv .1, and-then s (rw (c .before .before .before .before .word-at .ensures) at (w .ensures)))
+    (search needs, w .kept .0 ∙ l .inv .1, and-then s (rw (after-word-at .word-at .ensures) at (w .ensures)))
 
 same-length : tie.Need-same-length Inv-loop μ-loop
 same-length c = c .before .loop .inv .1
 
 returns : tie.Need-returns Inv-loop μ-loop
-returns c = let a = c .before .before .before .before .args in
-    let l = c .before .loop in
+returns c =
+    let at-loop = c .before in
+    let start = at-loop .before .before .before in
+    let a = start .args in
+    let l = at-loop .loop in
     finish (rw (words-end (a .n) (l .i) (a .from) (now (a .words)) (c .loop-test .left)) at (l .inv .2))
 
 pub put-words-spec : {M : Type 1} → statement M

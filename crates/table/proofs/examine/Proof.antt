@@ -14,8 +14,10 @@ told-requires c κs = search needs
 
 returns : tie.Need-returns
 returns c =
-    let a = c .before .before .before .args in
-    c .told .ensures ∙ sym (rows-counted (a .count) (now (a .words)) ∙ c .before .survey .ensures .0)
+    let after-survey = c .before in
+    let start = after-survey .before .before in
+    let a = start .args in
+    c .told .ensures ∙ sym (rows-counted (a .count) (now (a .words)) ∙ after-survey .survey .ensures .0)
 
 pub examine-spec : {M : Type 1} → statement M
 examine-spec = tie.close (tie.spec survey-requires told-requires returns)

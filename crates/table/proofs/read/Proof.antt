@@ -19,9 +19,11 @@ enum-told c = search needs
 
 returns : tie.Need-returns
 returns c =
-    let a = c .before .before .before .before .before .args in
+    let after-inspect = c .before .before in
+    let start = after-inspect .before .before .before in
+    let a = start .args in
     let g = c .enum-told .given in
-    let d = read-refused (now (a .packed)) (now (a .words)) (g .0 .0) (g .0 .1 .0) (c .before .before .inspect .ensures ∙ ap parts (g .1)) in
+    let d = read-refused (now (a .packed)) (now (a .words)) (g .0 .0) (g .0 .1 .0) (after-inspect .inspect .ensures ∙ ap parts (g .1)) in
     (ap parts (g .1) ∙ d .0, d .1)
 
 cast-if1 : tie.Need-cast-if1
@@ -32,27 +34,39 @@ mul-if1 c = omega arith
 
 returns-2 : tie.Need-returns-2
 returns-2 c =
-    let a = c .before .before .before .before .before .before .before .args in
-    let g = c .before .before .found .given in
-    let d = read-full (now (a .packed)) (now (a .words)) (g .0 .0) (accepted (now (a .packed)) (g .0 .0) (c .before .before .before .before .inspect .ensures ∙ ap parts (g .1))) (c .if1 .taken) in
+    let after-found = c .before .before in
+    let after-inspect = after-found .before .before in
+    let start = after-inspect .before .before .before in
+    let a = start .args in
+    let g = after-found .found .given in
+    let d = read-full (now (a .packed)) (now (a .words)) (g .0 .0) (accepted (now (a .packed)) (g .0 .0) (after-inspect .inspect .ensures ∙ ap parts (g .1))) (c .if1 .taken) in
     (d .0, d .1)
 
 store-rows-requires : tie.Need-store-rows-requires
 store-rows-requires c κs =
-    let a = c .before .before .before .before .before .before .before .before .args in
-    let g = c .before .before .before .found .given in
-    let w : Whole (now (a .packed)) (g .0 .0) = accepted (now (a .packed)) (g .0 .0) (c .before .before .before .before .before .inspect .ensures ∙ ap parts (g .1)) in
-    (whole-few (now (a .packed)) (g .0 .0) w, c .before .if1 .left, whole-taken (now (a .packed)) (g .0 .0) w)
+    let else1 = c .before in
+    let after-found = else1 .before .before in
+    let after-inspect = after-found .before .before in
+    let start = after-inspect .before .before .before in
+    let a = start .args in
+    let g = after-found .found .given in
+    let w : Whole (now (a .packed)) (g .0 .0) = accepted (now (a .packed)) (g .0 .0) (after-inspect .inspect .ensures ∙ ap parts (g .1)) in
+    (whole-few (now (a .packed)) (g .0 .0) w, else1 .if1 .left, whole-taken (now (a .packed)) (g .0 .0) w)
 
 same-length : tie.Need-same-length
 same-length c = search needs
 
 returns-3 : tie.Need-returns-3
 returns-3 c =
-    let a = c .before .before .before .before .before .before .before .before .before .before .before .args in
-    let g = c .before .before .before .before .before .before .found .given in
-    let w : Whole (now (a .packed)) (g .0 .0) = accepted (now (a .packed)) (g .0 .0) (c .before .before .before .before .before .before .before .before .inspect .ensures ∙ ap parts (g .1)) in
-    let d = read-done (now (a .packed)) (now (a .words)) (c .before .before .store-rows .last .1 .1 .0) (g .0 .0) w (c .before .before .before .before .if1 .left) (c .before .before .store-rows .ensures) in
+    let after-store-rows = c .before .before in
+    let else1 = after-store-rows .before .before in
+    let after-found = else1 .before .before in
+    let after-inspect = after-found .before .before in
+    let start = after-inspect .before .before .before in
+    let a = start .args in
+    let g = after-found .found .given in
+    let w : Whole (now (a .packed)) (g .0 .0) = accepted (now (a .packed)) (g .0 .0) (after-inspect .inspect .ensures ∙ ap parts (g .1)) in
+    let d = read-done (now (a .packed)) (now (a .words)) (after-store-rows .store-rows .last .1 .1 .0) (g .0 .0) w (else1 .if1 .left) (after-store-rows .store-rows .ensures) in
     (d .0, d .1)
 
 pub read-spec : {M : Type 1} → statement M

@@ -32,8 +32,13 @@ word-at-requires-4 : tie.Need-word-at-requires-4
 word-at-requires-4 c κs = search needs
 
 returns : tie.Need-returns
-returns c = rw (c .word-at4 .ensures, c .before .word-at3 .ensures, c .before .before .word-at2 .ensures, c .before .before .before .word-at .ensures)
-    (four-read (now (c .before .before .before .before .before .args .words)) (rowSize * c .before .before .before .before .before .args .row))
+returns c =
+    let after-word-at3 = c .before in
+    let after-word-at2 = after-word-at3 .before in
+    let after-word-at = after-word-at2 .before in
+    let start = after-word-at .before .before in
+    rw (c .word-at4 .ensures, after-word-at3 .word-at3 .ensures, after-word-at2 .word-at2 .ensures, after-word-at .word-at .ensures)
+    (four-read (now (start .args .words)) (rowSize * start .args .row))
 
 pub record-at-spec : {M : Type 1} → statement M
 record-at-spec =

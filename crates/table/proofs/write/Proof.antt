@@ -23,9 +23,12 @@ told-requires c κs = search needs
 
 returns : tie.Need-returns
 returns c =
-    let a = c .before .before .before .before .before .before .args in
-    let g = c .before .enum-told .given in
-    let d = write-refused (a .count) (g .0 .0) (g .0 .1 .0) (now (a .words)) (now (a .packed)) (c .before .before .before .survey .ensures .0 ∙ ap (told (a .count)) (g .1)) in
+    let after-enum-told = c .before in
+    let after-survey = after-enum-told .before .before in
+    let start = after-survey .before .before .before in
+    let a = start .args in
+    let g = after-enum-told .enum-told .given in
+    let d = write-refused (a .count) (g .0 .0) (g .0 .1 .0) (now (a .words)) (now (a .packed)) (after-survey .survey .ensures .0 ∙ ap (told (a .count)) (g .1)) in
     (c .told .ensures ∙ ap (told (a .count)) (g .1) ∙ d .0, d .1)
 
 refusal-requires : tie.Need-refusal-requires
@@ -33,24 +36,35 @@ refusal-requires c κs = search needs
 
 returns-2 : tie.Need-returns-2
 returns-2 c =
-    let a = c .before .before .before .before .before .before .before .before .args in
-    let g = c .before .before .before .found .given in
-    let z = subst (Sized (split (a .count) (now (a .words)))) (g .1) (c .before .before .before .before .before .survey .ensures .1) in
-    let d = write-full (a .count) (g .0 .0) (now (a .words)) (now (a .packed)) (c .before .before .before .before .before .survey .ensures .0 ∙ ap (told (a .count)) (g .1)) (z .0) (c .before .if1 .taken) in
+    let then1 = c .before in
+    let after-found = then1 .before .before in
+    let after-survey = after-found .before .before in
+    let start = after-survey .before .before .before in
+    let a = start .args in
+    let g = after-found .found .given in
+    let z = subst (Sized (split (a .count) (now (a .words)))) (g .1) (after-survey .survey .ensures .1) in
+    let d = write-full (a .count) (g .0 .0) (now (a .words)) (now (a .packed)) (after-survey .survey .ensures .0 ∙ ap (told (a .count)) (g .1)) (z .0) (then1 .if1 .taken) in
     (c .refusal .ensures ∙ d .0, d .1)
 
 put-table-requires : tie.Need-put-table-requires
 put-table-requires c κs =
-    let a = c .before .before .before .before .before .before .before .before .args in
-    let g = c .before .before .before .found .given in
-    let z = subst (Sized (split (a .count) (now (a .words)))) (g .1) (c .before .before .before .before .before .survey .ensures .1) in
-    (ready (a .count) (now (a .words)) (c .before .before .before .before .before .survey .ensures .0 ∙ ap (told (a .count)) (g .1)), omega (arith, z .0, c .before .if1 .left))
+    let else1 = c .before in
+    let after-found = else1 .before .before in
+    let after-survey = after-found .before .before in
+    let start = after-survey .before .before .before in
+    let a = start .args in
+    let g = after-found .found .given in
+    let z = subst (Sized (split (a .count) (now (a .words)))) (g .1) (after-survey .survey .ensures .1) in
+    (ready (a .count) (now (a .words)) (after-survey .survey .ensures .0 ∙ ap (told (a .count)) (g .1)), omega (arith, z .0, else1 .if1 .left))
 
 cast-success : tie.Need-cast-success
 cast-success c =
-    let a = c .before .before .before .before .before .before .before .before .before .before .before .args in
-    let g = c .before .before .before .before .before .before .found .given in
-    let z = subst (Sized (split (a .count) (now (a .words)))) (g .1) (c .before .before .before .before .before .before .before .before .survey .ensures .1) in
+    let after-found = c .before .before .before .before .before .before in
+    let after-survey = after-found .before .before in
+    let start = after-survey .before .before .before in
+    let a = start .args in
+    let g = after-found .found .given in
+    let z = subst (Sized (split (a .count) (now (a .words)))) (g .1) (after-survey .survey .ensures .1) in
     omega (arith, z .1)
 
 success-requires : tie.Need-success-requires
@@ -61,12 +75,20 @@ same-length c = search needs
 
 returns-3 : tie.Need-returns-3
 returns-3 c =
-    let a = c .before .before .before .before .before .before .before .before .before .before .before .before .args in
-    let g = c .before .before .before .before .before .before .before .found .given in
-    let z = subst (Sized (split (a .count) (now (a .words)))) (g .1) (c .before .before .before .before .before .before .before .before .before .survey .ensures .1) in
-    let p = c .before .before .before .put-table in
-    let d = write-done (a .count) (g .0 .0) (now (a .words)) (now (a .packed)) (c .before .before .before .before .before .before .before .before .before .survey .ensures .0 ∙ ap (told (a .count)) (g .1)) (z .0)
-    (p .last .1 .1 .0) (c .before .before .before .before .before .if1 .left) (λ k. omega (arith, c .before .slice-known2 .given k)) (λ k. omega (arith, c .before .before .before .before .before .before .before .before .before .before .slice-known .given k)) (p .kept .1 .1 .0) (p .ensures) in
+    let after-slice-known2 = c .before in
+    let after-put-table = after-slice-known2 .before .before in
+    let else1 = after-put-table .before .before in
+    let after-found = else1 .before .before in
+    let after-survey = after-found .before .before in
+    let after-slice-known = after-survey .before in
+    let start = after-slice-known .before .before in
+    let a = start .args in
+    let g = after-found .found .given in
+    let z = subst (Sized (split (a .count) (now (a .words)))) (g .1) (after-survey .survey .ensures .1) in
+    let p = after-put-table .put-table in
+    let d = write-done (a .count) (g .0 .0) (now (a .words)) (now (a .packed)) (after-survey .survey .ensures .0 ∙ ap (told (a .count)) (g .1)) (z .0)
+    (p .last .1 .1 .0) (else1 .if1 .left) (λ k. omega (arith, after-slice-known2 .slice-known2 .given k))
+    (λ k. omega (arith, after-slice-known .slice-known .given k)) (p .kept .1 .1 .0) (p .ensures) in
     (c .success .ensures ∙ d .0, d .1)
 
 pub write-spec : {M : Type 1} → statement M

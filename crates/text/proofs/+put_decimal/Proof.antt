@@ -38,7 +38,11 @@ pub +put-decimal-spec : {M : Type 1} → statement M
     (λ c. omega arith)
     (λ c κs. search needs)
     (λ c. search needs)
-    (λ c. rw (decimal-one (c .before .before .before .before .before .before .args .n) (c .before .before .before .before .if1 .taken)) (c .before .before .put .ensures))
+    (λ c.
+    let after-put = c .before .before in
+    let then1 = after-put .before .before in
+    let start = then1 .before .before in
+    rw (decimal-one (start .args .n) (then1 .if1 .taken)) (after-put .put .ensures))
     -- n of more digits: the call for those before the last, and then the same for the last
     (λ c κs. search needs)
     (λ c. omega arith)
@@ -46,6 +50,8 @@ pub +put-decimal-spec : {M : Type 1} → statement M
     (λ c κs. search needs)
     (λ c. search needs)
     (λ c.
-    let front = c .before .before .before .before .before .before in
-    let test = front .before .before in
-    rw (decimal-more (test .before .before .args .n) (test .if1 .left)) (both (front .put-decimal .ensures) (c .before .before .put2 .ensures)))
+    let after-put2 = c .before .before in
+    let after-put-decimal = after-put2 .before .before .before .before in
+    let else1 = after-put-decimal .before .before in
+    let start = else1 .before .before in
+    rw (decimal-more (start .args .n) (else1 .if1 .left)) (both (after-put-decimal .put-decimal .ensures) (after-put2 .put2 .ensures)))

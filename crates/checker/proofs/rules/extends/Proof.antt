@@ -20,7 +20,10 @@ same-requires : tie.Need-same-requires
 same-requires c κs = search needs
 
 returns-2 : tie.Need-returns-2
-returns-2 c = rw (sym (c .before .before .before .before .under .ensures) ∙ c .before .before .k .given .1) (c .same .ensures)
+returns-2 c =
+    let after-k = c .before .before in
+    let after-under = after-k .before .before in
+    rw (sym (after-under .under .ensures) ∙ after-k .k .given .1) (c .same .ensures)
 
 pub extends-spec : {M : Type 1} → statement M
 extends-spec =

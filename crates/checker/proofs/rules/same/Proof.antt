@@ -10,23 +10,55 @@ same-shape-requires c κs = search needs
 
 returns : tie.Need-returns
 unfolding same
-returns c = rw (← c .before .same-shape .ensures, not-true (c .before .same-shape .result) (c .if1 .taken))
+returns c =
+    let after-same-shape = c .before in
+    rw (← after-same-shape .same-shape .ensures, not-true (after-same-shape .same-shape .result) (c .if1 .taken))
 
 returns-2 : tie.Need-returns-2
 unfolding same
-returns-2 c = rw (← c .before .before .before .before .same-shape .ensures, not-false (c .before .before .before .before .same-shape .result) (c .before .before .before .if1 .left), ne-eqb _ _ (c .if2 .taken))
+returns-2 c =
+    let else1 = c .before .before .before in
+    let after-same-shape = else1 .before in
+    rw (← after-same-shape .same-shape .ensures, not-false (after-same-shape .same-shape .result) (else1 .if1 .left), ne-eqb _ _ (c .if2 .taken))
 
 returns-3 : tie.Need-returns-3
 unfolding same
-returns-3 c = rw (← c .before .before .before .before .before .before .before .same-shape .ensures, not-false (c .before .before .before .before .before .before .before .same-shape .result) (c .before .before .before .before .before .before .if1 .left), eq-eqb _ _ (c .before .before .before .if2 .left), ne-eqb _ _ (c .if3 .taken))
+returns-3 c =
+    let else2 = c .before .before .before in
+    let else1 = else2 .before .before .before in
+    let after-same-shape = else1 .before in
+    rw (← after-same-shape .same-shape .ensures, not-false (after-same-shape .same-shape .result) (else1 .if1 .left), eq-eqb _ _ (else2 .if2 .left), ne-eqb _ _ (c .if3 .taken))
 
 returns-4 : tie.Need-returns-4
 unfolding same
-returns-4 c = rw (← c .before .before .before .before .before .before .before .before .before .before .same-shape .ensures, not-false (c .before .before .before .before .before .before .before .before .before .before .same-shape .result) (c .before .before .before .before .before .before .before .before .before .if1 .left), eq-eqb _ _ (c .before .before .before .before .before .before .if2 .left), eq-eqb _ _ (c .before .before .before .if3 .left), ne-eqb _ _ (c .if4 .taken))
+returns-4 c =
+    let else3 = c .before .before .before in
+    let else2 = else3 .before .before .before in
+    let else1 = else2 .before .before .before in
+    let after-same-shape = else1 .before in
+    rw (
+      ← after-same-shape .same-shape .ensures,
+      not-false (after-same-shape .same-shape .result) (else1 .if1 .left),
+      eq-eqb _ _ (else2 .if2 .left),
+      eq-eqb _ _ (else3 .if3 .left),
+      ne-eqb _ _ (c .if4 .taken),
+    )
 
 returns-5 : tie.Need-returns-5
 unfolding same
-returns-5 c = rw (← c .before .before .before .before .before .before .before .before .before .before .before .before .same-shape .ensures, not-false (c .before .before .before .before .before .before .before .before .before .before .before .before .same-shape .result) (c .before .before .before .before .before .before .before .before .before .before .before .if1 .left), eq-eqb _ _ (c .before .before .before .before .before .before .before .before .if2 .left), eq-eqb _ _ (c .before .before .before .before .before .if3 .left), eq-eqb _ _ (c .before .before .if4 .left))
+returns-5 c =
+    let else4 = c .before .before in
+    let else3 = else4 .before .before .before in
+    let else2 = else3 .before .before .before in
+    let else1 = else2 .before .before .before in
+    let after-same-shape = else1 .before in
+    rw (
+      ← after-same-shape .same-shape .ensures,
+      not-false (after-same-shape .same-shape .result) (else1 .if1 .left),
+      eq-eqb _ _ (else2 .if2 .left),
+      eq-eqb _ _ (else3 .if3 .left),
+      eq-eqb _ _ (else4 .if4 .left),
+    )
 
 pub same-spec : {M : Type 1} → statement M
 same-spec =

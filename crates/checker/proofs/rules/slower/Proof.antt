@@ -17,7 +17,10 @@ limited-requires : tie.Need-limited-requires
 limited-requires c κs = search needs
 
 returns-2 : tie.Need-returns-2
-returns-2 c = rw (eq-eqb _ _ (c .before .before .before .if1 .left), ← c .before .before .product .ensures, c .limited .ensures)
+returns-2 c =
+    let after-product = c .before .before in
+    let else1 = after-product .before in
+    rw (eq-eqb _ _ (else1 .if1 .left), ← after-product .product .ensures, c .limited .ensures)
 
 pub slower-spec : {M : Type 1} → statement M
 slower-spec = tie.close (tie.spec returns product-requires cast-limited limited-requires returns-2)

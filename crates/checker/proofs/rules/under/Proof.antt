@@ -28,7 +28,12 @@ put-requires-4 c κs = search needs
 
 returns-2 : tie.Need-returns-2
 unfolding under
-returns-2 c = rw (le-leb (c .before .before .before .before .before .args .k .count + 1) 4 (omega arith), c .put4 .ensures, c .before .put3 .ensures, c .before .before .put2 .ensures, c .before .before .before .put .ensures)
+returns-2 c =
+    let after-put3 = c .before in
+    let after-put2 = after-put3 .before in
+    let after-put = after-put2 .before in
+    let start = after-put .before .before in
+    rw (le-leb (start .args .k .count + 1) 4 (omega arith), c .put4 .ensures, after-put3 .put3 .ensures, after-put2 .put2 .ensures, after-put .put .ensures)
 
 pub under-spec : {M : Type 1} → statement M
 under-spec =

@@ -30,7 +30,9 @@ returns : tie.Need-returns
 returns c = first (c .before .before .pre .0) (simp (eq-eqb _ _ (c .if1 .taken))) (simp (eq-eqb _ _ (c .if1 .taken)))
 
 returns-2 : tie.Need-returns-2
-returns-2 c = unchanged (simp (eq-eqb _ _ (c .if2 .taken), ne-eqb _ _ (c .before .if1 .left))) (simp (eq-eqb _ _ (c .if2 .taken), ne-eqb _ _ (c .before .if1 .left)))
+returns-2 c =
+    let else1 = c .before in
+    unchanged (simp (eq-eqb _ _ (c .if2 .taken), ne-eqb _ _ (else1 .if1 .left))) (simp (eq-eqb _ _ (c .if2 .taken), ne-eqb _ _ (else1 .if1 .left)))
 
 mul-state-2 : tie.Need-mul-state-2
 mul-state-2 c = search needs
@@ -42,10 +44,19 @@ same-length-2 : tie.Need-same-length-2
 same-length-2 c = search needs
 
 returns-3 : tie.Need-returns-3
-returns-3 c = first (c .before .before .before .before .pre .0) (simp (eq-eqb _ _ (c .if3 .taken), ne-eqb _ _ (c .before .if2 .left), ne-eqb _ _ (c .before .before .if1 .left))) (simp (eq-eqb _ _ (c .if3 .taken), ne-eqb _ _ (c .before .if2 .left), ne-eqb _ _ (c .before .before .if1 .left)))
+returns-3 c =
+    let else2 = c .before in
+    let else1 = else2 .before in
+    let start = else1 .before .before in
+    first (start .pre .0) (simp (eq-eqb _ _ (c .if3 .taken), ne-eqb _ _ (else2 .if2 .left), ne-eqb _ _ (else1 .if1 .left)))
+    (simp (eq-eqb _ _ (c .if3 .taken), ne-eqb _ _ (else2 .if2 .left), ne-eqb _ _ (else1 .if1 .left)))
 
 returns-4 : tie.Need-returns-4
-returns-4 c = unchanged (simp (ne-eqb _ _ (c .if3 .left), ne-eqb _ _ (c .before .if2 .left), ne-eqb _ _ (c .before .before .if1 .left))) (simp (ne-eqb _ _ (c .if3 .left), ne-eqb _ _ (c .before .if2 .left), ne-eqb _ _ (c .before .before .if1 .left)))
+returns-4 c =
+    let else2 = c .before in
+    let else1 = else2 .before in
+    unchanged (simp (ne-eqb _ _ (c .if3 .left), ne-eqb _ _ (else2 .if2 .left), ne-eqb _ _ (else1 .if1 .left)))
+    (simp (ne-eqb _ _ (c .if3 .left), ne-eqb _ _ (else2 .if2 .left), ne-eqb _ _ (else1 .if1 .left)))
 
 pub after-spec : {M : Type 1} → statement M
 after-spec =

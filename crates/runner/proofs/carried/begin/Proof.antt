@@ -40,7 +40,12 @@ mul-state-4 : tie.Need-mul-state-4
 mul-state-4 c = search needs
 
 slice-write-state-3 : tie.Need-slice-write-state-3
-slice-write-state-3 c = omega (arith, length-set (c .args .state .now) (c .args .i) (c .args .v), length-set (set (c .args .state .now) (c .args .i) (c .args .v)) (c .args .i + 1) (c .args .t + c .args .gap))
+slice-write-state-3 c =
+    omega (
+      arith,
+      length-set (c .args .state .now) (c .args .i) (c .args .v),
+      length-set (set (c .args .state .now) (c .args .i) (c .args .v)) (c .args .i + 1) (c .args .t + c .args .gap),
+    )
 
 same-length : tie.Need-same-length
 same-length c = search needs

@@ -43,16 +43,30 @@ mul-t17 : tie.Need-mul-t17
 mul-t17 c = search needs
 
 slice-read-t16 : tie.Need-slice-read-t16
-slice-read-t16 c = omega (arith, length-set (c .before .before .before .before .before .args .state .now) (c .before .before .before .before .before .args .i + 1) (c .before .before .before .before .before .args .t + c .before .before .before .before .before .args .gap))
+slice-read-t16 c =
+    let start = c .before .before .before .before .before in
+    let args = start .args in
+    omega (arith, length-set (args .state .now) (args .i + 1) (args .t + args .gap))
 
 same-length : tie.Need-same-length
 same-length c = search needs
 
 returns : tie.Need-returns
-returns c = λ k. second (c .before .before .before .before .before .pre .0) (simp (lt-ltb _ _ (c .before .if2 .taken), eq-eqb _ _ (c .before .before .if1 .taken), getD-set-other (c .before .before .before .before .before .args .state .now) (c .before .before .before .before .before .args .i + 1) (c .before .before .before .before .before .args .i) (c .before .before .before .before .before .args .t + c .before .before .before .before .before .args .gap) 0 (λ e. omega (arith, e)))) (simp (lt-ltb _ _ (c .before .if2 .taken), eq-eqb _ _ (c .before .before .if1 .taken)))
+returns c =
+    let then2 = c .before in
+    let then1 = then2 .before in
+    let start = then1 .before .before .before in
+    let args = start .args in
+    λ k. second (start .pre .0) (simp (
+      lt-ltb _ _ (then2 .if2 .taken),
+      eq-eqb _ _ (then1 .if1 .taken),
+      getD-set-other (args .state .now) (args .i + 1) (args .i) (args .t + args .gap) 0 (λ e. omega (arith, e)),
+    )) (simp (lt-ltb _ _ (then2 .if2 .taken), eq-eqb _ _ (then1 .if1 .taken)))
 
 returns-2 : tie.Need-returns-2
-returns-2 c = λ k. unchanged (simp (le-ltb _ _ (c .if2 .left), eq-eqb _ _ (c .before .if1 .taken))) (simp (le-ltb _ _ (c .if2 .left), eq-eqb _ _ (c .before .if1 .taken)))
+returns-2 c =
+    let then1 = c .before in
+    λ k. unchanged (simp (le-ltb _ _ (c .if2 .left), eq-eqb _ _ (then1 .if1 .taken))) (simp (le-ltb _ _ (c .if2 .left), eq-eqb _ _ (then1 .if1 .taken)))
 
 returns-3 : tie.Need-returns-3
 returns-3 c = λ k. unchanged (simp (ne-eqb _ _ (c .if1 .left))) (simp (ne-eqb _ _ (c .if1 .left)))

@@ -42,22 +42,42 @@ same-length : tie.Need-same-length
 same-length c = search needs
 
 returns : tie.Need-returns
-returns c = simp (eq-eqb _ _ (c .before .before .before .before .if1 .taken), lt-ltb _ _ (c .before .before .before .before .before .before .before .before .before .pre .0)) (c .before .before .copied .ensures (c .before .before .before .before .before .before .before .before .before .args .k))
+returns c =
+    let after-copied = c .before .before in
+    let then1 = after-copied .before .before in
+    let start = then1 .before .before .before .before .before in
+    simp (eq-eqb _ _ (then1 .if1 .taken), lt-ltb _ _ (start .pre .0)) (after-copied .copied .ensures (start .args .k))
 
 same-length-2 : tie.Need-same-length-2
 same-length-2 c = search needs
 
 returns-2 : tie.Need-returns-2
-returns-2 c = simp (ne-eqb _ _ (c .before .before .before .before .before .before .before .if1 .left), eq-eqb _ _ (c .before .before .before .before .before .if2 .taken), lt-ltb _ _ (c .before .before .before .before .before .before .before .before .before .before .before .before .pre .0)) (c .before .before .begin .ensures)
+returns-2 c =
+    let after-begin = c .before .before in
+    let then2 = after-begin .before .before .before in
+    let else1 = then2 .before .before in
+    let start = else1 .before .before .before .before .before in
+    simp (ne-eqb _ _ (else1 .if1 .left), eq-eqb _ _ (then2 .if2 .taken), lt-ltb _ _ (start .pre .0)) (after-begin .begin .ensures)
 
 same-length-3 : tie.Need-same-length-3
 same-length-3 c = search needs
 
 returns-3 : tie.Need-returns-3
-returns-3 c = simp (ne-eqb _ _ (c .before .before .before .before .before .before .before .before .if1 .left), ne-eqb _ _ (c .before .before .before .before .before .before .if2 .left), eq-eqb _ _ (c .before .before .before .before .before .if3 .taken), lt-ltb _ _ (c .before .before .before .before .before .before .before .before .before .before .before .before .before .pre .0)) (c .before .before .begin2 .ensures)
+returns-3 c =
+    let after-begin2 = c .before .before in
+    let then3 = after-begin2 .before .before .before in
+    let else2 = then3 .before in
+    let else1 = else2 .before .before in
+    let start = else1 .before .before .before .before .before in
+    simp (ne-eqb _ _ (else1 .if1 .left), ne-eqb _ _ (else2 .if2 .left), eq-eqb _ _ (then3 .if3 .taken), lt-ltb _ _ (start .pre .0)) (after-begin2 .begin2 .ensures)
 
 returns-4 : tie.Need-returns-4
-returns-4 c = unchanged (simp (ne-eqb _ _ (c .before .before .before .if1 .left), ne-eqb _ _ (c .before .if2 .left), ne-eqb _ _ (c .if3 .left), lt-ltb _ _ (c .before .before .before .before .before .before .before .before .pre .0))) (simp (ne-eqb _ _ (c .before .before .before .if1 .left), ne-eqb _ _ (c .before .if2 .left), ne-eqb _ _ (c .if3 .left), lt-ltb _ _ (c .before .before .before .before .before .before .before .before .pre .0)))
+returns-4 c =
+    let else2 = c .before in
+    let else1 = else2 .before .before in
+    let start = else1 .before .before .before .before .before in
+    unchanged (simp (ne-eqb _ _ (else1 .if1 .left), ne-eqb _ _ (else2 .if2 .left), ne-eqb _ _ (c .if3 .left), lt-ltb _ _ (start .pre .0)))
+    (simp (ne-eqb _ _ (else1 .if1 .left), ne-eqb _ _ (else2 .if2 .left), ne-eqb _ _ (c .if3 .left), lt-ltb _ _ (start .pre .0)))
 
 pub faster-spec : {M : Type 1} → statement M
 faster-spec =

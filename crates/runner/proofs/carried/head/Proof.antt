@@ -18,19 +18,34 @@ after-requires : tie.Need-after-requires
 after-requires c κs = search needs
 
 returns : tie.Need-returns
-returns c = unchanged (simp (eq-eqb _ _ (c .if2 .taken), eq-eqb _ _ (c .before .if1 .taken), lt-ltb _ _ (c .before .before .before .before .before .before .pre .0))) (simp (eq-eqb _ _ (c .before .if1 .taken), lt-ltb _ _ (c .before .before .before .before .before .before .pre .0)))
+returns c =
+    let then1 = c .before in
+    let start = then1 .before .before .before .before .before in
+    unchanged (simp (eq-eqb _ _ (c .if2 .taken), eq-eqb _ _ (then1 .if1 .taken), lt-ltb _ _ (start .pre .0))) (simp (eq-eqb _ _ (then1 .if1 .taken), lt-ltb _ _ (start .pre .0)))
 
 returns-2 : tie.Need-returns-2
-returns-2 c = unchanged (simp (ne-eqb _ _ (c .if2 .left), eq-eqb _ _ (c .before .if1 .taken), lt-ltb _ _ (c .before .before .before .before .before .before .pre .0))) (simp (eq-eqb _ _ (c .before .if1 .taken), lt-ltb _ _ (c .before .before .before .before .before .before .pre .0)))
+returns-2 c =
+    let then1 = c .before in
+    let start = then1 .before .before .before .before .before in
+    unchanged (simp (ne-eqb _ _ (c .if2 .left), eq-eqb _ _ (then1 .if1 .taken), lt-ltb _ _ (start .pre .0))) (simp (eq-eqb _ _ (then1 .if1 .taken), lt-ltb _ _ (start .pre .0)))
 
 returns-3 : tie.Need-returns-3
-returns-3 c = unchanged (simp (le-leb _ _ (c .if3 .taken), ne-eqb _ _ (c .before .if1 .left), lt-ltb _ _ (c .before .before .before .before .before .before .pre .0))) (simp (le-leb _ _ (c .if3 .taken), ne-eqb _ _ (c .before .if1 .left), lt-ltb _ _ (c .before .before .before .before .before .before .pre .0)))
+returns-3 c =
+    let else1 = c .before in
+    let start = else1 .before .before .before .before .before in
+    unchanged (simp (le-leb _ _ (c .if3 .taken), ne-eqb _ _ (else1 .if1 .left), lt-ltb _ _ (start .pre .0)))
+    (simp (le-leb _ _ (c .if3 .taken), ne-eqb _ _ (else1 .if1 .left), lt-ltb _ _ (start .pre .0)))
 
 same-length : tie.Need-same-length
 same-length c = search needs
 
 returns-4 : tie.Need-returns-4
-returns-4 c = simp (lt-leb _ _ (c .before .before .before .before .before .if3 .left), ne-eqb _ _ (c .before .before .before .before .before .before .if1 .left), lt-ltb _ _ (c .before .before .before .before .before .before .before .before .before .before .before .pre .0)) (c .before .before .after .ensures)
+returns-4 c =
+    let after-after = c .before .before in
+    let else3 = after-after .before .before .before in
+    let else1 = else3 .before in
+    let start = else1 .before .before .before .before .before in
+    simp (lt-leb _ _ (else3 .if3 .left), ne-eqb _ _ (else1 .if1 .left), lt-ltb _ _ (start .pre .0)) (after-after .after .ensures)
 
 pub head-spec : {M : Type 1} → statement M
 head-spec =

@@ -23,7 +23,9 @@ slice-read-k : tie.Need-slice-read-k
 slice-read-k c = search needs
 
 cast-k : tie.Need-cast-k
-cast-k c = omega (arith, c .slice-known3 .given (c .before .before .before .before .before .args .i + 1))
+cast-k c =
+    let start = c .before .before .before .before .before in
+    omega (arith, c .slice-known3 .given (start .args .i + 1))
 
 add-state : tie.Need-add-state
 add-state c = search needs
@@ -35,7 +37,9 @@ slice-write-state : tie.Need-slice-write-state
 slice-write-state c = search needs
 
 add-word-at : tie.Need-add-word-at
-add-word-at c = omega (arith, c .slice-known3 .given (c .before .before .before .before .before .args .i + 1))
+add-word-at c =
+    let start = c .before .before .before .before .before in
+    omega (arith, c .slice-known3 .given (start .args .i + 1))
 
 word-at-requires : tie.Need-word-at-requires
 word-at-requires c κs = search needs
@@ -44,7 +48,10 @@ same-length : tie.Need-same-length
 same-length c = search needs
 
 returns : tie.Need-returns
-returns c = first (c .before .before .before .before .before .before .pre .0) (simp (eq-eqb _ _ (c .before .before .if1 .taken), c .word-at .ensures)) (simp (eq-eqb _ _ (c .before .before .if1 .taken)))
+returns c =
+    let then1 = c .before .before in
+    let start = then1 .before .before .before .before in
+    first (start .pre .0) (simp (eq-eqb _ _ (then1 .if1 .taken), c .word-at .ensures)) (simp (eq-eqb _ _ (then1 .if1 .taken)))
 
 returns-2 : tie.Need-returns-2
 returns-2 c = unchanged (simp (ne-eqb _ _ (c .if1 .left))) (simp (ne-eqb _ _ (c .if1 .left)))

@@ -29,7 +29,10 @@ returns-2 : tie.Need-returns-2
 returns-2 c = simp (eq-eqb _ _ (c .if2 .taken), ne-eqb _ _ (c .before .before .if1 .left))
 
 returns-3 : tie.Need-returns-3
-returns-3 c = simp (ne-eqb _ _ (c .before .if2 .left), ne-eqb _ _ (c .before .before .before .if1 .left))
+returns-3 c =
+    let else2 = c .before in
+    let else1 = else2 .before .before in
+    simp (ne-eqb _ _ (else2 .if2 .left), ne-eqb _ _ (else1 .if1 .left))
 
 pub later-spec : {M : Type 1} → statement M
 later-spec =

@@ -17,7 +17,10 @@ returns : tie.Need-returns
 returns c = simp (eq-eqb _ _ (c .if1 .taken), lt-ltb _ _ (c .before .before .pre .0))
 
 returns-2 : tie.Need-returns-2
-returns-2 c = simp (ne-eqb _ _ (c .before .if1 .left), lt-ltb _ _ (c .before .before .before .pre .0))
+returns-2 c =
+    let else1 = c .before in
+    let start = else1 .before .before in
+    simp (ne-eqb _ _ (else1 .if1 .left), lt-ltb _ _ (start .pre .0))
 
 pub same-spec : {M : Type 1} → statement M
 same-spec =

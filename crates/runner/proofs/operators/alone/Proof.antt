@@ -10,7 +10,9 @@ shared-slice-read-if1 c = search needs
 
 returns : tie.Need-returns
 unfolding alone
-returns c = simp (eq-eqb _ _ (c .if1 .taken), lt-ltb _ _ (c .before .before .pre .0), lt-ltb _ _ (c .before .before .pre .1))
+returns c =
+    let start = c .before .before in
+    simp (eq-eqb _ _ (c .if1 .taken), lt-ltb _ _ (start .pre .0), lt-ltb _ _ (start .pre .1))
 
 mul-value : tie.Need-mul-value
 mul-value c = search needs
@@ -24,14 +26,18 @@ shared-slice-read-if2 c = search needs
 returns-2 : tie.Need-returns-2
 unfolding alone
 returns-2 c =
-    let pre = c .before .before .before .before .before .pre in
-    simp (eq-eqb _ _ (c .if2 .taken), ne-eqb _ _ (c .before .before .before .if1 .left), lt-ltb _ _ (pre .0), lt-ltb _ _ (pre .1))
+    let else1 = c .before .before .before in
+    let start = else1 .before .before in
+    let pre = start .pre in
+    simp (eq-eqb _ _ (c .if2 .taken), ne-eqb _ _ (else1 .if1 .left), lt-ltb _ _ (pre .0), lt-ltb _ _ (pre .1))
 
 returns-3 : tie.Need-returns-3
 unfolding alone
 returns-3 c =
-    let pre = c .before .before .before .before .before .pre in
-    simp (ne-eqb _ _ (c .if2 .left), ne-eqb _ _ (c .before .before .before .if1 .left), lt-ltb _ _ (pre .0), lt-ltb _ _ (pre .1))
+    let else1 = c .before .before .before in
+    let start = else1 .before .before in
+    let pre = start .pre in
+    simp (ne-eqb _ _ (c .if2 .left), ne-eqb _ _ (else1 .if1 .left), lt-ltb _ _ (pre .0), lt-ltb _ _ (pre .1))
 
 pub alone-spec : {M : Type 1} → statement M
 alone-spec =

@@ -44,8 +44,10 @@ returns-4 c = λ op e. rw (← op-is _ 5 equal op (c .before .match .keys4) (λ 
 returns-5 : tie.Need-returns-5
 unfolding kinds
 returns-5 c =
-    let r = c .before .match .rest in
-    let k = six _ (c .before .before .pre .0) (c .before .before .pre .1) (r .0 .0 .0 .1) (r .0 .0 .1) (r .0 .1) (r .1) in
+    let at-match-rest = c .before in
+    let start = at-match-rest .before in
+    let r = at-match-rest .match .rest in
+    let k = six _ (start .pre .0) (start .pre .1) (r .0 .0 .0 .1) (r .0 .0 .1) (r .0 .1) (r .1) in
     λ op e. rw (← op-is _ 6 larger op k (λ a b z. refl) e) (c .larger .ensures)
 
 pub apply-spec : {M : Type 1} → statement M

@@ -25,15 +25,26 @@ alone-requires-2 c κs = search needs
 
 returns : tie.Need-returns
 unfolding merged
-returns c = simp (eq-eqb _ _ (c .before .if1 .taken), lt-ltb _ _ (c .before .before .before .before .before .pre .0)) (c .neither .ensures)
+returns c =
+    let then1 = c .before in
+    let start = then1 .before .before .before .before in
+    simp (eq-eqb _ _ (then1 .if1 .taken), lt-ltb _ _ (start .pre .0)) (c .neither .ensures)
 
 returns-2 : tie.Need-returns-2
 unfolding merged
-returns-2 c = simp (ne-eqb _ _ (c .before .before .before .if1 .left), eq-eqb _ _ (c .before .if2 .taken), lt-ltb _ _ (c .before .before .before .before .before .before .before .pre .0)) (c .alone .ensures)
+returns-2 c =
+    let then2 = c .before in
+    let else1 = then2 .before .before in
+    let start = else1 .before .before .before .before in
+    simp (ne-eqb _ _ (else1 .if1 .left), eq-eqb _ _ (then2 .if2 .taken), lt-ltb _ _ (start .pre .0)) (c .alone .ensures)
 
 returns-3 : tie.Need-returns-3
 unfolding merged
-returns-3 c = simp (ne-eqb _ _ (c .before .before .before .if1 .left), ne-eqb _ _ (c .before .if2 .left), lt-ltb _ _ (c .before .before .before .before .before .before .before .pre .0)) (c .alone2 .ensures)
+returns-3 c =
+    let else2 = c .before in
+    let else1 = else2 .before .before in
+    let start = else1 .before .before .before .before in
+    simp (ne-eqb _ _ (else1 .if1 .left), ne-eqb _ _ (else2 .if2 .left), lt-ltb _ _ (start .pre .0)) (c .alone2 .ensures)
 
 pub merged-spec : {M : Type 1} → statement M
 merged-spec =

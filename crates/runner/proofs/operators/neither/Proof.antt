@@ -13,15 +13,23 @@ shared-slice-read-if2 c = search needs
 
 returns : tie.Need-returns
 unfolding neither
-returns c = simp (eq-eqb _ _ (c .if2 .taken), eq-eqb _ _ (c .before .before .if1 .taken), lt-ltb _ _ (c .before .before .before .before .pre .0), lt-ltb _ _ (c .before .before .before .before .pre .1))
+returns c =
+    let then1 = c .before .before in
+    let start = then1 .before .before in
+    simp (eq-eqb _ _ (c .if2 .taken), eq-eqb _ _ (then1 .if1 .taken), lt-ltb _ _ (start .pre .0), lt-ltb _ _ (start .pre .1))
 
 returns-2 : tie.Need-returns-2
 unfolding neither
-returns-2 c = simp (ne-eqb _ _ (c .if2 .left), eq-eqb _ _ (c .before .before .if1 .taken), lt-ltb _ _ (c .before .before .before .before .pre .0), lt-ltb _ _ (c .before .before .before .before .pre .1))
+returns-2 c =
+    let then1 = c .before .before in
+    let start = then1 .before .before in
+    simp (ne-eqb _ _ (c .if2 .left), eq-eqb _ _ (then1 .if1 .taken), lt-ltb _ _ (start .pre .0), lt-ltb _ _ (start .pre .1))
 
 returns-3 : tie.Need-returns-3
 unfolding neither
-returns-3 c = simp (ne-eqb _ _ (c .if1 .left), lt-ltb _ _ (c .before .before .pre .0), lt-ltb _ _ (c .before .before .pre .1))
+returns-3 c =
+    let start = c .before .before in
+    simp (ne-eqb _ _ (c .if1 .left), lt-ltb _ _ (start .pre .0), lt-ltb _ _ (start .pre .1))
 
 pub neither-spec : {M : Type 1} → statement M
 neither-spec =

@@ -20,9 +20,10 @@ returns-3 c = simp (c .match .keys3)
 
 returns-4 : tie.Need-returns-4
 returns-4 c =
-    let a = c .before .args in
+    let start = c .before in
+    let a = start .args in
     let r = c .match .rest in
-    sym (no-start (a .kind) (a .p) (a .q) (a .r) (c .before .pre) (r .0 .0 .1) (r .0 .1) (r .1))
+    sym (no-start (a .kind) (a .p) (a .q) (a .r) (start .pre) (r .0 .0 .1) (r .0 .1) (r .1))
 
 pub first-word-spec : {M : Type 1} → statement M
 first-word-spec = tie.close (tie.spec returns returns-2 returns-3 returns-4)

@@ -27,8 +27,14 @@ loop-holds c =
     let start = c .before .before in
     let pre = start .pre in
     let args = start .args in
-    let T = table-at start in
-    (omega arith, T .few, T .words-size, ap length (pre .1) ∙ length-replicate {A = ℕ} stateSize 0, omega arith, starts (args .n) (args .words .now) _ T (args .state .now) (pre .1))
+    let T = table-at start in (
+      omega arith,
+      T .few,
+      T .words-size,
+      ap length (pre .1) ∙ length-replicate {A = ℕ} stateSize 0,
+      omega arith,
+      starts (args .n) (args .words .now) _ T (args .state .now) (pre .1),
+    )
 
 mul-kind : tie.Need-mul-kind Inv-loop μ-loop
 mul-kind c = omega arith
@@ -77,19 +83,24 @@ shared-slice-read-start-row-3 c = omega arith
 
 start-row-requires : tie.Need-start-row-requires Inv-loop μ-loop
 start-row-requires c κs =
-    let start-2 = c .before .before .before .before .before .before .before .before .before in
-    let loop = c .before .before .before .before .before .before .loop in
-    let loop-test = c .before .before .before .before .before .loop-test in
-    (row-of _ _ _ (table-at (start-2)) (loop .f) (loop-test .taken) .known, omega (arith, loop-test .taken), loop .inv .3)
+    let in-loop = c .before .before .before .before .before in
+    let at-loop = in-loop .before in
+    let start = at-loop .before .before .before in
+    let loop = at-loop .loop in
+    let loop-test = in-loop .loop-test in
+    (row-of _ _ _ (table-at start) (loop .f) (loop-test .taken) .known, omega (arith, loop-test .taken), loop .inv .3)
 
 bit-requires : tie.Need-bit-requires Inv-loop μ-loop
 bit-requires c κs = tt
 
 add-j : tie.Need-add-j Inv-loop μ-loop
 add-j c =
-    let args = c .before .before .before .before .before .before .before .before .before .before .before .before .before .args in
-    let loop = c .before .before .before .before .before .before .before .before .before .before .loop in
-    let loop-test = c .before .before .before .before .before .before .before .before .before .loop-test in
+    let in-loop = c .before .before .before .before .before .before .before .before .before in
+    let at-loop = in-loop .before in
+    let start = at-loop .before .before .before in
+    let args = start .args in
+    let loop = at-loop .loop in
+    let loop-test = in-loop .loop-test in
     omega (arith, c .bit .ensures, bit-low (eqb (getD (args .words .now) (4 * loop .f) 0) 0), loop .inv .4, loop .inv .1, loop-test .taken)
 
 add-f : tie.Need-add-f Inv-loop μ-loop
@@ -102,11 +113,14 @@ loop-less c =
 
 loop-again : tie.Need-loop-again Inv-loop μ-loop
 loop-again c =
-    let start = c .before .before .before .before .before .before .before .before .before .before .before .before .before in
+    let after-start-row = c .before .before .before in
+    let in-loop = after-start-row .before .before .before .before .before .before in
+    let at-loop = in-loop .before in
+    let start = at-loop .before .before .before in
     let args = start .args in
-    let loop-test = c .before .before .before .before .before .before .before .before .before .loop-test in
-    let loop = c .before .before .before .before .before .before .before .before .before .before .loop in
-    let start-row = c .before .before .before .start-row in (
+    let loop-test = in-loop .loop-test in
+    let loop = at-loop .loop in
+    let start-row = after-start-row .start-row in (
       omega (arith, loop-test .taken),
       loop .inv .1,
       loop .inv .2,
@@ -118,14 +132,17 @@ loop-again c =
 
 same-length : tie.Need-same-length Inv-loop μ-loop
 same-length c =
-    let pre = c .before .before .before .before .pre in
-    c .before .loop .inv .3 ∙ sym (ap length (pre .1) ∙ length-replicate {A = ℕ} stateSize 0)
+    let at-loop = c .before in
+    let start = at-loop .before .before .before in
+    let pre = start .pre in
+    at-loop .loop .inv .3 ∙ sym (ap length (pre .1) ∙ length-replicate {A = ℕ} stateSize 0)
 
 returns : tie.Need-returns Inv-loop μ-loop
 returns c =
-    let start = c .before .before .before .before in
+    let at-loop = c .before in
+    let start = at-loop .before .before .before in
     let args = start .args in
-    let loop = c .before .loop in
+    let loop = at-loop .loop in
     ends (args .n) (args .words .now) _ (table-at start) (loop .state) (loop .f) (loop .j) (c .loop-test .left) (loop .inv .0) (loop .inv .5)
 
 pub start-spec : {M : Type 1} → statement M

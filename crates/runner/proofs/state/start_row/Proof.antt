@@ -28,7 +28,9 @@ mul-state-2 : tie.Need-mul-state-2
 mul-state-2 c = search needs
 
 slice-write-state-2 : tie.Need-slice-write-state-2
-slice-write-state-2 c = omega (arith, length-set (c .before .before .args .state .now) (heldSize * c .before .before .args .f) (c .first-word .result))
+slice-write-state-2 c =
+    let start = c .before .before in
+    omega (arith, length-set (start .args .state .now) (heldSize * start .args .f) (c .first-word .result))
 
 same-length : tie.Need-same-length
 same-length c = search needs

@@ -28,8 +28,15 @@ loop-holds : tie.Need-loop-holds Inv-loop μ-loop
 loop-holds c =
     let start = c .before .before .before .before .before in
     let pre = start .pre in
-    let args = start .args in
-    (omega arith, table-at start .few, table-at start .words-size, pre .3, refl, refl, λ past R. starts (args .n) (args .words .now) (args .log .now) _ (table-at start) past _ _ _ _ _ R)
+    let args = start .args in (
+      omega arith,
+      table-at start .few,
+      table-at start .words-size,
+      pre .3,
+      refl,
+      refl,
+      λ past R. starts (args .n) (args .words .now) (args .log .now) _ (table-at start) past _ _ _ _ _ R,
+    )
 
 mul-outcome : tie.Need-mul-outcome Inv-loop μ-loop
 mul-outcome c = omega arith
@@ -78,11 +85,13 @@ shared-slice-read-outcome-4 c = omega arith
 
 outcome-requires : tie.Need-outcome-requires Inv-loop μ-loop
 outcome-requires c κs =
-    let start = c .before .before .before .before .before .before .before .before .before .before .before .before .before .before in
+    let in-loop = c .before .before .before .before .before .before .before in
+    let at-loop = in-loop .before in
+    let start = at-loop .before .before .before .before .before .before in
     let args = start .args in
     let pre = start .pre in
-    let loop = c .before .before .before .before .before .before .before .before .loop in
-    let loop-test = c .before .before .before .before .before .before .before .loop-test in
+    let loop = at-loop .loop in
+    let loop-test = in-loop .loop-test in
     let below : loop .f < args .n = omega (arith, loop-test .taken) in
     let r = row-of (args .n) (args .words .now) _ (table-at start) (loop .f) below in (
       omega (arith, loop .inv .1, below),
@@ -97,41 +106,52 @@ outcome-requires c κs =
 
 put-requires : tie.Need-put-requires Inv-loop μ-loop
 put-requires c κs =
-    let loop = c .before .before .before .before .before .before .before .before .before .before .before .before .before .loop in
-    let below = c .before .before .before .before .before .before .before .before .before .before .before .before .loop-test .taken in
-    let pre = c .before .before .before .before .before .before .before .before .before .before .before .before .before .before .before .before .before .before .before .pre in
+    let in-loop = c .before .before .before .before .before .before .before .before .before .before .before .before in
+    let at-loop = in-loop .before in
+    let start = at-loop .before .before .before .before .before .before in
+    let loop = at-loop .loop in
+    let below = in-loop .loop-test .taken in
+    let pre = start .pre in
     (omega (arith, loop .inv .4, below, pre .1), omega (arith, loop .inv .5, below, pre .2))
 
 same-length : tie.Need-same-length Inv-loop μ-loop
 same-length c =
-    let outcome = c .before .before .before .before .before .before .before .before .before .before .outcome in
-    let loop = c .before .before .before .before .before .before .before .before .before .before .before .before .before .before .before .before .before .before .before .loop in
-    let place = c .before .before .before .before .before .before .before .before .before .before .before .before in
-    let start = place .before .before .before .before .before .before .before .before .before .before .before .before .before in
+    let after-outcome = c .before .before .before .before .before .before .before .before .before .before in
+    let at-loop = after-outcome .before .before .before .before .before .before .before .before .before in
+    let start = at-loop .before .before .before .before .before .before in
+    let outcome = after-outcome .outcome in
+    let loop = at-loop .loop in
     omega (arith, outcome .kept, loop .inv .3, start .pre .3)
 
 same-length-2 : tie.Need-same-length-2 Inv-loop μ-loop
 same-length-2 c =
-    let put = c .before .before .before .before .before .put in
-    let loop = c .before .before .before .before .before .before .before .before .before .before .before .before .before .before .before .before .before .before .before .loop in
+    let after-put = c .before .before .before .before .before in
+    let at-loop = after-put .before .before .before .before .before .before .before .before .before .before .before .before .before .before in
+    let put = after-put .put in
+    let loop = at-loop .loop in
     omega (arith, put .kept .0, loop .inv .4)
 
 same-length-3 : tie.Need-same-length-3 Inv-loop μ-loop
 same-length-3 c =
-    let put = c .before .before .before .before .before .put in
-    let loop = c .before .before .before .before .before .before .before .before .before .before .before .before .before .before .before .before .before .before .before .loop in
+    let after-put = c .before .before .before .before .before in
+    let at-loop = after-put .before .before .before .before .before .before .before .before .before .before .before .before .before .before in
+    let put = after-put .put in
+    let loop = at-loop .loop in
     omega (arith, put .kept .1 .0, loop .inv .5)
 
 returns : tie.Need-returns Inv-loop μ-loop
 returns c =
-    let place = c .before .before .before .before .before .before .before .before .before .before .before .before in
-    let start = place .before .before .before .before .before .before .before .before .before .before .before .before .before in
+    let after-put = c .before .before .before .before .before in
+    let after-outcome = after-put .before .before .before .before .before in
+    let in-loop = after-outcome .before .before .before .before .before .before .before .before in
+    let at-loop = in-loop .before in
+    let start = at-loop .before .before .before .before .before .before in
     let args = start .args in
-    let loop = c .before .before .before .before .before .before .before .before .before .before .before .before .before .before .before .before .before .before .before .loop in
-    let loop-test = c .before .before .before .before .before .before .before .before .before .before .before .before .before .before .before .before .before .before .loop-test in
+    let loop = at-loop .loop in
+    let loop-test = in-loop .loop-test in
     let below : loop .f < args .n = omega (arith, loop-test .taken) in
-    let outcome = c .before .before .before .before .before .before .before .before .before .before .outcome in
-    let put = c .before .before .before .before .before .put in
+    let outcome = after-outcome .outcome in
+    let put = after-put .put in
     let clash = sym (put .ensures .0) ∙ c .if1 .taken in
     λ past R. stops (args .n) (args .words .now) (args .log .now) _ (table-at start) past (args .t) (args .at)
     (args .state .now) (args .marks .now) (args .values .now) R (loop .state) (loop .marks) (loop .values) (loop .f)
@@ -140,26 +160,34 @@ returns c =
 
 add-f : tie.Need-add-f Inv-loop μ-loop
 add-f c =
-    let loop = c .before .before .before .before .before .before .before .before .before .before .before .before .before .before .before .before .before .before .before .loop in
-    let below = c .before .before .before .before .before .before .before .before .before .before .before .before .before .before .before .before .before .before .loop-test .taken in
+    let after-state = c .before .before .before .before .before .before .before .before .before in
+    let in-loop = after-state .before .before .before .before .before .before .before .before .before in
+    let at-loop = in-loop .before in
+    let loop = at-loop .loop in
+    let below = in-loop .loop-test .taken in
     omega (arith, loop .inv .1, below)
 
 loop-less : tie.Need-loop-less Inv-loop μ-loop
 loop-less c =
-    let below = c .before .before .before .before .before .before .before .before .before .before .before .before .before .before .before .before .before .before .loop-test .taken in
+    let after-state = c .before .before .before .before .before .before .before .before .before in
+    let in-loop = after-state .before .before .before .before .before .before .before .before .before in
+    let below = in-loop .loop-test .taken in
     omega (arith, below)
 
 loop-again : tie.Need-loop-again Inv-loop μ-loop
 loop-again c =
-    let place = c .before .before .before .before .before .before .before .before .before .before .before .before in
-    let start = place .before .before .before .before .before .before .before .before .before .before .before .before .before in
+    let after-put = c .before .before .before .before .before in
+    let after-outcome = after-put .before .before .before .before .before in
+    let in-loop = after-outcome .before .before .before .before .before .before .before .before in
+    let at-loop = in-loop .before in
+    let start = at-loop .before .before .before .before .before .before in
     let args = start .args in
     let pre = start .pre in
-    let loop = c .before .before .before .before .before .before .before .before .before .before .before .before .before .before .before .before .before .before .before .loop in
-    let loop-test = c .before .before .before .before .before .before .before .before .before .before .before .before .before .before .before .before .before .before .loop-test in
+    let loop = at-loop .loop in
+    let loop-test = in-loop .loop-test in
     let below : loop .f < args .n = omega (arith, loop-test .taken) in
-    let outcome = c .before .before .before .before .before .before .before .before .before .before .outcome in
-    let put = c .before .before .before .before .before .put in
+    let outcome = after-outcome .outcome in
+    let put = after-put .put in
     let inv = loop .inv in
     let cell = sym (put .ensures .0) ∙ c .if1 .left in (
       omega (arith, below),
@@ -176,8 +204,10 @@ loop-again c =
 
 same-length-4 : tie.Need-same-length-4 Inv-loop μ-loop
 same-length-4 c =
-    let pre = c .before .before .before .before .before .before .before .pre in
-    c .before .loop .inv .3 ∙ sym (pre .3)
+    let at-loop = c .before in
+    let start = at-loop .before .before .before .before .before .before in
+    let pre = start .pre in
+    at-loop .loop .inv .3 ∙ sym (pre .3)
 
 same-length-5 : tie.Need-same-length-5 Inv-loop μ-loop
 same-length-5 c = c .before .loop .inv .4
@@ -187,9 +217,10 @@ same-length-6 c = c .before .loop .inv .5
 
 returns-2 : tie.Need-returns-2 Inv-loop μ-loop
 returns-2 c =
-    let start = c .before .before .before .before .before .before .before in
+    let at-loop = c .before in
+    let start = at-loop .before .before .before .before .before .before in
     let args = start .args in
-    let loop = c .before .loop in
+    let loop = at-loop .loop in
     λ past R. ends (args .n) (args .words .now) (args .log .now) _ (table-at start) past
     (args .t) (args .at) (args .state .now) (args .marks .now) (args .values .now) R
     (loop .state) (loop .marks) (loop .values) (loop .f) (loop .inv .6 past R) (omega (arith, c .loop-test .left)) (loop .inv .0)

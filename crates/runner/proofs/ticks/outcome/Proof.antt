@@ -34,7 +34,9 @@ by-kind : (c : tie.Start) (n : ℕ) → c .args .kind ≡ n → {s′ : List ℕ
 by-kind c n e {s′} {o} w = subst (λ (j : ℕ). Works c (decode j (c .args .p) (c .args .q) (c .args .r)) s′ o) (sym e) w
 
 returns : tie.Need-returns
-returns c = absurd (omega (arith, c .if1 .taken, c .before .before .before .before .before .pre .1))
+returns c =
+    let start = c .before .before .before .before .before in
+    absurd (omega (arith, c .if1 .taken, start .pre .1))
 
 mul-i : tie.Need-mul-i
 mul-i c = search needs
@@ -63,37 +65,42 @@ sampled-requires-2 c κs =
 tail-requires : tie.Need-tail-requires
 unfolding kinds
 tail-requires c κs =
-    let start = c .before .before .before .before .before .before .before in
+    let at-match-keys4 = c .before in
+    let start = at-match-keys4 .before .before .before .before .before .before in
     let pre = start .pre in
-    let h = fields start 12 (c .before .match .keys4) in (h .0, pre .3, pre .4, omega arith)
+    let h = fields start 12 (at-match-keys4 .match .keys4) in (h .0, pre .3, pre .4, omega arith)
 
 head-requires : tie.Need-head-requires
 unfolding kinds
 head-requires c κs =
-    let start = c .before .before .before .before .before .before .before in
+    let at-match-keys5 = c .before in
+    let start = at-match-keys5 .before .before .before .before .before .before in
     let pre = start .pre in
-    let h = fields start 11 (c .before .match .keys5) in (h .0, pre .3, pre .4, omega arith, pre .6)
+    let h = fields start 11 (at-match-keys5 .match .keys5) in (h .0, pre .3, pre .4, omega arith, pre .6)
 
 later-requires : tie.Need-later-requires
 unfolding kinds
 later-requires c κs =
-    let start = c .before .before .before .before .before .before .before in
+    let at-match-keys6 = c .before in
+    let start = at-match-keys6 .before .before .before .before .before .before in
     let pre = start .pre in
-    let h = fields start 10 (c .before .match .keys6) in (h .0, pre .3, pre .4, omega arith)
+    let h = fields start 10 (at-match-keys6 .match .keys6) in (h .0, pre .3, pre .4, omega arith)
 
 slower-requires : tie.Need-slower-requires
 unfolding kinds
 slower-requires c κs =
-    let start = c .before .before .before .before .before .before .before in
+    let at-match-keys7 = c .before in
+    let start = at-match-keys7 .before .before .before .before .before .before in
     let pre = start .pre in
-    let h = fields start 9 (c .before .match .keys7) in (h .0, pre .3, pre .4, omega arith, omega arith)
+    let h = fields start 9 (at-match-keys7 .match .keys7) in (h .0, pre .3, pre .4, omega arith, omega arith)
 
 faster-requires : tie.Need-faster-requires
 unfolding kinds
 faster-requires c κs =
-    let start = c .before .before .before .before .before .before .before in
+    let at-match-keys8 = c .before in
+    let start = at-match-keys8 .before .before .before .before .before .before in
     let pre = start .pre in
-    let h = fields start 8 (c .before .match .keys8) in (h .0, pre .3, pre .4, omega arith, pre .6, omega arith, omega arith)
+    let h = fields start 8 (at-match-keys8 .match .keys8) in (h .0, pre .3, pre .4, omega arith, pre .6, omega arith, omega arith)
 
 mul-registered : tie.Need-mul-registered
 mul-registered c = search needs
@@ -104,23 +111,26 @@ slice-read-registered c = search needs
 registered-requires : tie.Need-registered-requires
 unfolding kinds
 registered-requires c κs =
-    let start = c .before .before .before .before .before .before .before in
+    let at-match-keys9 = c .before in
+    let start = at-match-keys9 .before .before .before .before .before .before in
     let pre = start .pre in
-    let h = fields start 7 (c .before .match .keys9) in (h .1, pre .3)
+    let h = fields start 7 (at-match-keys9 .match .keys9) in (h .1, pre .3)
 
 constant-requires : tie.Need-constant-requires
 unfolding kinds
 constant-requires c κs =
-    let start = c .before .before .before .before .before .before .before in
+    let at-match-keys10 = c .before in
+    let start = at-match-keys10 .before .before .before .before .before .before in
     let pre = start .pre in
-    let h = fields start 1 (c .before .match .keys10) in (omega arith, pre .6, omega arith)
+    let h = fields start 1 (at-match-keys10 .match .keys10) in (omega arith, pre .6, omega arith)
 
 input-requires : tie.Need-input-requires
 unfolding kinds
 input-requires c κs =
-    let start = c .before .before .before .before .before .before .before in
+    let at-match-keys11 = c .before in
+    let start = at-match-keys11 .before .before .before .before .before .before in
     let pre = start .pre in
-    let h = fields start 0 (c .before .match .keys11) in (omega arith, pre .6, omega arith, pre .7)
+    let h = fields start 0 (at-match-keys11 .match .keys11) in (omega arith, pre .6, omega arith, pre .7)
 
 combined-requires : tie.Need-combined-requires
 unfolding kinds
@@ -159,88 +169,142 @@ combined-requires-5 c κs =
 
 returns-2 : tie.Need-returns-2
 unfolding kinds stepOf nextOf
-returns-2 c = by-kind (c .before .before .before .before .before .before .before) 15 (c .before .match .keys1) (unchanged (c .merged .ensures) refl)
+returns-2 c =
+    let at-match-keys1 = c .before in
+    let start = at-match-keys1 .before .before .before .before .before .before in
+    by-kind start 15 (at-match-keys1 .match .keys1) (unchanged (c .merged .ensures) refl)
 
 returns-3 : tie.Need-returns-3
 unfolding kinds stepOf nextOf
-returns-3 c = by-kind (c .before .before .before .before .before .before .before) 14 (c .before .match .keys2) (unchanged (c .sampled .ensures) refl)
+returns-3 c =
+    let at-match-keys2 = c .before in
+    let start = at-match-keys2 .before .before .before .before .before .before in
+    by-kind start 14 (at-match-keys2 .match .keys2) (unchanged (c .sampled .ensures) refl)
 
 returns-4 : tie.Need-returns-4
 unfolding kinds stepOf nextOf
-returns-4 c = by-kind (c .before .before .before .before .before .before .before) 13 (c .before .match .keys3) (unchanged (c .sampled2 .ensures) refl)
+returns-4 c =
+    let at-match-keys3 = c .before in
+    let start = at-match-keys3 .before .before .before .before .before .before in
+    by-kind start 13 (at-match-keys3 .match .keys3) (unchanged (c .sampled2 .ensures) refl)
 
 same-length : tie.Need-same-length
 same-length c = search needs
 
 returns-5 : tie.Need-returns-5
 unfolding kinds stepOf nextOf
-returns-5 c = by-kind (c .before .before .before .before .before .before .before .before .before .before) 12 (c .before .before .before .before .match .keys4) (c .before .before .tail .ensures)
+returns-5 c =
+    let after-tail = c .before .before in
+    let at-match-keys4 = after-tail .before .before in
+    let start = at-match-keys4 .before .before .before .before .before .before in
+    by-kind start 12 (at-match-keys4 .match .keys4) (after-tail .tail .ensures)
 
 same-length-2 : tie.Need-same-length-2
 same-length-2 c = search needs
 
 returns-6 : tie.Need-returns-6
 unfolding kinds stepOf nextOf
-returns-6 c = by-kind (c .before .before .before .before .before .before .before .before .before .before) 11 (c .before .before .before .before .match .keys5) (c .before .before .head .ensures)
+returns-6 c =
+    let after-head = c .before .before in
+    let at-match-keys5 = after-head .before .before in
+    let start = at-match-keys5 .before .before .before .before .before .before in
+    by-kind start 11 (at-match-keys5 .match .keys5) (after-head .head .ensures)
 
 same-length-3 : tie.Need-same-length-3
 same-length-3 c = search needs
 
 returns-7 : tie.Need-returns-7
 unfolding kinds stepOf nextOf
-returns-7 c = by-kind (c .before .before .before .before .before .before .before .before) 10 (c .before .before .match .keys6) (unchanged (c .later .ensures) refl)
+returns-7 c =
+    let at-match-keys6 = c .before .before in
+    let start = at-match-keys6 .before .before .before .before .before .before in
+    by-kind start 10 (at-match-keys6 .match .keys6) (unchanged (c .later .ensures) refl)
 
 same-length-4 : tie.Need-same-length-4
 same-length-4 c = search needs
 
 returns-8 : tie.Need-returns-8
 unfolding kinds stepOf nextOf
-returns-8 c = by-kind (c .before .before .before .before .before .before .before .before .before .before) 9 (c .before .before .before .before .match .keys7) (c .before .before .slower .ensures)
+returns-8 c =
+    let after-slower = c .before .before in
+    let at-match-keys7 = after-slower .before .before in
+    let start = at-match-keys7 .before .before .before .before .before .before in
+    by-kind start 9 (at-match-keys7 .match .keys7) (after-slower .slower .ensures)
 
 same-length-5 : tie.Need-same-length-5
 same-length-5 c = search needs
 
 returns-9 : tie.Need-returns-9
 unfolding kinds stepOf nextOf
-returns-9 c = by-kind (c .before .before .before .before .before .before .before .before .before .before) 8 (c .before .before .before .before .match .keys8) (c .before .before .faster .ensures)
+returns-9 c =
+    let after-faster = c .before .before in
+    let at-match-keys8 = after-faster .before .before in
+    let start = at-match-keys8 .before .before .before .before .before .before in
+    by-kind start 8 (at-match-keys8 .match .keys8) (after-faster .faster .ensures)
 
 returns-10 : tie.Need-returns-10
 unfolding kinds stepOf nextOf
-returns-10 c = by-kind (c .before .before .before .before .before .before .before .before) 7 (c .before .before .match .keys9) (unchanged (c .registered .ensures _ refl) refl)
+returns-10 c =
+    let at-match-keys9 = c .before .before in
+    let start = at-match-keys9 .before .before .before .before .before .before in
+    by-kind start 7 (at-match-keys9 .match .keys9) (unchanged (c .registered .ensures _ refl) refl)
 
 same-length-6 : tie.Need-same-length-6
 same-length-6 c = search needs
 
 returns-11 : tie.Need-returns-11
 unfolding kinds stepOf nextOf
-returns-11 c = by-kind (c .before .before .before .before .before .before .before .before .before .before) 1 (c .before .before .before .before .match .keys10) (c .before .before .constant .ensures)
+returns-11 c =
+    let after-constant = c .before .before in
+    let at-match-keys10 = after-constant .before .before in
+    let start = at-match-keys10 .before .before .before .before .before .before in
+    by-kind start 1 (at-match-keys10 .match .keys10) (after-constant .constant .ensures)
 
 same-length-7 : tie.Need-same-length-7
 same-length-7 c = search needs
 
 returns-12 : tie.Need-returns-12
 unfolding kinds stepOf nextOf
-returns-12 c = by-kind (c .before .before .before .before .before .before .before .before .before .before) 0 (c .before .before .before .before .match .keys11) (c .before .before .input .ensures)
+returns-12 c =
+    let after-input = c .before .before in
+    let at-match-keys11 = after-input .before .before in
+    let start = at-match-keys11 .before .before .before .before .before .before in
+    by-kind start 0 (at-match-keys11 .match .keys11) (after-input .input .ensures)
 
 returns-13 : tie.Need-returns-13
 unfolding kinds stepOf nextOf
-returns-13 c = by-kind (c .before .before .before .before .before .before .before .before .before) 2 (c .before .match2 .keys1) (unchanged (c .combined .ensures add (λ a b z. refl)) refl)
+returns-13 c =
+    let at-match2-keys1 = c .before in
+    let start = at-match2-keys1 .before .before .before .before .before .before .before .before in
+    by-kind start 2 (at-match2-keys1 .match2 .keys1) (unchanged (c .combined .ensures add (λ a b z. refl)) refl)
 
 returns-14 : tie.Need-returns-14
 unfolding kinds stepOf nextOf
-returns-14 c = by-kind (c .before .before .before .before .before .before .before .before .before) 3 (c .before .match2 .keys2) (unchanged (c .combined2 .ensures subtract (λ a b z. refl)) refl)
+returns-14 c =
+    let at-match2-keys2 = c .before in
+    let start = at-match2-keys2 .before .before .before .before .before .before .before .before in
+    by-kind start 3 (at-match2-keys2 .match2 .keys2) (unchanged (c .combined2 .ensures subtract (λ a b z. refl)) refl)
 
 returns-15 : tie.Need-returns-15
 unfolding kinds stepOf nextOf
-returns-15 c = by-kind (c .before .before .before .before .before .before .before .before .before) 4 (c .before .match2 .keys3) (unchanged (c .combined3 .ensures less (λ a b z. refl)) refl)
+returns-15 c =
+    let at-match2-keys3 = c .before in
+    let start = at-match2-keys3 .before .before .before .before .before .before .before .before in
+    by-kind start 4 (at-match2-keys3 .match2 .keys3) (unchanged (c .combined3 .ensures less (λ a b z. refl)) refl)
 
 returns-16 : tie.Need-returns-16
 unfolding kinds stepOf nextOf
-returns-16 c = by-kind (c .before .before .before .before .before .before .before .before .before) 5 (c .before .match2 .keys4) (unchanged (c .combined4 .ensures equal (λ a b z. refl)) refl)
+returns-16 c =
+    let at-match2-keys4 = c .before in
+    let start = at-match2-keys4 .before .before .before .before .before .before .before .before in
+    by-kind start 5 (at-match2-keys4 .match2 .keys4) (unchanged (c .combined4 .ensures equal (λ a b z. refl)) refl)
 
 returns-17 : tie.Need-returns-17
 unfolding kinds stepOf nextOf
-returns-17 c = by-kind (c .before .before .before .before .before .before .before .before .before) 6 (c .before .match2 .keys5) (unchanged (c .combined5 .ensures larger (λ a b z. refl)) refl)
+returns-17 c =
+    let at-match2-keys5 = c .before in
+    let start = at-match2-keys5 .before .before .before .before .before .before .before .before in
+    by-kind start 6 (at-match2-keys5 .match2 .keys5) (unchanged (c .combined5 .ensures larger (λ a b z. refl)) refl)
 
 returns-18 : tie.Need-returns-18
 returns-18 c =
@@ -250,8 +314,9 @@ returns-18 c =
 
 returns-19 : tie.Need-returns-19
 returns-19 c =
-    let m = c .before .match .rest in
-    let start = c .before .before .before .before .before .before .before in
+    let at-match-rest = c .before in
+    let start = at-match-rest .before .before .before .before .before .before in
+    let m = at-match-rest .match .rest in
     let other =
     no-kind (start .args .kind) (c .if2 .left) (m .0 .0 .1) (m .0 .0 .0 .1) (m .0 .0 .0 .0 .1) (m .0 .0 .0 .0 .0 .1) (m .0 .0 .0 .0 .0 .0 .1)
     (m .0 .0 .0 .0 .0 .0 .0 .1) (m .0 .0 .0 .0 .0 .0 .0 .0 .1) (m .0 .0 .0 .0 .0 .0 .0 .0 .0 .1) (m .0 .0 .0 .0 .0 .0 .0 .0 .0 .0 .1) in

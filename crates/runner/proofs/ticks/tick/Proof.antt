@@ -31,7 +31,14 @@ same-length-3 c = search needs
 
 returns : tie.Need-returns
 unfolding tickOf
-returns c = λ past R. stops (rowsIn (c .before .before .before .before .before .before .before .before .before .before .before .before .before .before .before .before .before .before .before .args .n) (c .before .before .before .before .before .before .before .before .before .before .before .before .before .before .before .before .before .before .before .args .words .now)) (c .before .before .before .before .before .before .before .before .before .before .before .before .before .before .before .before .before .before .before .args .t) past (c .before .before .before .before .before .before .before .before .before .before .before .before .before .before .before .before .before .before .before .args .marks .now) (c .before .before .before .before .before .before .before .before .before .before .before .before .before .before .before .before .before .before .before .args .values .now) _ _ _ (c .before .before .before .before .before .before .before .before .before .before .before .before .before .before .before .before .before .before .before .args .state .now) (flowsFrom (rowsIn (c .before .before .before .before .before .before .before .before .before .before .before .before .before .before .before .before .before .before .before .args .n) (c .before .before .before .before .before .before .before .before .before .before .before .before .before .before .before .before .before .before .before .args .words .now)) (c .before .before .before .before .before .before .before .before .before .before .before .before .before .before .before .before .before .before .before .args .log .now) past [] (rowsIn (c .before .before .before .before .before .before .before .before .before .before .before .before .before .before .before .before .before .before .before .args .n) (c .before .before .before .before .before .before .before .before .before .before .before .before .before .before .before .before .before .before .before .args .words .now))) _ _ (c .before .before .before .before .before .before .before .before .before .flows .ensures past R) (c .before .f .given .1)
+returns c =
+    let after-f = c .before in
+    let after-flows = after-f .before .before .before .before .before .before .before .before in
+    let start = after-flows .before .before .before .before .before .before .before .before .before .before in
+    let args = start .args in
+    λ past R. stops (rowsIn (args .n) (args .words .now)) (args .t) past (args .marks .now) (args .values .now) _ _ _ (args .state .now)
+    (flowsFrom (rowsIn (args .n) (args .words .now)) (args .log .now) past [] (rowsIn (args .n) (args .words .now))) _ _
+    (after-flows .flows .ensures past R) (after-f .f .given .1)
 
 same-length-4 : tie.Need-same-length-4
 same-length-4 c = search needs
@@ -44,7 +51,17 @@ same-length-6 c = search needs
 
 returns-2 : tie.Need-returns-2
 unfolding tickOf
-returns-2 c = λ past R. latches (rowsIn (c .before .before .before .before .before .before .before .before .before .before .before .before .before .before .before .before .before .before .before .before .before .before .before .before .args .n) (c .before .before .before .before .before .before .before .before .before .before .before .before .before .before .before .before .before .before .before .before .before .before .before .before .args .words .now)) (c .before .before .before .before .before .before .before .before .before .before .before .before .before .before .before .before .before .before .before .before .before .before .before .before .args .t) past (c .before .before .before .before .before .before .before .before .before .before .before .before .before .before .before .before .before .before .before .before .before .before .before .before .args .marks .now) (c .before .before .before .before .before .before .before .before .before .before .before .before .before .before .before .before .before .before .before .before .before .before .before .before .args .values .now) _ _ _ _ (c .before .before .before .before .before .before .before .before .before .before .before .before .before .before .before .before .before .before .before .before .before .before .before .before .args .n) (plain-table (c .before .before .before .before .before .before .before .before .before .before .before .before .before .before .before .before .before .before .before .before .before .before .before .before .args .n) (c .before .before .before .before .before .before .before .before .before .before .before .before .before .before .before .before .before .before .before .before .before .before .before .before .args .words .now) (c .before .before .before .before .before .before .before .before .before .before .before .before .before .before .before .before .before .before .before .before .before .before .before .before .pre .0) .size) (flowsFrom (rowsIn (c .before .before .before .before .before .before .before .before .before .before .before .before .before .before .before .before .before .before .before .before .before .before .before .before .args .n) (c .before .before .before .before .before .before .before .before .before .before .before .before .before .before .before .before .before .before .before .before .before .before .before .before .args .words .now)) (c .before .before .before .before .before .before .before .before .before .before .before .before .before .before .before .before .before .before .before .before .before .before .before .before .args .log .now) past [] (rowsIn (c .before .before .before .before .before .before .before .before .before .before .before .before .before .before .before .before .before .before .before .before .before .before .before .before .args .n) (c .before .before .before .before .before .before .before .before .before .before .before .before .before .before .before .before .before .before .before .before .before .before .before .before .args .words .now))) _ _ (c .before .before .before .before .before .before .before .before .before .before .before .before .before .before .flows .ensures past R) (c .before .before .before .before .before .before .enum-told .given .1) (λ cells ms vs z w F. c .before .before .latch .ensures past cells ms vs (c .before .before .before .before .before .before .before .before .before .before .before .before .before .before .before .before .before .before .before .before .before .before .before .before .args .t) z w F)
+returns-2 c =
+    let after-latch = c .before .before in
+    let after-enum-told = after-latch .before .before .before .before in
+    let after-flows = after-enum-told .before .before .before .before .before .before .before .before in
+    let start = after-flows .before .before .before .before .before .before .before .before .before .before in
+    let args = start .args in
+    λ past R. latches (rowsIn (args .n) (args .words .now)) (args .t) past (args .marks .now) (args .values .now) _ _ _ _ (args .n)
+    (plain-table (args .n) (args .words .now) (start .pre .0) .size)
+    (flowsFrom (rowsIn (args .n) (args .words .now)) (args .log .now) past [] (rowsIn (args .n) (args .words .now))) _ _
+    (after-flows .flows .ensures past R) (after-enum-told .enum-told .given .1)
+    (λ cells ms vs z w F. after-latch .latch .ensures past cells ms vs (args .t) z w F)
 
 pub tick-spec : {M : Type 1} → statement M
 tick-spec =

@@ -54,11 +54,15 @@ loop-less c = omega arith
 
 loop-again : tie.Need-loop-again Inv-loop μ-loop
 loop-again c =
-    let a = c .before .before .before .before .before .before .before .args in
-    let l = c .before .before .loop in
+    let at-loop = c .before .before in
+    let after-byte-count = at-loop .before in
+    let after-lined = after-byte-count .before in
+    let start = after-lined .before .before .before in
+    let a = start .args in
+    let l = at-loop .loop in
     let at = a .self .at in
-    let end = c .before .before .before .byte-count .result in
-    let x = c .before .before .before .before .lined .result in
+    let end = after-byte-count .byte-count .result in
+    let x = after-lined .lined .result in
     let r = 8 * (end - 1 - l .i) in (
       search needs,
       search needs,
@@ -78,14 +82,18 @@ same-length c = search needs
 
 returns : tie.Need-returns Inv-loop μ-loop
 returns c =
-    let a = c .before .before .before .before .before .before .args in
-    let l = c .before .loop in
+    let at-loop = c .before in
+    let after-byte-count = at-loop .before in
+    let after-lined = after-byte-count .before in
+    let start = after-lined .before .before .before in
+    let a = start .args in
+    let l = at-loop .loop in
     let at = a .self .at in
-    let end = c .before .before .byte-count in
+    let end = after-byte-count .byte-count in
     let e : l .i ≡ byteCount (at + a .width) = omega arith in (
       refl,
-      put-done (now (a .out)) (l .out) at (a .width) (a .v) (c .before .before .before .lined .result) (l .i) (8 * (end .result - l .i))
-          (c .before .before .before .before .before .before .pre .2) e (omega arith) (l .inv .4) (l .inv .3),
+      put-done (now (a .out)) (l .out) at (a .width) (a .v) (after-lined .lined .result) (l .i) (8 * (end .result - l .i))
+          (start .pre .2) e (omega arith) (l .inv .4) (l .inv .3),
     )
 
 pub put-spec : {M : Type 1} → statement M

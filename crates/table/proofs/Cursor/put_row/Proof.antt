@@ -20,28 +20,37 @@ use Rattle.table.proofs.Cursor.put_row.Tie as tie
 
 put-requires : tie.Need-put-requires
 unfolding rowLength
-put-requires c κs = omega (arith, row-le (c .before .before .args .r .kind) (c .before .before .pre .1))
+put-requires c κs =
+    let start = c .before .before in
+    omega (arith, row-le (start .args .r .kind) (start .pre .1))
 
 width-of-requires : tie.Need-width-of-requires
 width-of-requires c κs = search needs
 
 put-requires-2 : tie.Need-put-requires-2
 unfolding rowLength
-put-requires-2 c κs = omega (arith, row-le (c .before .before .before .before .before .before .before .args .r .kind) (c .before .before .before .before .before .before .before .pre .1))
+put-requires-2 c κs =
+    let start = c .before .before .before .before .before .before .before in
+    omega (arith, row-le (start .args .r .kind) (start .pre .1))
 
 width-of-requires-2 : tie.Need-width-of-requires-2
 width-of-requires-2 c κs = search needs
 
 put-requires-3 : tie.Need-put-requires-3
 unfolding rowLength
-put-requires-3 c κs = omega (arith, row-le (c .before .before .before .before .before .before .before .before .before .before .before .before .args .r .kind) (c .before .before .before .before .before .before .before .before .before .before .before .before .pre .1))
+put-requires-3 c κs =
+    let start = c .before .before .before .before .before .before .before .before .before .before .before .before in
+    omega (arith, row-le (start .args .r .kind) (start .pre .1))
 
 width-of-requires-3 : tie.Need-width-of-requires-3
 width-of-requires-3 c κs = search needs
 
 put-requires-4 : tie.Need-put-requires-4
 unfolding rowLength
-put-requires-4 c κs = omega (arith, row-le (c .before .before .before .before .before .before .before .before .before .before .before .before .before .before .before .before .before .args .r .kind) (c .before .before .before .before .before .before .before .before .before .before .before .before .before .before .before .before .before .pre .1))
+put-requires-4 c κs =
+    let after-out2 = c .before .before .before .before .before .before .before .before in
+    let start = after-out2 .before .before .before .before .before .before .before .before .before in
+    omega (arith, row-le (start .args .r .kind) (start .pre .1))
 
 same-length : tie.Need-same-length
 same-length c = search needs
@@ -49,18 +58,26 @@ same-length c = search needs
 returns : tie.Need-returns
 unfolding rowLength
 returns c =
-    let a = c .before .before .before .before .before .before .before .before .before .before .before .before .before .before .before .before .before .before .before .before .args in
-    let p = c .before .before .before .before .before .before .before .before .before .before .before .before .before .before .before .before .before .before .before .before .pre in
+    let after-put4 = c .before .before in
+    let after-width-of3 = after-put4 .before in
+    let after-put3 = after-width-of3 .before .before .before .before in
+    let after-width-of2 = after-put3 .before in
+    let after-put2 = after-width-of2 .before .before .before .before in
+    let after-width-of = after-put2 .before in
+    let after-put = after-width-of .before .before .before .before in
+    let start = after-put .before .before .before in
+    let a = start .args in
+    let p = start .pre in
     let at = a .self .at in
     let w = wordsOf (a .r) in
     let k = w .kind in
-    let p1 = c .before .before .before .before .before .before .before .before .before .before .before .before .before .before .before .before .before .put in
-    let p2 = c .before .before .before .before .before .before .before .before .before .before .before .before .put2 in
-    let p3 = c .before .before .before .before .before .before .before .put3 in
-    let p4 = c .before .before .put4 in
-    let w1 = c .before .before .before .before .before .before .before .before .before .before .before .before .before .width-of in
-    let w2 = c .before .before .before .before .before .before .before .before .width-of2 in
-    let w3 = c .before .before .before .width-of3 in
+    let p1 = after-put .put in
+    let p2 = after-put2 .put2 in
+    let p3 = after-put3 .put3 in
+    let p4 = after-put4 .put4 in
+    let w1 = after-width-of .width-of in
+    let w2 = after-width-of2 .width-of2 in
+    let w3 = after-width-of3 .width-of3 in
     let old = bits (now (a .out)) in
     let f0 = toBits kindWidth k in
     let f1 = toBits (width (kindAt k .one)) (w .one) in

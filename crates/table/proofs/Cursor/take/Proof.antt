@@ -16,8 +16,10 @@ returns c =
 
 returns-2 : tie.Need-returns-2
 returns-2 c =
-    let a = c .before .before .before .args in
-    take-wide (bits (now (a .s))) (a .self .at) (a .width) (c .before .if1 .left) (c .if2 .taken)
+    let else1 = c .before in
+    let start = else1 .before .before in
+    let a = start .args in
+    take-wide (bits (now (a .s))) (a .self .at) (a .width) (else1 .if1 .left) (c .if2 .taken)
 
 add-byte-count : tie.Need-add-byte-count
 add-byte-count c = omega arith
@@ -27,9 +29,13 @@ byte-count-requires c κs = search needs
 
 returns-3 : tie.Need-returns-3
 returns-3 c =
-    let a = c .before .before .before .before .before .args in
-    take-short (now (a .s)) (a .self .at) (a .width) (c .before .before .before .if1 .left) (c .before .before .if2 .left)
-    (rw (c .before .byte-count .ensures) at (c .if3 .taken))
+    let after-byte-count = c .before in
+    let else2 = after-byte-count .before in
+    let else1 = else2 .before in
+    let start = else1 .before .before in
+    let a = start .args in
+    take-short (now (a .s)) (a .self .at) (a .width) (else1 .if1 .left) (else2 .if2 .left)
+    (rw (after-byte-count .byte-count .ensures) at (c .if3 .taken))
 
 sub-past : tie.Need-sub-past
 sub-past c = omega arith
@@ -51,12 +57,19 @@ add-t10 c = omega arith
 
 returns-4 : tie.Need-returns-4
 returns-4 c =
-    let a = c .before .before .before .before .before .before .before .args in
+    let after-window-at = c .before in
+    let else3 = after-window-at .before in
+    let after-byte-count = else3 .before in
+    let else2 = after-byte-count .before in
+    let else1 = else2 .before in
+    let after-shared-slice-known = else1 .before in
+    let start = after-shared-slice-known .before in
+    let a = start .args in
     take-got (now (a .s)) (a .self .at) (a .width) (c .low-bits .result)
-    (λ k. omega (arith, c .before .before .before .before .before .before .shared-slice-known .given k))
-    (c .before .before .before .before .before .if1 .left) (c .before .before .before .before .if2 .left)
-    (rw (c .before .before .before .byte-count .ensures) at (c .before .before .if3 .left))
-    (c .low-bits .ensures .0 ∙ ap (λ (n : ℕ). n / 2 ^ (40 - a .self .at % 8 - a .width) % 2 ^ a .width) (c .before .window-at .ensures))
+    (λ k. omega (arith, after-shared-slice-known .shared-slice-known .given k))
+    (else1 .if1 .left) (else2 .if2 .left)
+    (rw (after-byte-count .byte-count .ensures) at (else3 .if3 .left))
+    (c .low-bits .ensures .0 ∙ ap (λ (n : ℕ). n / 2 ^ (40 - a .self .at % 8 - a .width) % 2 ^ a .width) (after-window-at .window-at .ensures))
 
 pub take-spec : {M : Type 1} → statement M
 take-spec =

@@ -42,13 +42,17 @@ shl-result-2 c = omega arith
 
 returns : tie.Need-returns
 returns c =
-    let a = c .before .before .before .before .args in
-    let p = c .before .before .before .before .pre in
-    let b = c .before .before .byte-at in
+    let after-low-bits = c .before in
+    let after-byte-at = after-low-bits .before in
+    let start = after-byte-at .before .before in
+    let low-bits = after-low-bits .low-bits in
+    let a = start .args in
+    let p = start .pre in
+    let b = after-byte-at .byte-at in
     rw (
-      lined-word (b .result) (a .at % 8) (a .w) (c .before .low-bits .result) (c .up .result - (a .at + a .w)) (b .ensures .1) (p .1)
-          (c .before .low-bits .ensures .1) (omega arith),
-      c .before .low-bits .ensures .0,
+      lined-word (b .result) (a .at % 8) (a .w) (low-bits .result) (c .up .result - (a .at + a .w)) (b .ensures .1) (p .1)
+          (low-bits .ensures .1) (omega arith),
+      low-bits .ensures .0,
       b .ensures .0,
       c .up .ensures,
     )

@@ -32,14 +32,17 @@ put-requires c κs = search needs
 
 loop-holds : tie.Need-loop-holds Inv-loop μ-loop
 loop-holds c =
-    let a = c .before .before .before .before .before .before .before .args in
-    let p = c .before .before .put in
-    let n = c .before .before .before .before .new .ensures in
+    let after-put = c .before .before in
+    let after-new = after-put .before .before in
+    let start = after-new .before .before .before in
+    let a = start .args in
+    let p = after-put .put in
+    let n = after-new .new .ensures in
     let e : p .result .at ≡ 0 + length (toBits countWidth (a .count)) = omega (arith, p .ensures .0, n, length-toBits countWidth (a .count)) in (
       search needs,
       omega (arith, p .ensures .0, n),
       refl,
-      putting-starts (a .count) (p .result .at) (now (a .words)) (p .last .1 .0) (bits (now (a .out))) (toBits countWidth (a .count)) (c .before .before .before .before .before .before .before .pre .0 .accepted)
+      putting-starts (a .count) (p .result .at) (now (a .words)) (p .last .1 .0) (bits (now (a .out))) (toBits countWidth (a .count)) (start .pre .0 .accepted)
           (p .ensures .1 ∙ ap (λ (x : ℕ). putAt (bits (now (a .out))) x (toBits countWidth (a .count))) n) e,
     )
 
@@ -48,18 +51,24 @@ record-at-requires c κs = search needs
 
 put-row-requires : tie.Need-put-row-requires Inv-loop μ-loop
 put-row-requires c κs =
-    let a = c .before .before .before .before .before .before .before .before .before .before .before .args in
-    let p = c .before .before .before .before .before .before .before .before .before .before .before .pre in
-    let l = c .before .before .before .loop in
-    let r = c .before .record-at in
-    let f : l .row < a .count = c .before .before .loop-test .taken in
-    let q = c .before .before .before .before .before .before .put in
+    let after-record-at = c .before in
+    let in-loop = after-record-at .before in
+    let at-loop = in-loop .before in
+    let after-put = at-loop .before .before .before in
+    let after-new = after-put .before .before in
+    let start = after-new .before .before .before in
+    let a = start .args in
+    let p = start .pre in
+    let l = at-loop .loop in
+    let r = after-record-at .record-at in
+    let f : l .row < a .count = in-loop .loop-test .taken in
+    let q = after-put .put in
     let w = wordsOf (r .result) in
     let k = known-row (a .count) (l .row) (l .cursor .at) (q .result .at) (now (a .words)) (l .out) (q .last .1 .0) (l .inv .3) w (r .ensures) f in
     let m = room-row (a .count) (l .row) (l .cursor .at) (q .result .at) (now (a .words)) (l .out) (q .last .1 .0) (l .inv .3) w (r .ensures) f in (
       omega (arith, l .inv .1, p .0 .few, f),
       k,
-      omega (arith, m, p .1, q .kept .1 .0, l .inv .2, q .ensures .0, c .before .before .before .before .before .before .before .before .new .ensures),
+      omega (arith, m, p .1, q .kept .1 .0, l .inv .2, q .ensures .0, after-new .new .ensures),
     )
 
 add-row : tie.Need-add-row Inv-loop μ-loop
@@ -70,13 +79,20 @@ loop-less c = omega arith
 
 loop-again : tie.Need-loop-again Inv-loop μ-loop
 loop-again c =
-    let a = c .before .before .before .before .before .before .before .before .before .before .before .before .before .before .args in
-    let p = c .before .before .before .before .before .before .before .before .before .before .before .before .before .before .pre in
-    let l = c .before .before .before .before .before .before .loop in
-    let r = c .before .before .before .before .record-at in
-    let f : l .row < a .count = c .before .before .before .before .before .loop-test .taken in
-    let q = c .before .before .before .before .before .before .before .before .before .put in
-    let t = c .before .before .put-row in
+    let after-put-row = c .before .before in
+    let after-record-at = after-put-row .before .before in
+    let in-loop = after-record-at .before in
+    let at-loop = in-loop .before in
+    let after-put = at-loop .before .before .before in
+    let after-new = after-put .before .before in
+    let start = after-new .before .before .before in
+    let a = start .args in
+    let p = start .pre in
+    let l = at-loop .loop in
+    let r = after-record-at .record-at in
+    let f : l .row < a .count = in-loop .loop-test .taken in
+    let q = after-put .put in
+    let t = after-put-row .put-row in
     let w = wordsOf (r .result) in
     let k = known-row (a .count) (l .row) (l .cursor .at) (q .result .at) (now (a .words)) (l .out) (q .last .1 .0) (l .inv .3) w (r .ensures) f in
     let m = room-row (a .count) (l .row) (l .cursor .at) (q .result .at) (now (a .words)) (l .out) (q .last .1 .0) (l .inv .3) w (r .ensures) f in (
@@ -84,7 +100,7 @@ loop-again c =
       omega (arith, l .inv .1, t .ensures .0, row-le (w .kind) k),
       t .kept .1 .0 ∙ l .inv .2,
       putting-goes (a .count) (l .row) (l .cursor .at) (q .result .at) (now (a .words)) (l .out) (q .last .1 .0) (l .inv .3) w (r .ensures) f (t .result .at) (t .last .1 .0)
-          (omega (arith, length-bits (l .out), m, p .1, q .kept .1 .0, l .inv .2, q .ensures .0, c .before .before .before .before .before .before .before .before .before .before .before .new .ensures)) (t .ensures .0) (t .ensures .1),
+          (omega (arith, length-bits (l .out), m, p .1, q .kept .1 .0, l .inv .2, q .ensures .0, after-new .new .ensures)) (t .ensures .0) (t .ensures .1),
     )
 
 same-length : tie.Need-same-length Inv-loop μ-loop
@@ -92,10 +108,14 @@ same-length c = search needs
 
 returns : tie.Need-returns Inv-loop μ-loop
 returns c =
-    let a = c .before .before .before .before .before .before .before .before .before .args in
-    let l = c .before .loop in
-    let q = c .before .before .before .before .put in
-    let n = c .before .before .before .before .before .before .new .ensures in
+    let at-loop = c .before in
+    let after-put = at-loop .before .before .before in
+    let after-new = after-put .before .before in
+    let start = after-new .before .before .before in
+    let a = start .args in
+    let l = at-loop .loop in
+    let q = after-put .put in
+    let n = after-new .new .ensures in
     let old = bits (now (a .out)) in
     let f = toBits countWidth (a .count) in
     putting-ends (a .count) (l .row) (l .cursor .at) (q .result .at) (now (a .words)) (l .out) (q .last .1 .0) (l .inv .3) (omega arith)

@@ -37,24 +37,39 @@ judge-requires c κs = search needs
 
 returns : tie.Need-returns Inv-loop μ-loop
 returns c =
-    let a = c .before .before .before .before .before .before .args in
-    let l = c .before .before .before .before .loop in (
-      sym (l .inv .2) ∙ survey-stop (a .count) (l .row) (now (a .words)) (wordsOf (c .before .before .record-at .result)) (c .before .before .record-at .ensures)
-          (c .before .before .before .loop-test .taken) (c .before .judge .result) (c .before .judge .ensures) (c .if1 .taken),
+    let after-judge = c .before in
+    let after-record-at = after-judge .before in
+    let in-loop = after-record-at .before in
+    let at-loop = in-loop .before in
+    let start = at-loop .before .before in
+    let a = start .args in
+    let l = at-loop .loop in (
+      sym (l .inv .2) ∙ survey-stop (a .count) (l .row) (now (a .words)) (wordsOf (after-record-at .record-at .result)) (after-record-at .record-at .ensures)
+          (in-loop .loop-test .taken) (after-judge .judge .result) (after-judge .judge .ensures) (c .if1 .taken),
       tt,
     )
 
 row-length-requires : tie.Need-row-length-requires Inv-loop μ-loop
 row-length-requires c κs =
-    let a = c .before .before .before .before .before .before .args in
-    let l = c .before .before .before .before .loop in
-    kind-lt (a .count) (l .row) (wordsOf (c .before .before .record-at .result)) (sym (c .before .judge .ensures) ∙ c .if1 .left)
+    let after-judge = c .before in
+    let after-record-at = after-judge .before in
+    let at-loop = after-record-at .before .before in
+    let start = at-loop .before .before in
+    let a = start .args in
+    let l = at-loop .loop in
+    kind-lt (a .count) (l .row) (wordsOf (after-record-at .record-at .result)) (sym (after-judge .judge .ensures) ∙ c .if1 .left)
 
-accepted : (c : tie.After-row-length Inv-loop μ-loop) → verdict (rowOf (c .before .before .before .before .before .before .before .args .count) (c .before .before .before .before .before .loop .row) (wordsOf (c .before .before .before .record-at .result))) ≡ 0
+accepted : (c : tie.After-row-length Inv-loop μ-loop) → (
+    let after-record-at = c .before .before .before in
+    let at-loop = after-record-at .before .before in
+    let start = at-loop .before .before in
+    verdict (rowOf (start .args .count) (at-loop .loop .row) (wordsOf (after-record-at .record-at .result))) ≡ 0)
 accepted c = sym (c .before .before .judge .ensures) ∙ c .before .if1 .left
 
 longest : (c : tie.After-row-length Inv-loop μ-loop) → c .row-length .result ≤ longestRecord
-longest c = rw (c .row-length .ensures) (row-le _ (kind-lt _ _ (wordsOf (c .before .before .before .record-at .result)) (accepted c)))
+longest c =
+    let after-record-at = c .before .before .before in
+    rw (c .row-length .ensures) (row-le _ (kind-lt _ _ (wordsOf (after-record-at .record-at .result)) (accepted c)))
 
 add-bits : tie.Need-add-bits Inv-loop μ-loop
 add-bits c = omega (arith, longest c)
@@ -67,10 +82,14 @@ loop-less c = omega arith
 
 loop-again : tie.Need-loop-again Inv-loop μ-loop
 loop-again c =
-    let a = c .before .before .before .before .before .before .before .args in
-    let l = c .before .before .before .before .before .loop in
-    let r = c .before .before .before .record-at in
-    let f : l .row < a .count = c .before .before .before .before .loop-test .taken in (
+    let after-record-at = c .before .before .before in
+    let in-loop = after-record-at .before in
+    let at-loop = in-loop .before in
+    let start = at-loop .before .before in
+    let a = start .args in
+    let l = at-loop .loop in
+    let r = after-record-at .record-at in
+    let f : l .row < a .count = in-loop .loop-test .taken in (
       search needs,
       omega (arith, longest c),
       survey-next (a .count) (l .row) (now (a .words)) (wordsOf (r .result)) (r .ensures) f (accepted c) ∙ l .inv .2,
@@ -83,9 +102,12 @@ byte-count-requires c κs = search needs
 returns-2 : tie.Need-returns-2 Inv-loop μ-loop
 unfolding rowsFrom rowsBits
 returns-2 c =
-    let a = c .before .before .before .before .args in
-    let l = c .before .before .loop in
-    let e : split (a .count - l .row) (drop (rowSize * l .row) (now (a .words))) ≡ [] = split-end (a .count) (l .row) (now (a .words)) (l .inv .0) (c .before .loop-test .left) in
+    let after-loop = c .before in
+    let at-loop = after-loop .before in
+    let start = at-loop .before .before in
+    let a = start .args in
+    let l = at-loop .loop in
+    let e : split (a .count - l .row) (drop (rowSize * l .row) (now (a .words))) ≡ [] = split-end (a .count) (l .row) (now (a .words)) (l .inv .0) (after-loop .loop-test .left) in
     (sym (rw e at (l .inv .2)), omega (arith, c .byte-count .ensures, rw e at (l .inv .3)))
 
 pub survey-rows-spec : {M : Type 1} → statement M

@@ -24,7 +24,9 @@ array-read-result c = omega arith
 
 returns-2 : tie.Need-returns-2
 unfolding ranged
-returns-2 c = rw (← least-at _ (c .before .pre), le-leb _ _ (c .if1 .left), ← most-at _ (c .before .pre))
+returns-2 c =
+    let start = c .before in
+    rw (← least-at _ (start .pre), le-leb _ _ (c .if1 .left), ← most-at _ (start .pre))
 
 pub in-range-spec : {M : Type 1} → statement M
 in-range-spec =

@@ -17,11 +17,21 @@ all-in-place-requires c κs = search needs
 
 returns-2 : tie.Need-returns-2
 unfolding rowOf fieldsOf
-returns-2 c = rw (kind-there _ (c .before .before .before .before .if1 .left), ← c .before .before .before .all-in-range .ensures, c .before .before .if2 .taken, ← c .before .all-in-place .ensures, c .if3 .taken)
+returns-2 c =
+    let after-all-in-place = c .before in
+    let then2 = after-all-in-place .before in
+    let after-all-in-range = then2 .before in
+    let else1 = after-all-in-range .before in
+    rw (kind-there _ (else1 .if1 .left), ← after-all-in-range .all-in-range .ensures, then2 .if2 .taken, ← after-all-in-place .all-in-place .ensures, c .if3 .taken)
 
 returns-3 : tie.Need-returns-3
 unfolding rowOf fieldsOf
-returns-3 c = rw (kind-there _ (c .before .before .before .before .if1 .left), ← c .before .before .before .all-in-range .ensures, c .before .before .if2 .taken, ← c .before .all-in-place .ensures, c .if3 .left)
+returns-3 c =
+    let after-all-in-place = c .before in
+    let then2 = after-all-in-place .before in
+    let after-all-in-range = then2 .before in
+    let else1 = after-all-in-range .before in
+    rw (kind-there _ (else1 .if1 .left), ← after-all-in-range .all-in-range .ensures, then2 .if2 .taken, ← after-all-in-place .all-in-place .ensures, c .if3 .left)
 
 returns-4 : tie.Need-returns-4
 unfolding rowOf fieldsOf

@@ -24,7 +24,8 @@ array-read-result c = omega arith
 
 returns : tie.Need-returns
 returns c =
-    let t : Field = getD (fieldList (kindAt (c .before .args .kind))) (c .before .args .place) unused in
+    let start = c .before in
+    let t : Field = getD (fieldList (kindAt (start .args .kind))) (start .args .place) unused in
     let e = width-at (c .field-of .result) (c .field-of .ensures .0) ∙ ap width (c .field-of .ensures .1) in
     (subst (λ (n : ℕ). n ≤ 32) (sym e) (width-le t), e)
 

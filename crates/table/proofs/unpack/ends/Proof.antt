@@ -14,8 +14,10 @@ byte-count-requires c κs = search needs
 
 returns : tie.Need-returns
 returns c =
-    let a = c .before .before .before .args in
-    not-ended (now (a .s)) (a .at) (c .before .before .before .pre .1) (rw (c .before .byte-count .ensures) at (c .if1 .taken))
+    let after-byte-count = c .before in
+    let start = after-byte-count .before .before in
+    let a = start .args in
+    not-ended (now (a .s)) (a .at) (start .pre .1) (rw (after-byte-count .byte-count .ensures) at (c .if1 .taken))
 
 up-requires : tie.Need-up-requires
 up-requires c κs = search needs
@@ -37,16 +39,30 @@ enum-told c = search needs
 
 returns-2 : tie.Need-returns-2
 returns-2 c =
-    let a = c .before .before .before .before .before .before .before .args in
-    let p = c .before .before .before .before .before .before .before .pre in
-    absurd (fill-there (now (a .s)) (a .at) (c .before .before .before .up .result - a .at) (p .0) (p .1) (rw (c .before .before .before .before .before .byte-count .ensures) at (c .before .before .before .before .if1 .left)) (ap (λ n. n - a .at) (c .before .before .before .up .ensures)) (sym (c .before .before .take .ensures) ∙ ap takingParts (c .enum-told .given .1)))
+    let after-take = c .before .before in
+    let after-up = after-take .before in
+    let else1 = after-up .before in
+    let after-byte-count = else1 .before in
+    let start = after-byte-count .before .before in
+    let a = start .args in
+    let p = start .pre in
+    absurd
+    (fill-there (now (a .s)) (a .at) (after-up .up .result - a .at) (p .0) (p .1) (rw (after-byte-count .byte-count .ensures) at (else1 .if1 .left))
+    (ap (λ n. n - a .at) (after-up .up .ensures)) (sym (after-take .take .ensures) ∙ ap takingParts (c .enum-told .given .1)))
 
 returns-3 : tie.Need-returns-3
 returns-3 c =
-    let a = c .before .before .before .before .before .before .before .before .args in
-    let p = c .before .before .before .before .before .before .before .before .pre in
-    let g = c .before .fill .given in
-    ended (now (a .s)) (a .at) (c .before .before .before .before .up .result - a .at) (p .0) (p .1) (rw (c .before .before .before .before .before .before .byte-count .ensures) at (c .before .before .before .before .before .if1 .left)) (ap (λ n. n - a .at) (c .before .before .before .before .up .ensures)) (g .0 .0) (g .0 .1 .0) (sym (c .before .before .before .take .ensures) ∙ ap takingParts (g .1))
+    let after-fill = c .before in
+    let after-take = after-fill .before .before in
+    let after-up = after-take .before in
+    let else1 = after-up .before in
+    let after-byte-count = else1 .before in
+    let start = after-byte-count .before .before in
+    let a = start .args in
+    let p = start .pre in
+    let g = after-fill .fill .given in
+    ended (now (a .s)) (a .at) (after-up .up .result - a .at) (p .0) (p .1) (rw (after-byte-count .byte-count .ensures) at (else1 .if1 .left))
+    (ap (λ n. n - a .at) (after-up .up .ensures)) (g .0 .0) (g .0 .1 .0) (sym (after-take .take .ensures) ∙ ap takingParts (g .1))
 
 pub ends-spec : {M : Type 1} → statement M
 ends-spec =

@@ -37,12 +37,19 @@ judge-requires c κs = search needs
 
 returns : tie.Need-returns Inv-loop μ-loop
 returns c =
-    let a = c .before .before .before .before .before .before .before .before .before .args in
-    let l = c .before .before .before .before .before .before .before .loop in
-    let g = c .before .before .before .step .given in
-    let d = subst (Stepped (bits (now (a .s))) (l .cursor .at)) (g .1) (c .before .before .before .before .before .row .ensures) in
+    let after-judge = c .before in
+    let after-step = after-judge .before .before in
+    let after-row = after-step .before .before in
+    let in-loop = after-row .before in
+    let at-loop = in-loop .before in
+    let start = at-loop .before .before in
+    let a = start .args in
+    let l = at-loop .loop in
+    let g = after-step .step .given in
+    let d = subst (Stepped (bits (now (a .s))) (l .cursor .at)) (g .1) (after-row .row .ensures) in
     sym (l .inv .3)
-    ∙ scan-stop (a .count) (l .row) (l .cursor .at) (bits (now (a .s))) (c .before .before .before .before .before .before .loop-test .taken) (g .0 .0) (g .0 .1 .0) d (c .before .judge .result) (c .before .judge .ensures) (c .if1 .taken)
+    ∙ scan-stop (a .count) (l .row) (l .cursor .at) (bits (now (a .s))) (in-loop .loop-test .taken) (g .0 .0) (g .0 .1 .0) d
+    (after-judge .judge .result) (after-judge .judge .ensures) (c .if1 .taken)
 
 add-row : tie.Need-add-row Inv-loop μ-loop
 add-row c = omega arith
@@ -52,14 +59,21 @@ loop-less c = omega arith
 
 loop-again : tie.Need-loop-again Inv-loop μ-loop
 loop-again c =
-    let a = c .before .before .before .before .before .before .before .before .before .args in
-    let l = c .before .before .before .before .before .before .before .loop in
-    let g = c .before .before .before .step .given in
-    let d : Found (bits (now (a .s))) (l .cursor .at) (g .0 .0) (g .0 .1 .0) = subst (Stepped (bits (now (a .s))) (l .cursor .at)) (g .1) (c .before .before .before .before .before .row .ensures) in (
+    let after-judge = c .before in
+    let after-step = after-judge .before .before in
+    let after-row = after-step .before .before in
+    let in-loop = after-row .before in
+    let at-loop = in-loop .before in
+    let start = at-loop .before .before in
+    let a = start .args in
+    let l = at-loop .loop in
+    let g = after-step .step .given in
+    let d : Found (bits (now (a .s))) (l .cursor .at) (g .0 .0) (g .0 .1 .0) = subst (Stepped (bits (now (a .s))) (l .cursor .at)) (g .1) (after-row .row .ensures) in (
       search needs,
       omega (arith, d .near, l .inv .1),
       d .within,
-      scan-next (a .count) (l .row) (l .cursor .at) (bits (now (a .s))) (c .before .before .before .before .before .before .loop-test .taken) (g .0 .0) (g .0 .1 .0) d (sym (c .before .judge .ensures) ∙ c .if1 .left) ∙ l .inv .3,
+      scan-next (a .count) (l .row) (l .cursor .at) (bits (now (a .s))) (in-loop .loop-test .taken) (g .0 .0) (g .0 .1 .0) d
+          (sym (after-judge .judge .ensures) ∙ c .if1 .left) ∙ l .inv .3,
     )
 
 enum-known-step-2 : tie.Need-enum-known-step-2 Inv-loop μ-loop
@@ -67,16 +81,23 @@ enum-known-step-2 c = search needs
 
 returns-2 : tie.Need-returns-2 Inv-loop μ-loop
 returns-2 c =
-    let a = c .before .before .before .before .before .before .before .args in
-    let l = c .before .before .before .before .before .loop in
-    let g = c .before .step2 .given in
-    let d = subst (Stepped (bits (now (a .s))) (l .cursor .at)) (g .1) (c .before .before .before .row .ensures) in
-    sym (l .inv .3) ∙ scan-missing (a .count) (l .row) (l .cursor .at) (bits (now (a .s))) (c .before .before .before .before .loop-test .taken) (g .0 .0) d
+    let after-step2 = c .before in
+    let after-row = after-step2 .before .before in
+    let in-loop = after-row .before in
+    let at-loop = in-loop .before in
+    let start = at-loop .before .before in
+    let a = start .args in
+    let l = at-loop .loop in
+    let g = after-step2 .step2 .given in
+    let d = subst (Stepped (bits (now (a .s))) (l .cursor .at)) (g .1) (after-row .row .ensures) in
+    sym (l .inv .3) ∙ scan-missing (a .count) (l .row) (l .cursor .at) (bits (now (a .s))) (in-loop .loop-test .taken) (g .0 .0) d
 
 returns-3 : tie.Need-returns-3 Inv-loop μ-loop
 returns-3 c =
-    let a = c .before .before .before .args in
-    let l = c .before .loop in
+    let at-loop = c .before in
+    let start = at-loop .before .before in
+    let a = start .args in
+    let l = at-loop .loop in
     let e : l .row ≡ a .count = omega arith in
     let z : a .count - l .row ≡ 0 = omega arith in
     record { left = rw (z, e) at (l .inv .3); near = omega arith; within = l .inv .2 }

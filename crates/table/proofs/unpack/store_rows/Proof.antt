@@ -22,8 +22,9 @@ abbrev μ-loop : tie.MeasureT-loop
 
 loop-holds : tie.Need-loop-holds Inv-loop μ-loop
 loop-holds c =
-    let a = c .before .before .args in
-    let p = c .before .before .pre in
+    let start = c .before .before in
+    let a = start .args in
+    let p = start .pre in
     (search needs, search needs, p .2 .within, refl, storing-starts (bits (now (a .s))) (a .count) (now (a .words)) (p .2))
 
 row-requires : tie.Need-row-requires Inv-loop μ-loop
@@ -40,10 +41,15 @@ same-length c = search needs
 
 returns : tie.Need-returns Inv-loop μ-loop
 returns c =
-    let a = c .before .before .before .before .before .before .before .args in
-    let l = c .before .before .before .before .loop in
+    let after-row = c .before .before in
+    let in-loop = after-row .before in
+    let at-loop = in-loop .before in
+    let start = at-loop .before .before .before in
+    let a = start .args in
+    let l = at-loop .loop in
     let g = c .enum-told .given in
-    absurd (storing-found (bits (now (a .s))) (a .count) (l .row) (l .cursor .at) (l .words) (now (a .words)) (l .inv .4) (c .before .before .before .loop-test .taken) (g .0 .0) (subst (Stepped (bits (now (a .s))) (l .cursor .at)) (g .1) (c .before .before .row .ensures)))
+    absurd (storing-found (bits (now (a .s))) (a .count) (l .row) (l .cursor .at) (l .words) (now (a .words)) (l .inv .4) (in-loop .loop-test .taken)
+    (g .0 .0) (subst (Stepped (bits (now (a .s))) (l .cursor .at)) (g .1) (after-row .row .ensures)))
 
 store-row-requires : tie.Need-store-row-requires Inv-loop μ-loop
 store-row-requires c κs = search needs
@@ -56,17 +62,24 @@ loop-less c = omega arith
 
 loop-again : tie.Need-loop-again Inv-loop μ-loop
 loop-again c =
-    let a = c .before .before .before .before .before .before .before .before .before .before .before .before .args in
-    let p = c .before .before .before .before .before .before .before .before .before .before .before .before .pre in
-    let l = c .before .before .before .before .before .before .before .before .before .loop in
-    let g = c .before .before .before .before .before .r .given in
-    let s = c .before .before .store-row in
-    let d : Found (bits (now (a .s))) (l .cursor .at) (g .0 .0) (g .0 .1 .0) = subst (Stepped (bits (now (a .s))) (l .cursor .at)) (g .1) (c .before .before .before .before .before .before .before .row .ensures) in (
+    let after-store-row = c .before .before in
+    let after-r = after-store-row .before .before .before in
+    let after-row = after-r .before .before in
+    let in-loop = after-row .before in
+    let at-loop = in-loop .before in
+    let start = at-loop .before .before .before in
+    let a = start .args in
+    let p = start .pre in
+    let l = at-loop .loop in
+    let g = after-r .r .given in
+    let s = after-store-row .store-row in
+    let d : Found (bits (now (a .s))) (l .cursor .at) (g .0 .0) (g .0 .1 .0) = subst (Stepped (bits (now (a .s))) (l .cursor .at)) (g .1) (after-row .row .ensures) in (
       search needs,
       omega (arith, d .near, l .inv .1),
       d .within,
       s .kept .0 ∙ l .inv .3,
-      storing-goes (bits (now (a .s))) (a .count) (l .row) (l .cursor .at) (l .words) (now (a .words)) (l .inv .4) (c .before .before .before .before .before .before .before .before .loop-test .taken) (g .0 .0) (g .0 .1 .0) (s .last .0) d (omega (arith, p .1, l .inv .3)) (s .ensures),
+      storing-goes (bits (now (a .s))) (a .count) (l .row) (l .cursor .at) (l .words) (now (a .words)) (l .inv .4) (in-loop .loop-test .taken)
+          (g .0 .0) (g .0 .1 .0) (s .last .0) d (omega (arith, p .1, l .inv .3)) (s .ensures),
     )
 
 same-length-2 : tie.Need-same-length-2 Inv-loop μ-loop
@@ -74,8 +87,10 @@ same-length-2 c = search needs
 
 returns-2 : tie.Need-returns-2 Inv-loop μ-loop
 returns-2 c =
-    let a = c .before .before .before .before .args in
-    let l = c .before .loop in
+    let at-loop = c .before in
+    let start = at-loop .before .before .before in
+    let a = start .args in
+    let l = at-loop .loop in
     storing-ends (bits (now (a .s))) (a .count) (l .row) (l .cursor .at) (l .words) (now (a .words)) (l .inv .4) (omega arith)
 
 pub store-rows-spec : {M : Type 1} → statement M
