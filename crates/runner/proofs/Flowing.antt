@@ -17,7 +17,7 @@ use Rattle.semantics.specs.Cells.{Cell, absent, present, value}
 use Rattle.semantics.specs.Operators.{Step, is, clashes}
 use Rattle.semantics.specs.Runs.{Tick, Ticks, cellIn, history, inputs, cellOf, TickEnd, filled, stopped, onStep, flowsFrom}
 use Rattle.semantics.specs.Answers.{markByte}
-use Rattle.runner.specs.Private.Carried.{clashMark, outcomeOf, Held, heldIn, cellsIn, stepOf, nextOf, Did}
+use Rattle.runner.specs.Private.Carried.{clashMark, outcomeOf, Held, heldIn, cellsIn, stepOf, nextOf, Did, heldSize}
 use Rattle.runner.specs.Private.Ready.{Carries, Collected, Follows, AllCarry, AllFollow, Ready, Wrote, FlowsEnd}
 use Rattle.runner.proofs.Cells.{wrote-more, here-is}
 use Rattle.runner.proofs.Tabled.{wordsAt, madeOf, Row-at, row-of}
@@ -38,19 +38,19 @@ cell-told (is c) u = record { cell = c; told = refl }
 cell-told clashes u = absurd (u refl)
 
 -- the words of other rows stay
-pub held-before : (step : Step) (next : Held) (f g : ℕ) (s s′ : List ℕ) (r : Outcome) → Did step next (4 * f) s s′ r → g < f → heldIn s′ (4 * g) ≡ heldIn s (4 * g)
-held-before step next f g s s′ r d l = rw (d .before (4 * g) (omega arith), d .before (4 * g + 1) (omega arith), d .before (4 * g + 2) (omega arith))
+pub held-before : (step : Step) (next : Held) (f g : ℕ) (s s′ : List ℕ) (r : Outcome) → Did step next (heldSize * f) s s′ r → g < f → heldIn s′ (heldSize * g) ≡ heldIn s (heldSize * g)
+held-before step next f g s s′ r d l = rw (d .before (heldSize * g) (omega arith), d .before (heldSize * g + 1) (omega arith), d .before (heldSize * g + 2) (omega arith))
 
-pub held-after : (step : Step) (next : Held) (f g : ℕ) (s s′ : List ℕ) (r : Outcome) → Did step next (4 * f) s s′ r → f < g → heldIn s′ (4 * g) ≡ heldIn s (4 * g)
-held-after step next f g s s′ r d l = rw (d .after (4 * g) (omega arith), d .after (4 * g + 1) (omega arith), d .after (4 * g + 2) (omega arith))
+pub held-after : (step : Step) (next : Held) (f g : ℕ) (s s′ : List ℕ) (r : Outcome) → Did step next (heldSize * f) s s′ r → f < g → heldIn s′ (heldSize * g) ≡ heldIn s (heldSize * g)
+held-after step next f g s s′ r d l = rw (d .after (heldSize * g) (omega arith), d .after (heldSize * g + 1) (omega arith), d .after (heldSize * g + 2) (omega arith))
 
 pub record Going (rows : List Row) (log : List ℕ) (past : Ticks) (t : ℕ) (s₀ ms₀ vs₀ s ms vs : List ℕ) (f : ℕ) : Type 0 where
   pub now : Tick
   pub size : length now ≡ f
   pub wrote : Wrote now ms₀ vs₀ ms vs
   pub rest : flowsFrom rows log past now (drop f rows) ≡ flowsFrom rows log past [] rows
-  pub followed : (g : ℕ) → g < f → Follows rows g (rowAt rows g) t now past (heldIn s (4 * g))
-  pub left : (g : ℕ) → f ≤ g → heldIn s (4 * g) ≡ heldIn s₀ (4 * g)
+  pub followed : (g : ℕ) → g < f → Follows rows g (rowAt rows g) t now past (heldIn s (heldSize * g))
+  pub left : (g : ℕ) → f ≤ g → heldIn s (heldSize * g) ≡ heldIn s₀ (heldSize * g)
 
 module _ (n : ℕ) (words log : List ℕ) (rows : List Row) (T : Table n words rows) (past : Ticks) (t at : ℕ) (s₀ ms₀ vs₀ : List ℕ) (R : Ready rows past t at s₀) where
   pub starts : Going rows log past t s₀ ms₀ vs₀ s₀ ms₀ vs₀ 0
@@ -75,35 +75,35 @@ module _ (n : ℕ) (words log : List ℕ) (rows : List Row) (T : Table n words r
       row : Row-at n words (rowAt rows f) f
       row = row-of n words rows T f h
 
-      carried : Carries rows f (rowAt rows f) (length past) (history past) (heldIn s (4 * f))
+      carried : Carries rows f (rowAt rows f) (length past) (history past) (heldIn s (heldSize * f))
       unfolding AllCarry
       carried =
           subst (λ (w : Held). Carries rows f (rowAt rows f) (length past) (history past) w) (sym (G .left f (omega arith)))
-          (subst (λ (i : ℕ). Carries rows f (rowAt rows f) i (history past) (heldIn s₀ (4 * f))) (sym (R .ticks)) (R .carried f (omega (arith, T .size))))
+          (subst (λ (i : ℕ). Carries rows f (rowAt rows f) i (history past) (heldIn s₀ (heldSize * f))) (sym (R .ticks)) (R .carried f (omega (arith, T .size))))
 
-      collected : Collected (rowAt rows f) (history past) (heldIn s (4 * f))
+      collected : Collected (rowAt rows f) (history past) (heldIn s (heldSize * f))
       collected = subst (λ (w : Held). Collected (rowAt rows f) (history past) w) (sym (G .left f (omega arith))) (R .collected f (omega (arith, T .size)))
 
       -- the code's step is a step from the cells so far
-      near : stepOf (madeOf (wordsAt words f)) t log at (cellsIn ms vs f) (heldIn s (4 * f)) ≡ stepOf (rowAt rows f) (length past) log at (cellIn (G .now)) (heldIn s (4 * f))
+      near : stepOf (madeOf (wordsAt words f)) t log at (cellsIn ms vs f) (heldIn s (heldSize * f)) ≡ stepOf (rowAt rows f) (length past) log at (cellIn (G .now)) (heldIn s (heldSize * f))
       near =
-          ap (λ (r : Row). stepOf r t log at (cellsIn ms vs f) (heldIn s (4 * f))) (row .made)
-          ∙ ap (λ (i : ℕ → Cell). stepOf (rowAt rows f) t log at i (heldIn s (4 * f))) (here-is (G .now) ms₀ vs₀ ms vs (G .wrote) f (G .size))
-          ∙ ap (λ (i : ℕ). stepOf (rowAt rows f) i log at (cellIn (G .now)) (heldIn s (4 * f))) (sym (R .ticks))
+          ap (λ (r : Row). stepOf r t log at (cellsIn ms vs f) (heldIn s (heldSize * f))) (row .made)
+          ∙ ap (λ (i : ℕ → Cell). stepOf (rowAt rows f) t log at i (heldIn s (heldSize * f))) (here-is (G .now) ms₀ vs₀ ms vs (G .wrote) f (G .size))
+          ∙ ap (λ (i : ℕ). stepOf (rowAt rows f) i log at (cellIn (G .now)) (heldIn s (heldSize * f))) (sym (R .ticks))
 
-      next-near : nextOf (madeOf (wordsAt words f)) t (cellsIn ms vs f) (heldIn s (4 * f)) ≡ nextOf (rowAt rows f) (length past) (cellIn (G .now)) (heldIn s (4 * f))
+      next-near : nextOf (madeOf (wordsAt words f)) t (cellsIn ms vs f) (heldIn s (heldSize * f)) ≡ nextOf (rowAt rows f) (length past) (cellIn (G .now)) (heldIn s (heldSize * f))
       next-near =
-          ap (λ (r : Row). nextOf r t (cellsIn ms vs f) (heldIn s (4 * f))) (row .made)
-          ∙ ap (λ (i : ℕ → Cell). nextOf (rowAt rows f) t i (heldIn s (4 * f))) (here-is (G .now) ms₀ vs₀ ms vs (G .wrote) f (G .size))
-          ∙ ap (λ (i : ℕ). nextOf (rowAt rows f) i (cellIn (G .now)) (heldIn s (4 * f))) (sym (R .ticks))
+          ap (λ (r : Row). nextOf r t (cellsIn ms vs f) (heldIn s (heldSize * f))) (row .made)
+          ∙ ap (λ (i : ℕ → Cell). nextOf (rowAt rows f) t i (heldIn s (heldSize * f))) (here-is (G .now) ms₀ vs₀ ms vs (G .wrote) f (G .size))
+          ∙ ap (λ (i : ℕ). nextOf (rowAt rows f) i (cellIn (G .now)) (heldIn s (heldSize * f))) (sym (R .ticks))
 
-      step-is : stepOf (rowAt rows f) (length past) log at (cellIn (G .now)) (heldIn s (4 * f)) ≡ cellOf rows log past (G .now) (rowAt rows f)
+      step-is : stepOf (rowAt rows f) (length past) log at (cellIn (G .now)) (heldIn s (heldSize * f)) ≡ cellOf rows log past (G .now) (rowAt rows f)
       step-is =
-          row-steps n f rows log past (G .now) (heldIn s (4 * f)) at (rowAt rows f) (row .fits) carried collected
+          row-steps n f rows log past (G .now) (heldIn s (heldSize * f)) at (rowAt rows f) (row .fits) carried collected
           (R .place ∙ ap (λ (i : ℕ). i * inputs rows) (sym (R .ticks))) (G .size)
 
       module _ (s′ : List ℕ) (r : Outcome)
-          (D : Did (stepOf (madeOf (wordsAt words f)) t log at (cellsIn ms vs f) (heldIn s (4 * f))) (nextOf (madeOf (wordsAt words f)) t (cellsIn ms vs f) (heldIn s (4 * f))) (4 * f) s s′ r) where
+          (D : Did (stepOf (madeOf (wordsAt words f)) t log at (cellsIn ms vs f) (heldIn s (heldSize * f))) (nextOf (madeOf (wordsAt words f)) t (cellsIn ms vs f) (heldIn s (heldSize * f))) (heldSize * f) s s′ r) where
         pub stops : (ms′ vs′ : List ℕ) → r .mark ≡ clashMark → ms′ ≡ ms → vs′ ≡ vs → FlowsEnd rows t past (flowsFrom rows log past [] rows) ms₀ vs₀ ms′ vs′ s′ (ticked.Stopped f)
         stops ms′ vs′ e em ev =
             let c : cellOf rows log past (G .now) (rowAt rows f) ≡ clashes = sym step-is ∙ sym near ∙ clash-told _ (ap (λ (o : Outcome). o .mark) (sym (D .answer)) ∙ e) in
@@ -117,10 +117,10 @@ module _ (n : ℕ) (words log : List ℕ) (rows : List Row) (T : Table n words r
         grows c g a l k = sym (List·getD-append (G .now) (c ∷ []) absent a (omega (arith, G .size)))
 
         -- the cell that a step came to stands in the parts
-        grown : (c : Cell) (ms′ vs′ : List ℕ) → stepOf (madeOf (wordsAt words f)) t log at (cellsIn ms vs f) (heldIn s (4 * f)) ≡ is c → f < length ms₀ → f < length vs₀ → ms′ ≡ set ms f (markByte c) → vs′ ≡ set vs f (value c)
+        grown : (c : Cell) (ms′ vs′ : List ℕ) → stepOf (madeOf (wordsAt words f)) t log at (cellsIn ms vs f) (heldIn s (heldSize * f)) ≡ is c → f < length ms₀ → f < length vs₀ → ms′ ≡ set ms f (markByte c) → vs′ ≡ set vs f (value c)
             → Going rows log past t s₀ ms₀ vs₀ s′ ms′ vs′ (f + 1)
         grown c ms′ vs′ e lm lv em ev =
-            let o : stepOf (rowAt rows f) (length past) log at (cellIn (G .now)) (heldIn s (4 * f)) ≡ is c = sym near ∙ e in
+            let o : stepOf (rowAt rows f) (length past) log at (cellIn (G .now)) (heldIn s (heldSize * f)) ≡ is c = sym near ∙ e in
             record {
               now = G .now ++ (c ∷ []);
               size = simp length-append (omega (arith, G .size));
@@ -132,18 +132,18 @@ module _ (n : ℕ) (words log : List ℕ) (rows : List Row) (T : Table n words r
               left = λ g l. held-after _ _ f g s s′ r D (omega arith) ∙ G .left g (omega arith);
             }
           where
-            below : (c : Cell) (g : ℕ) → g < f → Follows rows g (rowAt rows g) t (G .now ++ (c ∷ [])) past (heldIn s′ (4 * g))
+            below : (c : Cell) (g : ℕ) → g < f → Follows rows g (rowAt rows g) t (G .now ++ (c ∷ [])) past (heldIn s′ (heldSize * g))
             below c g l =
-                follows-on n g t rows past (G .now) (G .now ++ (c ∷ [])) (heldIn s′ (4 * g)) (rowAt rows g) (row-of n words rows T g (omega arith) .fits) (λ a k. grows c g a (omega arith) k)
+                follows-on n g t rows past (G .now) (G .now ++ (c ∷ [])) (heldIn s′ (heldSize * g)) (rowAt rows g) (row-of n words rows T g (omega arith) .fits) (λ a k. grows c g a (omega arith) k)
                 (subst (λ (w : Held). Follows rows g (rowAt rows g) t (G .now) past w) (sym (held-before _ _ f g s s′ r D l)) (G .followed g l))
 
-            same : (c : Cell) → stepOf (madeOf (wordsAt words f)) t log at (cellsIn ms vs f) (heldIn s (4 * f)) ≡ is c → {g : ℕ} → g ≡ f → Follows rows g (rowAt rows g) t (G .now ++ (c ∷ [])) past (heldIn s′ (4 * g))
+            same : (c : Cell) → stepOf (madeOf (wordsAt words f)) t log at (cellsIn ms vs f) (heldIn s (heldSize * f)) ≡ is c → {g : ℕ} → g ≡ f → Follows rows g (rowAt rows g) t (G .now ++ (c ∷ [])) past (heldIn s′ (heldSize * g))
             same c e q =
-                subst (λ (i : ℕ). Follows rows i (rowAt rows i) t (G .now ++ (c ∷ [])) past (heldIn s′ (4 * i))) (sym q)
-                (follows-on n f t rows past (G .now) (G .now ++ (c ∷ [])) (heldIn s′ (4 * f)) (rowAt rows f) (row .fits) (λ a k. grows c f a (omega arith) k)
+                subst (λ (i : ℕ). Follows rows i (rowAt rows i) t (G .now ++ (c ∷ [])) past (heldIn s′ (heldSize * i))) (sym q)
+                (follows-on n f t rows past (G .now) (G .now ++ (c ∷ [])) (heldIn s′ (heldSize * f)) (rowAt rows f) (row .fits) (λ a k. grows c f a (omega arith) k)
                 (subst (λ (w : Held). Follows rows f (rowAt rows f) t (G .now) past w) (sym (D .carried ∙ next-near))
-                (subst (λ (i : ℕ). Follows rows f (rowAt rows f) i (G .now) past (nextOf (rowAt rows f) (length past) (cellIn (G .now)) (heldIn s (4 * f)))) (R .ticks)
-                (row-follows n f rows log past (G .now) (heldIn s (4 * f)) at (rowAt rows f) c (row .fits) carried (sym near ∙ e)))))
+                (subst (λ (i : ℕ). Follows rows f (rowAt rows f) i (G .now) past (nextOf (rowAt rows f) (length past) (cellIn (G .now)) (heldIn s (heldSize * f)))) (R .ticks)
+                (row-follows n f rows log past (G .now) (heldIn s (heldSize * f)) at (rowAt rows f) c (row .fits) carried (sym near ∙ e)))))
 
         pub goes-on : (ms′ vs′ : List ℕ) → (r .mark ≡ clashMark → ⊥) → f < length ms₀ → f < length vs₀ → ms′ ≡ set ms f (r .mark) → vs′ ≡ set vs f (r .value)
             → Going rows log past t s₀ ms₀ vs₀ s′ ms′ vs′ (f + 1)

@@ -11,7 +11,7 @@ use lib.ListN.{length, getD, set, drop}
 use lib.Seq.{drop-cons, drop-length}
 use lib.Dec.{eqb, ltb}
 use borrow.Author.Tests.{eq-eqb, ne-eqb, eqb-true, eqb-false, ltb-true, ltb-false}
-use Rattle.table.specs.Rows.{Row, tail, register, kinds, decode, onRegister, badRegister}
+use Rattle.table.specs.Rows.{Row, tail, register, kinds, decode, onRegister, badRegister, rowSize}
 use Rattle.table.proofs.Tests.{Tried, passed, failed, try}
 use Rattle.table.specs.Tables.{Fits, rowAt}
 use Rattle.table.proofs.Tables.{Table}
@@ -20,7 +20,7 @@ use Rattle.semantics.specs.Cells.{Cell, absent, present, mark, value, History, 
 use Rattle.semantics.specs.Operators.{valueOr}
 use Rattle.semantics.specs.Runs.{Tick, Ticks, cellIn, history, sourceMeets}
 use Rattle.semantics.specs.Answers.{markByte}
-use Rattle.runner.specs.Private.Carried.{Held, heldIn, stateSize}
+use Rattle.runner.specs.Private.Carried.{Held, heldIn, stateSize, heldSize}
 use Rattle.runner.specs.Private.Ready.{Carries, Follows, AllCarry, AllFollow, Wrote, LatchEnd, Listed}
 use Rattle.runner.proofs.Words.{stored, stored-other}
 use Rattle.runner.proofs.Cells.{mark-at, value-at}
@@ -59,22 +59,22 @@ latest-is v x (present u) h e = refl
 
 pub record Latching (n t : ℕ) (words list : List ℕ) (rows : List Row) (cells : Tick) (past : Ticks) (s₀ s : List ℕ) (j : ℕ) : Type 0 where
   pub met : (i : ℕ) → i < j → onRegister (sourceMeets cells) (rowAt rows (getD list i 0)) ≡ true
-  pub done : (i : ℕ) → i < j → Carries rows (getD list i 0) (rowAt rows (getD list i 0)) (suc t) (history (cells ∷ past)) (heldIn s (4 * getD list i 0))
-  pub left : (g : ℕ) → ((i : ℕ) → i < j → getD list i 0 ≡ g → ⊥) → heldIn s (4 * g) ≡ heldIn s₀ (4 * g)
+  pub done : (i : ℕ) → i < j → Carries rows (getD list i 0) (rowAt rows (getD list i 0)) (suc t) (history (cells ∷ past)) (heldIn s (heldSize * getD list i 0))
+  pub left : (g : ℕ) → ((i : ℕ) → i < j → getD list i 0 ≡ g → ⊥) → heldIn s (heldSize * g) ≡ heldIn s₀ (heldSize * g)
 
 module _ (n count : ℕ) (words list : List ℕ) (rows : List Row) (T : Table n words rows) (I : Listed 7 n words list count) where
   -- a row of another kind is no register
-  other-row : (test : ℕ → ℕ → Bool) (g : ℕ) → g < n → (getD words (4 * g) 0 ≡ 7 → ⊥) → onRegister test (rowAt rows g) ≡ true
+  other-row : (test : ℕ → ℕ → Bool) (g : ℕ) → g < n → (getD words (rowSize * g) 0 ≡ 7 → ⊥) → onRegister test (rowAt rows g) ≡ true
   other-row test g l k = row-of n words rows T g l .no-register k test
 
-  register-at : (j : ℕ) → j < count → rowAt rows (getD list j 0) ≡ register (getD words (4 * getD list j 0 + 1) 0) (getD words (4 * getD list j 0 + 2) 0) (getD words (4 * getD list j 0 + 3) 0)
+  register-at : (j : ℕ) → j < count → rowAt rows (getD list j 0) ≡ register (getD words (rowSize * getD list j 0 + 1) 0) (getD words (rowSize * getD list j 0 + 2) 0) (getD words (rowSize * getD list j 0 + 3) 0)
   unfolding kinds
   register-at j h =
       sym (row-of n words rows T (getD list j 0) (I .within j h) .made)
-      ∙ ap (λ (k : ℕ). decode k (getD words (4 * getD list j 0 + 1) 0) (getD words (4 * getD list j 0 + 2) 0) (getD words (4 * getD list j 0 + 3) 0)) (I .kind j h)
+      ∙ ap (λ (k : ℕ). decode k (getD words (rowSize * getD list j 0 + 1) 0) (getD words (rowSize * getD list j 0 + 2) 0) (getD words (rowSize * getD list j 0 + 3) 0)) (I .kind j h)
 
   -- its beat is below it, its source in the table
-  pub operands-low : (j : ℕ) → j < count → (getD words (4 * getD list j 0 + 2) 0 < getD list j 0) × (getD words (4 * getD list j 0 + 3) 0 < n)
+  pub operands-low : (j : ℕ) → j < count → (getD words (rowSize * getD list j 0 + 2) 0 < getD list j 0) × (getD words (rowSize * getD list j 0 + 3) 0 < n)
   operands-low j h = subst (Fits n (getD list j 0)) (register-at j h) (row-of n words rows T (getD list j 0) (I .within j h) .fits)
 
   module _ (past : Ticks) (cells : Tick) (ms₀ vs₀ ms vs s₀ : List ℕ) (t : ℕ) (z : length cells ≡ n) (W : Wrote cells ms₀ vs₀ ms vs) (F : AllFollow rows t cells past s₀) where
@@ -82,10 +82,10 @@ module _ (n count : ℕ) (words list : List ℕ) (rows : List Row) (T : Table n 
     starts = record { met = λ i l. absurd (omega arith); done = λ i l. absurd (omega arith); left = λ g e. refl }
 
     -- a row is a register, in the list before j or not
-    in-list : (g j : ℕ) → g < n → j ≤ count → ((i : ℕ) → j ≤ i → i < count → getD list i 0 ≡ g → ⊥) → Tried (eqb (getD words (4 * g) 0) 7)
-        → ((i : ℕ) × (i < j) × (getD list i 0 ≡ g)) ⊎ (getD words (4 * g) 0 ≡ 7 → ⊥)
-    in-list g j l k out (failed e) = inr (eqb-false (getD words (4 * g) 0) 7 e)
-    in-list g j l k out (passed e) = inl (here (I .all g l (eqb-true (getD words (4 * g) 0) 7 e)))
+    in-list : (g j : ℕ) → g < n → j ≤ count → ((i : ℕ) → j ≤ i → i < count → getD list i 0 ≡ g → ⊥) → Tried (eqb (getD words (rowSize * g) 0) 7)
+        → ((i : ℕ) × (i < j) × (getD list i 0 ≡ g)) ⊎ (getD words (rowSize * g) 0 ≡ 7 → ⊥)
+    in-list g j l k out (failed e) = inr (eqb-false (getD words (rowSize * g) 0) 7 e)
+    in-list g j l k out (passed e) = inl (here (I .all g l (eqb-true (getD words (rowSize * g) 0) 7 e)))
       where
         here : (i : ℕ) × (i < count) × (getD list i 0 ≡ g) → (i : ℕ) × (i < j) × (getD list i 0 ≡ g)
         here p = go (try (ltb (p .0) j))
@@ -101,22 +101,22 @@ module _ (n count : ℕ) (words list : List ℕ) (rows : List Row) (T : Table n 
           subst (λ (o : Option ℕ). LatchEnd rows t past cells o s ticked.Full) (sym (none-bad (sourceMeets cells) rows met))
           (refl, carry)
         where
-          split : (g : ℕ) → g < n → ((i : ℕ) × (i < j) × (getD list i 0 ≡ g)) ⊎ (getD words (4 * g) 0 ≡ 7 → ⊥)
-          split g b = in-list g j b k (λ i p q e. omega arith) (try (eqb (getD words (4 * g) 0) 7))
+          split : (g : ℕ) → g < n → ((i : ℕ) × (i < j) × (getD list i 0 ≡ g)) ⊎ (getD words (rowSize * g) 0 ≡ 7 → ⊥)
+          split g b = in-list g j b k (λ i p q e. omega arith) (try (eqb (getD words (rowSize * g) 0) 7))
 
           met : (g : ℕ) → g < length rows → onRegister (sourceMeets cells) (rowAt rows g) ≡ true
           met g b =
               ⊎-elim (λ (p : (i : ℕ) × (i < j) × (getD list i 0 ≡ g)). subst (λ (m : ℕ). onRegister (sourceMeets cells) (rowAt rows m) ≡ true) (p .2) (L .met (p .0) (p .1)))
-              (λ (e : getD words (4 * g) 0 ≡ 7 → ⊥). other-row (sourceMeets cells) g (omega (arith, T .size)) e) (split g (omega (arith, T .size)))
+              (λ (e : getD words (rowSize * g) 0 ≡ 7 → ⊥). other-row (sourceMeets cells) g (omega (arith, T .size)) e) (split g (omega (arith, T .size)))
 
-          apart : (g : ℕ) → (getD words (4 * g) 0 ≡ 7 → ⊥) → (i : ℕ) → i < j → getD list i 0 ≡ g → ⊥
-          apart g e i b q = e (ap (λ (m : ℕ). getD words (4 * m) 0) (sym q) ∙ I .kind i (omega arith))
+          apart : (g : ℕ) → (getD words (rowSize * g) 0 ≡ 7 → ⊥) → (i : ℕ) → i < j → getD list i 0 ≡ g → ⊥
+          apart g e i b q = e (ap (λ (m : ℕ). getD words (rowSize * m) 0) (sym q) ∙ I .kind i (omega arith))
 
-          carry : (g : ℕ) → g < length rows → Carries rows g (rowAt rows g) (suc t) (history (cells ∷ past)) (heldIn s (4 * g))
+          carry : (g : ℕ) → g < length rows → Carries rows g (rowAt rows g) (suc t) (history (cells ∷ past)) (heldIn s (heldSize * g))
           carry g b =
               ⊎-elim
-              (λ (p : (i : ℕ) × (i < j) × (getD list i 0 ≡ g)). subst (λ (m : ℕ). Carries rows m (rowAt rows m) (suc t) (history (cells ∷ past)) (heldIn s (4 * m))) (p .2) (L .done (p .0) (p .1)))
-              (λ (e : getD words (4 * g) 0 ≡ 7 → ⊥).
+              (λ (p : (i : ℕ) × (i < j) × (getD list i 0 ≡ g)). subst (λ (m : ℕ). Carries rows m (rowAt rows m) (suc t) (history (cells ∷ past)) (heldIn s (heldSize * m))) (p .2) (L .done (p .0) (p .1)))
+              (λ (e : getD words (rowSize * g) 0 ≡ 7 → ⊥).
               subst (λ (w : Held). Carries rows g (rowAt rows g) (suc t) (history (cells ∷ past)) w) (sym (L .left g (apart g e)))
               (rw (other-row (λ b a. false) g (omega (arith, T .size)) e) at (F g b)))
               (split g (omega (arith, T .size)))
@@ -129,22 +129,22 @@ module _ (n count : ℕ) (words list : List ℕ) (rows : List Row) (T : Table n 
         unfolding f
         below = I .within j h
 
-        is-register : rowAt rows f ≡ register (getD words (4 * f + 1) 0) (getD words (4 * f + 2) 0) (getD words (4 * f + 3) 0)
+        is-register : rowAt rows f ≡ register (getD words (rowSize * f + 1) 0) (getD words (rowSize * f + 2) 0) (getD words (rowSize * f + 3) 0)
         unfolding f
         is-register = register-at j h
 
-        fits : (getD words (4 * f + 2) 0 < f) × (getD words (4 * f + 3) 0 < n)
+        fits : (getD words (rowSize * f + 2) 0 < f) × (getD words (rowSize * f + 3) 0 < n)
         unfolding f
         fits = operands-low j h
 
-        meets : onRegister (sourceMeets cells) (rowAt rows f) ≡ eqb (getD ms (getD words (4 * f + 3) 0) 0) (getD ms (getD words (4 * f + 2) 0) 0)
+        meets : onRegister (sourceMeets cells) (rowAt rows f) ≡ eqb (getD ms (getD words (rowSize * f + 3) 0) 0) (getD ms (getD words (rowSize * f + 2) 0) 0)
         meets =
             ap (onRegister (sourceMeets cells)) is-register
-            ∙ marks-meet (cellIn cells (getD words (4 * f + 3) 0)) (cellIn cells (getD words (4 * f + 2) 0))
-            ∙ ap (λ (m : ℕ). eqb m (markByte (cellIn cells (getD words (4 * f + 2) 0)))) (sym (mark-at cells ms₀ vs₀ ms vs W (getD words (4 * f + 3) 0) (omega (arith, fits .1))))
-            ∙ ap (λ (m : ℕ). eqb (getD ms (getD words (4 * f + 3) 0) 0) m) (sym (mark-at cells ms₀ vs₀ ms vs W (getD words (4 * f + 2) 0) (omega (arith, fits .0, below))))
+            ∙ marks-meet (cellIn cells (getD words (rowSize * f + 3) 0)) (cellIn cells (getD words (rowSize * f + 2) 0))
+            ∙ ap (λ (m : ℕ). eqb m (markByte (cellIn cells (getD words (rowSize * f + 2) 0)))) (sym (mark-at cells ms₀ vs₀ ms vs W (getD words (rowSize * f + 3) 0) (omega (arith, fits .1))))
+            ∙ ap (λ (m : ℕ). eqb (getD ms (getD words (rowSize * f + 3) 0) 0) m) (sym (mark-at cells ms₀ vs₀ ms vs W (getD words (rowSize * f + 2) 0) (omega (arith, fits .0, below))))
 
-        pub stops : (getD ms (getD words (4 * getD list j 0 + 3) 0) 0 ≡ getD ms (getD words (4 * getD list j 0 + 2) 0) 0 → ⊥)
+        pub stops : (getD ms (getD words (rowSize * getD list j 0 + 3) 0) 0 ≡ getD ms (getD words (rowSize * getD list j 0 + 2) 0) 0 → ⊥)
             → LatchEnd rows t past cells (badRegister (sourceMeets cells) 0 rows) s (ticked.Stopped (getD list j 0))
         unfolding f
         stops e =
@@ -155,8 +155,8 @@ module _ (n count : ℕ) (words list : List ℕ) (rows : List Row) (T : Table n 
             lower : (g : ℕ) → g < f → onRegister (sourceMeets cells) (rowAt rows g) ≡ true
             lower g b =
                 ⊎-elim (λ (p : (i : ℕ) × (i < j) × (getD list i 0 ≡ g)). subst (λ (m : ℕ). onRegister (sourceMeets cells) (rowAt rows m) ≡ true) (p .2) (L .met (p .0) (p .1)))
-                (λ (k : getD words (4 * g) 0 ≡ 7 → ⊥). other-row (sourceMeets cells) g (omega (arith, below)) k)
-                (in-list g j (omega (arith, below)) (omega arith) after (try (eqb (getD words (4 * g) 0) 7)))
+                (λ (k : getD words (rowSize * g) 0 ≡ 7 → ⊥). other-row (sourceMeets cells) g (omega (arith, below)) k)
+                (in-list g j (omega (arith, below)) (omega arith) after (try (eqb (getD words (rowSize * g) 0) 7)))
               where
                 after : (i : ℕ) → j ≤ i → i < count → getD list i 0 ≡ g → ⊥
                 after i p q k = ⊎-elim (λ (u : j ≡ i). let v : getD list j 0 ≡ getD list i 0 = ap (λ (m : ℕ). getD list m 0) u in omega arith) (λ (u : j < i). omega (arith, I .rising j i u q)) (eq-or-lt-of-le p)
@@ -166,44 +166,44 @@ module _ (n count : ℕ) (words list : List ℕ) (rows : List Row) (T : Table n 
         unfolding f
         earlier i b e = omega (arith, I .rising i j b h)
 
-        old : getD s (4 * f) 0 ≡ valueOr (getD words (4 * f + 1) 0) (latest (history past (getD words (4 * f + 3) 0)))
+        old : getD s (heldSize * f) 0 ≡ valueOr (getD words (rowSize * f + 1) 0) (latest (history past (getD words (rowSize * f + 3) 0)))
         unfolding AllFollow Follows Carries
         old =
             ap (λ (w : Held). w .x) (L .left f earlier)
-            ∙ subst (λ (r : Row). Follows rows f r t cells past (heldIn s₀ (4 * f))) is-register (F f (omega (arith, T .size, below)))
+            ∙ subst (λ (r : Row). Follows rows f r t cells past (heldIn s₀ (heldSize * f))) is-register (F f (omega (arith, T .size, below)))
 
         -- the register's word after the tick
-        latched : (s′ : List ℕ) → length s ≡ stateSize → s′ ≡ set s (4 * f) (cond (eqb (getD ms (getD words (4 * f + 3) 0) 0) 0) (getD s (4 * f) 0) (getD vs (getD words (4 * f + 3) 0) 0))
-            → Carries rows f (rowAt rows f) (suc t) (history (cells ∷ past)) (heldIn s′ (4 * f))
+        latched : (s′ : List ℕ) → length s ≡ stateSize → s′ ≡ set s (heldSize * f) (cond (eqb (getD ms (getD words (rowSize * f + 3) 0) 0) 0) (getD s (heldSize * f) 0) (getD vs (getD words (rowSize * f + 3) 0) 0))
+            → Carries rows f (rowAt rows f) (suc t) (history (cells ∷ past)) (heldIn s′ (heldSize * f))
         unfolding Carries history
         latched s′ l q =
-            let a : ℕ = getD words (4 * f + 3) 0 in
+            let a : ℕ = getD words (rowSize * f + 3) 0 in
             let m : getD ms a 0 ≡ markByte (cellIn cells a) = mark-at cells ms₀ vs₀ ms vs W a (omega (arith, fits .1)) in
             let v : getD vs a 0 ≡ value (cellIn cells a) = value-at cells ms₀ vs₀ ms vs W a (omega (arith, fits .1)) in
-            subst (λ (r : Row). Carries rows f r (suc t) (history (cells ∷ past)) (heldIn s′ (4 * f))) (sym is-register)
-            (ap (λ (u : List ℕ). getD u (4 * f) 0) q
-            ∙ ap (λ (w : Held). w .x) (stored s (4 * f) _ (omega (arith, below, T .few)))
-            ∙ ap (λ (i : ℕ). cond (eqb i 0) (getD s (4 * f) 0) (getD vs a 0)) m
-            ∙ ap (λ (i : ℕ). cond (eqb (markByte (cellIn cells a)) 0) (getD s (4 * f) 0) i) v
-            ∙ latest-is (getD words (4 * f + 1) 0) (getD s (4 * f) 0) (cellIn cells a) (history past a) old)
+            subst (λ (r : Row). Carries rows f r (suc t) (history (cells ∷ past)) (heldIn s′ (heldSize * f))) (sym is-register)
+            (ap (λ (u : List ℕ). getD u (heldSize * f) 0) q
+            ∙ ap (λ (w : Held). w .x) (stored s (heldSize * f) _ (omega (arith, below, T .few)))
+            ∙ ap (λ (i : ℕ). cond (eqb i 0) (getD s (heldSize * f) 0) (getD vs a 0)) m
+            ∙ ap (λ (i : ℕ). cond (eqb (markByte (cellIn cells a)) 0) (getD s (heldSize * f) 0) i) v
+            ∙ latest-is (getD words (rowSize * f + 1) 0) (getD s (heldSize * f) 0) (cellIn cells a) (history past a) old)
 
-        pub goes-on : (s′ : List ℕ) → length s ≡ stateSize → getD ms (getD words (4 * getD list j 0 + 3) 0) 0 ≡ getD ms (getD words (4 * getD list j 0 + 2) 0) 0
-            → s′ ≡ set s (4 * getD list j 0) (cond (eqb (getD ms (getD words (4 * getD list j 0 + 3) 0) 0) 0) (getD s (4 * getD list j 0) 0) (getD vs (getD words (4 * getD list j 0 + 3) 0) 0))
+        pub goes-on : (s′ : List ℕ) → length s ≡ stateSize → getD ms (getD words (rowSize * getD list j 0 + 3) 0) 0 ≡ getD ms (getD words (rowSize * getD list j 0 + 2) 0) 0
+            → s′ ≡ set s (heldSize * getD list j 0) (cond (eqb (getD ms (getD words (rowSize * getD list j 0 + 3) 0) 0) 0) (getD s (heldSize * getD list j 0) 0) (getD vs (getD words (rowSize * getD list j 0 + 3) 0) 0))
             → Latching n t words list rows cells past s₀ s′ (j + 1)
         unfolding f
         goes-on s′ l e q =
             record {
               met = λ i b. ⊎-elim (λ (u : i ≡ j). subst (λ (m : ℕ). onRegister (sourceMeets cells) (rowAt rows (getD list m 0)) ≡ true) (sym u) (meets ∙ eq-eqb _ _ e)) (L .met i) (eq-or-lt-of-le {n = i} {m = j} (omega arith));
               done = λ i b. ⊎-elim (here i) (there i) (eq-or-lt-of-le {n = i} {m = j} (omega arith));
-              left = λ g b. ap (λ (u : List ℕ). heldIn u (4 * g)) q ∙ stored-other s f g _ (λ u. b j (omega arith) (sym u)) ∙ L .left g (λ i k. b i (omega arith));
+              left = λ g b. ap (λ (u : List ℕ). heldIn u (heldSize * g)) q ∙ stored-other s f g _ (λ u. b j (omega arith) (sym u)) ∙ L .left g (λ i k. b i (omega arith));
             }
           where
-            there : (i : ℕ) → i < j → Carries rows (getD list i 0) (rowAt rows (getD list i 0)) (suc t) (history (cells ∷ past)) (heldIn s′ (4 * getD list i 0))
+            there : (i : ℕ) → i < j → Carries rows (getD list i 0) (rowAt rows (getD list i 0)) (suc t) (history (cells ∷ past)) (heldIn s′ (heldSize * getD list i 0))
             there i b =
                 subst (λ (w : Held). Carries rows (getD list i 0) (rowAt rows (getD list i 0)) (suc t) (history (cells ∷ past)) w)
-                (sym (ap (λ (u : List ℕ). heldIn u (4 * getD list i 0)) q ∙ stored-other s f (getD list i 0) _ (earlier i b))) (L .done i b)
+                (sym (ap (λ (u : List ℕ). heldIn u (heldSize * getD list i 0)) q ∙ stored-other s f (getD list i 0) _ (earlier i b))) (L .done i b)
 
-            here : (i : ℕ) → i ≡ j → Carries rows (getD list i 0) (rowAt rows (getD list i 0)) (suc t) (history (cells ∷ past)) (heldIn s′ (4 * getD list i 0))
+            here : (i : ℕ) → i ≡ j → Carries rows (getD list i 0) (rowAt rows (getD list i 0)) (suc t) (history (cells ∷ past)) (heldIn s′ (heldSize * getD list i 0))
             here i u =
-                subst (λ (m : ℕ). Carries rows (getD list m 0) (rowAt rows (getD list m 0)) (suc t) (history (cells ∷ past)) (heldIn s′ (4 * getD list m 0))) (sym u)
+                subst (λ (m : ℕ). Carries rows (getD list m 0) (rowAt rows (getD list m 0)) (suc t) (history (cells ∷ past)) (heldIn s′ (heldSize * getD list m 0))) (sym u)
                 (latched s′ l q)

@@ -12,6 +12,7 @@ use lib.Dec.{eqb}
 use borrow.Author.Tests.{eqb-true, eqb-false}
 use Rattle.table.proofs.Tests.{Tried, passed, failed, try}
 use Rattle.runner.specs.Private.Ready.{Listed}
+use Rattle.table.specs.Rows.{rowSize}
 
 pub no-rows : (k : ℕ) (words list : List ℕ) → Listed k 0 words list 0
 no-rows k words list =
@@ -24,22 +25,22 @@ no-rows k words list =
     }
 
 module _ (k f : ℕ) (words list : List ℕ) (c : ℕ) (L : Listed k f words list c) where
-  skips : (getD words (4 * f) 0 ≡ k → ⊥) → Listed k (f + 1) words list c
+  skips : (getD words (rowSize * f) 0 ≡ k → ⊥) → Listed k (f + 1) words list c
   skips n =
       record {
         room = L .room;
         within = λ j l. omega (arith, L .within j l);
         kind = L .kind;
         rising = L .rising;
-        all = λ g l e. ⊎-elim (λ (u : g ≡ f). absurd (n (ap (λ (i : ℕ). getD words (4 * i) 0) (sym u) ∙ e))) (λ (u : g < f). L .all g u e) (eq-or-lt-of-le {n = g} {m = f} (omega arith));
+        all = λ g l e. ⊎-elim (λ (u : g ≡ f). absurd (n (ap (λ (i : ℕ). getD words (rowSize * i) 0) (sym u) ∙ e))) (λ (u : g < f). L .all g u e) (eq-or-lt-of-le {n = g} {m = f} (omega arith));
       }
 
-  takes : c < length list → getD words (4 * f) 0 ≡ k → Listed k (f + 1) words (set list c f) (c + 1)
+  takes : c < length list → getD words (rowSize * f) 0 ≡ k → Listed k (f + 1) words (set list c f) (c + 1)
   takes r e =
       record {
         room = omega (arith, length-set list c f);
         within = λ j l. by j (λ i. i < f + 1) (omega arith) (λ u. omega (arith, L .within j u)) l;
-        kind = λ j l. by j (λ i. getD words (4 * i) 0 ≡ k) e (λ u. L .kind j u) l;
+        kind = λ j l. by j (λ i. getD words (rowSize * i) 0 ≡ k) e (λ u. L .kind j u) l;
         rising = λ i j l m. up i j l (eq-or-lt-of-le {n = j} {m = c} (omega arith));
         all = λ g l q. ⊎-elim (λ (u : g ≡ f). (c, omega arith, here ∙ sym u)) (λ (u : g < f). old g (L .all g u q)) (eq-or-lt-of-le {n = g} {m = f} (omega arith));
       }
@@ -65,15 +66,15 @@ module _ (k f : ℕ) (words list : List ℕ) (c : ℕ) (L : Listed k f words lis
       old g p = (p .0, omega (arith, p .1), there (p .0) (p .1) ∙ p .2)
 
   -- one row more
-  pub listed-more : (list′ : List ℕ) (c′ : ℕ) → c < length list → list′ ≡ cond (eqb (getD words (4 * f) 0) k) (set list c f) list → c′ ≡ cond (eqb (getD words (4 * f) 0) k) (c + 1) c → Listed k (f + 1) words list′ c′ × (c′ ≤ c + 1)
-  listed-more list′ c′ r p q = go (try (eqb (getD words (4 * f) 0) k)) p q
+  pub listed-more : (list′ : List ℕ) (c′ : ℕ) → c < length list → list′ ≡ cond (eqb (getD words (rowSize * f) 0) k) (set list c f) list → c′ ≡ cond (eqb (getD words (rowSize * f) 0) k) (c + 1) c → Listed k (f + 1) words list′ c′ × (c′ ≤ c + 1)
+  listed-more list′ c′ r p q = go (try (eqb (getD words (rowSize * f) 0) k)) p q
     where
-      go : Tried (eqb (getD words (4 * f) 0) k) → list′ ≡ cond (eqb (getD words (4 * f) 0) k) (set list c f) list → c′ ≡ cond (eqb (getD words (4 * f) 0) k) (c + 1) c → Listed k (f + 1) words list′ c′ × (c′ ≤ c + 1)
+      go : Tried (eqb (getD words (rowSize * f) 0) k) → list′ ≡ cond (eqb (getD words (rowSize * f) 0) k) (set list c f) list → c′ ≡ cond (eqb (getD words (rowSize * f) 0) k) (c + 1) c → Listed k (f + 1) words list′ c′ × (c′ ≤ c + 1)
       go (passed e) p q =
           let p′ : list′ ≡ set list c f = rw (e) at p in
           let q′ : c′ ≡ c + 1 = rw (e) at q in
-          (subst (λ (l : List ℕ). Listed k (f + 1) words l c′) (sym p′) (subst (Listed k (f + 1) words (set list c f)) (sym q′) (takes r (eqb-true (getD words (4 * f) 0) k e))), omega arith)
+          (subst (λ (l : List ℕ). Listed k (f + 1) words l c′) (sym p′) (subst (Listed k (f + 1) words (set list c f)) (sym q′) (takes r (eqb-true (getD words (rowSize * f) 0) k e))), omega arith)
       go (failed e) p q =
           let p′ : list′ ≡ list = rw (e) at p in
           let q′ : c′ ≡ c = rw (e) at q in
-          (subst (λ (l : List ℕ). Listed k (f + 1) words l c′) (sym p′) (subst (Listed k (f + 1) words list) (sym q′) (skips (eqb-false (getD words (4 * f) 0) k e))), omega arith)
+          (subst (λ (l : List ℕ). Listed k (f + 1) words l c′) (sym p′) (subst (Listed k (f + 1) words list) (sym q′) (skips (eqb-false (getD words (rowSize * f) 0) k e))), omega arith)

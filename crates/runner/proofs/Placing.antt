@@ -1,7 +1,7 @@
 -- Marks and values that take each tick's cells at its own place: what each place then holds. Assumes nothing.
 use mathlib.Core.Path.{_≡_, refl, sym, _∙_, ap, subst}
 use Prim.Native.Nat.{ℕ, zero, suc, _+_, _*_, _-_, _%_, _^_, _≤_, _<_}
-use native.Mathlib.Nat.{mod-lt, mod-le, mod-eq-of-lt, mod-eq-sub-mod, mod-add-mod, mul-le-mul, mul-le-mul-right, suc-mul}
+use native.Mathlib.Nat.{mod-lt, mod-le, mod-eq-of-lt, mod-eq-sub-mod, mod-add-mod, mul-le-mul-right, suc-mul}
 use native.Mathlib.Omega.{arith}
 use mathlib.Core.Bool.{cond, _&&_}
 use mathlib.Core.Logic.{_⊎_, inl, inr}
@@ -20,6 +20,7 @@ use Rattle.semantics.specs.Runs.{Tick, Ticks, cellIn, history, cells, Ran, done
 use Rattle.semantics.specs.Windows.{workedOut, lastAt, shown, Windowed}
 use Rattle.semantics.proofs.Traces.{cells-length}
 use Rattle.runner.specs.Private.Placed.{Mask, firstCell, Fitting, splice, placed, filledTicks}
+use Rattle.runner.proofs.Words.{place-small}
 
 -- a mask leaves the remainder
 pub masked : (t mask : ℕ) → Mask mask → bitAnd t mask ≡ t % (mask + 1)
@@ -27,12 +28,9 @@ masked t mask M =
     let e : mask ≡ 2 ^ M .width - 1 = omega (arith, M .is) in
     ap (bitAnd t) e ∙ and-mask t (M .width) ∙ ap (λ (m : ℕ). t % m) (sym (M .is))
 
--- places are low
-pub cells-low : (t n : ℕ) → t < 2 ^ 32 → n ≤ maxFlows → t * n ≤ 2 ^ 38
-cells-low t n l k = let m : t * n ≤ 2 ^ 32 * 64 = mul-le-mul {n₂ = 2 ^ 32} {m₂ = 64} (omega arith) k in omega arith
-
-pub first-low : (t mask n : ℕ) → Mask mask → t < 2 ^ 32 → n ≤ maxFlows → bitAnd t mask * n ≤ 2 ^ 38
-first-low t mask n M l k = cells-low (bitAnd t mask) n (omega (arith, masked t mask M, mod-le t (mask + 1))) k
+-- a tick's first cell has a low place
+pub first-low : (t mask n : ℕ) → Mask mask → t < 2 ^ 32 → n ≤ maxFlows → bitAnd t mask * n ≤ 2 ^ 32 * maxFlows
+first-low t mask n M l k = place-small (bitAnd t mask) n (2 ^ 32) (omega (arith, masked t mask M, mod-le t (mask + 1))) k
 
 module _ (i : ℕ) (xs l : List ℕ) (h : i + length xs ≤ length l) where
   front : length (take i l) ≡ i

@@ -10,13 +10,13 @@ use mathlib.Core.List.{List, [], _∷_}
 use lib.ListN.{length, getD, take, replicate}
 use lib.Seq.{take-all, take-length}
 use lib.Dec.{eqb}
-use Rattle.table.specs.Rows.{Row, input, constant, combine, register, faster, slower, later, head, tail, sample, merge}
+use Rattle.table.specs.Rows.{Row, input, constant, combine, register, faster, slower, later, head, tail, sample, merge, rowSize, maxFlows}
 use Rattle.table.specs.Bits.{bit}
 use Rattle.table.specs.Tables.{Fits, rowAt}
 use Rattle.table.proofs.Tables.{Table}
 use Rattle.semantics.specs.Cells.{count, latest}
 use Rattle.semantics.specs.Runs.{history, inputs, isInput}
-use Rattle.runner.specs.Private.Carried.{Held, held, heldIn, stateSize, startWord, startOf, Started}
+use Rattle.runner.specs.Private.Carried.{Held, held, heldIn, stateSize, startWord, startOf, Started, heldSize}
 use Rattle.runner.specs.Private.Ready.{unseen, never, Carries, AllCarry}
 use Rattle.runner.proofs.Tabled.{wordsAt, madeOf, Row-at, row-of}
 use Rattle.runner.proofs.Histories.{timed-starts}
@@ -57,8 +57,8 @@ inputs-all rows = subst (λ (l : List Row). inputs l ≤ length rows) (take-leng
 
 pub record Starting (rows : List Row) (s : List ℕ) (f j : ℕ) : Type 0 where
   pub before : j ≡ inputs (take f rows)
-  pub set : (g : ℕ) → g < f → Carries rows g (rowAt rows g) 0 (history []) (heldIn s (4 * g))
-  pub clear : (g : ℕ) → f ≤ g → g < 64 → heldIn s (4 * g) ≡ held 0 0 0
+  pub set : (g : ℕ) → g < f → Carries rows g (rowAt rows g) 0 (history []) (heldIn s (heldSize * g))
+  pub clear : (g : ℕ) → f ≤ g → g < maxFlows → heldIn s (heldSize * g) ≡ held 0 0 0
 
 module _ (n : ℕ) (words : List ℕ) (rows : List Row) (T : Table n words rows) where
   zeros : (k i : ℕ) → _≡_ {A = ℕ} (getD (replicate k 0) i 0) 0
@@ -72,10 +72,10 @@ module _ (n : ℕ) (words : List ℕ) (rows : List Row) (T : Table n words rows)
       record {
         before = refl;
         set = λ g l. absurd (omega arith);
-        clear = λ g l m. ap (λ (u : List ℕ). heldIn u (4 * g)) e ∙ simp zeros;
+        clear = λ g l m. ap (λ (u : List ℕ). heldIn u (heldSize * g)) e ∙ simp zeros;
       }
 
-  pub goes-on : (s s′ : List ℕ) (f j j′ : ℕ) → f < n → Starting rows s f j → Started (startOf (madeOf (wordsAt words f)) j (heldIn s (4 * f))) f s s′ → j′ ≡ j + bit (eqb (getD words (4 * f) 0) 0) → Starting rows s′ (f + 1) j′
+  pub goes-on : (s s′ : List ℕ) (f j j′ : ℕ) → f < n → Starting rows s f j → Started (startOf (madeOf (wordsAt words f)) j (heldIn s (heldSize * f))) f s s′ → j′ ≡ j + bit (eqb (getD words (rowSize * f) 0) 0) → Starting rows s′ (f + 1) j′
   goes-on s s′ f j j′ l S D e =
       let r : Row-at n words (rowAt rows f) f = row-of n words rows T f l in
       record {
@@ -84,17 +84,17 @@ module _ (n : ℕ) (words : List ℕ) (rows : List Row) (T : Table n words rows)
         clear = λ g b m. D .others g (λ u. omega arith) ∙ S .clear g (omega arith) m;
       }
     where
-      below : (g : ℕ) → g < f → Carries rows g (rowAt rows g) 0 (history []) (heldIn s′ (4 * g))
+      below : (g : ℕ) → g < f → Carries rows g (rowAt rows g) 0 (history []) (heldIn s′ (heldSize * g))
       below g b = subst (λ (w : Held). Carries rows g (rowAt rows g) 0 (history []) w) (sym (D .others g (λ u. omega arith))) (S .set g b)
 
-      same : Row-at n words (rowAt rows f) f → (g : ℕ) → g ≡ f → Carries rows g (rowAt rows g) 0 (history []) (heldIn s′ (4 * g))
+      same : Row-at n words (rowAt rows f) f → (g : ℕ) → g ≡ f → Carries rows g (rowAt rows g) 0 (history []) (heldIn s′ (heldSize * g))
       same r g u =
-          subst (λ (i : ℕ). Carries rows i (rowAt rows i) 0 (history []) (heldIn s′ (4 * i))) (sym u)
+          subst (λ (i : ℕ). Carries rows i (rowAt rows i) 0 (history []) (heldIn s′ (heldSize * i))) (sym u)
           (subst (λ (w : Held). Carries rows f (rowAt rows f) 0 (history []) w)
           (sym
           (D .carried
-          ∙ ap (λ (i : Row). startOf i j (heldIn s (4 * f))) (r .made)
-          ∙ ap (λ (i : ℕ). startOf (rowAt rows f) i (heldIn s (4 * f))) (S .before)
+          ∙ ap (λ (i : Row). startOf i j (heldIn s (heldSize * f))) (r .made)
+          ∙ ap (λ (i : ℕ). startOf (rowAt rows f) i (heldIn s (heldSize * f))) (S .before)
           ∙ ap (startOf (rowAt rows f) (inputs (take f rows))) (S .clear f (omega arith) (omega (arith, T .few)))))
           (row-starts n f rows (rowAt rows f) (r .fits)))
 

@@ -1,14 +1,15 @@
 -- What a store leaves of the words that the rows carry. Assumes nothing.
 use mathlib.Core.Path.{_≡_, refl, _∙_}
 use Prim.Native.Nat.{ℕ, _+_, _*_, _≤_, _<_, _^_}
-use native.Mathlib.Nat.{mul-le-mul, mul-le-mul-right}
+use native.Mathlib.Nat.{mul-le-mul}
 use native.Mathlib.Omega.{arith}
 use mathlib.Core.List.{List}
 use lib.ListN.{length, getD, set, length-set}
 use lib.Seq.{getD-set-same, getD-set-other}
 use Rattle.runner.specs.declared.operators.Outcome.{Outcome}
 use Rattle.semantics.specs.Operators.{Step}
-use Rattle.runner.specs.Private.Carried.{outcomeOf, Held, held, heldIn, Did}
+use Rattle.runner.specs.Private.Carried.{outcomeOf, Held, held, heldIn, Did, heldSize}
+use Rattle.table.specs.Rows.{maxFlows}
 
 module _ {step : Step} {next : Held} {i : ℕ} {s : List ℕ} {r : Outcome} where
   -- nothing is stored
@@ -68,9 +69,9 @@ small k g p q = omega (arith, copies-low k g p q)
 pub stored : (s : List ℕ) (i v : ℕ) → i + 4 ≤ length s → heldIn (set s i v) i ≡ held v (getD s (i + 1) 0) (getD s (i + 2) 0)
 stored s i v l = rw (getD-set-same s i v 0 (omega arith), getD-set-other s i (i + 1) v 0 (λ e. omega arith), getD-set-other s i (i + 2) v 0 (λ e. omega arith))
 
-pub stored-other : (s : List ℕ) (f g v : ℕ) → (g ≡ f → ⊥) → heldIn (set s (4 * f) v) (4 * g) ≡ heldIn s (4 * g)
+pub stored-other : (s : List ℕ) (f g v : ℕ) → (g ≡ f → ⊥) → heldIn (set s (heldSize * f) v) (heldSize * g) ≡ heldIn s (heldSize * g)
 stored-other s f g v n =
-    rw (getD-set-other s (4 * f) (4 * g) v 0 (λ e. n (omega arith)), getD-set-other s (4 * f) (4 * g + 1) v 0 (λ e. omega arith), getD-set-other s (4 * f) (4 * g + 2) v 0 (λ e. omega arith))
+    rw (getD-set-other s (heldSize * f) (heldSize * g) v 0 (λ e. n (omega arith)), getD-set-other s (heldSize * f) (heldSize * g + 1) v 0 (λ e. omega arith), getD-set-other s (heldSize * f) (heldSize * g + 2) v 0 (λ e. omega arith))
 
 -- a row's first two words are stored
 pub stored-two : (s : List ℕ) (i u v : ℕ) → i + 4 ≤ length s → heldIn (set (set s i u) (i + 1) v) i ≡ held u v (getD s (i + 2) 0)
@@ -83,18 +84,15 @@ stored-two s i u v l =
       getD-set-other s i (i + 2) u 0 (λ e. omega arith),
     )
 
-pub stored-two-other : (s : List ℕ) (f g u v : ℕ) → (g ≡ f → ⊥) → heldIn (set (set s (4 * f) u) (4 * f + 1) v) (4 * g) ≡ heldIn s (4 * g)
+pub stored-two-other : (s : List ℕ) (f g u v : ℕ) → (g ≡ f → ⊥) → heldIn (set (set s (heldSize * f) u) (heldSize * f + 1) v) (heldSize * g) ≡ heldIn s (heldSize * g)
 stored-two-other s f g u v n =
     rw (
-      getD-set-other (set s (4 * f) u) (4 * f + 1) (4 * g) v 0 (λ e. omega arith),
-      getD-set-other (set s (4 * f) u) (4 * f + 1) (4 * g + 1) v 0 (λ e. n (omega arith)),
-      getD-set-other (set s (4 * f) u) (4 * f + 1) (4 * g + 2) v 0 (λ e. omega arith),
+      getD-set-other (set s (heldSize * f) u) (heldSize * f + 1) (heldSize * g) v 0 (λ e. omega arith),
+      getD-set-other (set s (heldSize * f) u) (heldSize * f + 1) (heldSize * g + 1) v 0 (λ e. n (omega arith)),
+      getD-set-other (set s (heldSize * f) u) (heldSize * f + 1) (heldSize * g + 2) v 0 (λ e. omega arith),
     )
     (stored-other s f g u n)
 
--- places of the trace
-pub place-in : (i t n a : ℕ) → i ≤ t → a < n → i * n + a < t * n + n
-place-in i t n a l k = let m : i * n ≤ t * n = mul-le-mul-right n l in omega arith
-
-pub place-small : (t n : ℕ) → t < 2 ^ 24 → n ≤ 64 → t * n ≤ 2 ^ 30
-place-small t n l k = let m : t * n ≤ 2 ^ 24 * 64 = mul-le-mul {n₂ = 2 ^ 24} {m₂ = 64} (omega arith) k in omega arith
+-- a product with a count of flows is low
+pub place-small : (t n w : ℕ) → t ≤ w → n ≤ maxFlows → t * n ≤ w * maxFlows
+place-small t n w l k = mul-le-mul {n₁ = t} {m₁ = n} {n₂ = w} {m₂ = maxFlows} l k

@@ -6,7 +6,7 @@ use Rattle.runner.proofs.Words.{place-small}
 use Rattle.runner.proofs.Tabled.{plain-table}
 use Rattle.runner.specs.Private.Ready.{rowsIn}
 use lib.ListN.{length}
-use Prim.Native.Nat.{ℕ, _+_, _*_}
+use Prim.Native.Nat.{ℕ, _+_, _*_, _^_}
 use mathlib.Core.Path.{sym, _∙_, ap}
 use native.Mathlib.Omega.{arith}
 use borrow.Author.Needs.{needs}
@@ -39,7 +39,11 @@ mul-if2 c =
     let T = plain-table (a .n) (a .words .now) (s .pre .0) in
     let start = c .before .start in
     let few = c .before .before .before .if1 .left in
-    omega (arith, place-small (a .ticks) (start .result) (omega (arith, few, s .pre .1)) (omega (arith, start .ensures .0, inputs-all (rowsIn (a .n) (a .words .now)), T .size, T .few)))
+    omega (
+      arith,
+      place-small (a .ticks) (start .result) (2 ^ 24) (omega (arith, few, s .pre .1))
+          (omega (arith, start .ensures .0, inputs-all (rowsIn (a .n) (a .words .now)), T .size, T .few)),
+    )
 
 refusal-requires-2 : tie.Need-refusal-requires-2
 refusal-requires-2 c κs = search needs

@@ -1,6 +1,7 @@
 -- `run` meets its contract. Assumes nothing.
 use Rattle.runner.proofs.Called.{ran, accepted, handed-on}
-use Rattle.runner.proofs.Placing.{cells-low, whole-fits}
+use Rattle.runner.proofs.Placing.{whole-fits}
+use Rattle.runner.proofs.Words.{place-small}
 use Rattle.runner.proofs.Tabled.{plain-table}
 use Rattle.runner.specs.Private.Ready.{Plain}
 use Rattle.table.specs.Answers.{shortTrace}
@@ -21,7 +22,7 @@ examine-requires c κs = search needs
 mul-replay : tie.Need-mul-replay
 mul-replay c =
     let a = c .before .before .before .before .before .before .before .args in
-    omega (arith, cells-low (a .ticks) (a .count) (omega arith) (plain-table (a .count) (a .words .now) (plain (c)) .few))
+    omega (arith, place-small (a .ticks) (a .count) (2 ^ 32) (omega arith) (plain-table (a .count) (a .words .now) (plain (c)) .few))
 
 slice-aggregate-replay : tie.Need-slice-aggregate-replay
 slice-aggregate-replay c = search needs

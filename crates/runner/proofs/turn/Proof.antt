@@ -3,6 +3,7 @@ use Rattle.runner.specs.Private.Ready.{rowsIn}
 use Rattle.runner.proofs.Starting.{inputs-all}
 use Rattle.runner.proofs.Words.{place-small}
 use Rattle.runner.proofs.Tabled.{plain-table}
+use Rattle.table.specs.Rows.{maxFlows}
 use Rattle.table.proofs.Tables.{Table}
 use Prim.Native.Nat.{ℕ, _*_, _≤_, _^_}
 use mathlib.Core.Path.{ap}
@@ -15,10 +16,11 @@ table-at : (c : tie.Start) → Table (c .args .n) (c .args .words .now) (rowsIn 
 table-at c = plain-table (c .args .n) (c .args .words .now) (c .pre .0)
 
 -- the place in the log is low
-small : (c : tie.Start) → c .args .t * c .args .inputs ≤ 2 ^ 30
+small : (c : tie.Start) → c .args .t * c .args .inputs ≤ 2 ^ 24 * maxFlows
 small c =
     let T = table-at c in
-    place-small (c .args .t) (c .args .inputs) (c .pre .6) (omega (arith, inputs-all (rowsIn (c .args .n) (c .args .words .now)), c .pre .7, T .size, T .few))
+    place-small (c .args .t) (c .args .inputs) (2 ^ 24) (omega (arith, c .pre .6))
+    (omega (arith, inputs-all (rowsIn (c .args .n) (c .args .words .now)), c .pre .7, T .size, T .few))
 
 collect-requires : tie.Need-collect-requires
 collect-requires c κs = search needs

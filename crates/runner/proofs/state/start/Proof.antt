@@ -9,12 +9,13 @@ use lib.ListN.{length, getD, length-replicate}
 use Prim.Native.Nat.{ℕ, _+_, _*_, _-_, _≤_}
 use mathlib.Core.Path.{_≡_, sym, _∙_, ap}
 use native.Mathlib.Omega.{arith}
+use Rattle.table.specs.Rows.{rowSize, maxFlows}
 use Rattle.runner.proofs.state.start.Statement.{statement}
 use Rattle.runner.proofs.state.start.Tie as tie
 
 abbrev Inv-loop : tie.InvT-loop
 Inv-loop n words state₀ f₀ j₀ state f j =
-    (f ≤ n) × (n ≤ 64) × (length words ≡ 4 * n) × (length state ≡ 256) × (j ≤ f) × Starting (rowsIn n words) state f j
+    (f ≤ n) × (n ≤ maxFlows) × (length words ≡ rowSize * n) × (length state ≡ stateSize) × (j ≤ f) × Starting (rowsIn n words) state f j
 
 abbrev μ-loop : tie.MeasureT-loop
 μ-loop n words state₀ f₀ j₀ state f j = n - f
@@ -101,7 +102,7 @@ add-j c =
     let args = start .args in
     let loop = at-loop .loop in
     let loop-test = in-loop .loop-test in
-    omega (arith, c .bit .ensures, bit-low (eqb (getD (args .words .now) (4 * loop .f) 0) 0), loop .inv .4, loop .inv .1, loop-test .taken)
+    omega (arith, c .bit .ensures, bit-low (eqb (getD (args .words .now) (rowSize * loop .f) 0) 0), loop .inv .4, loop .inv .1, loop-test .taken)
 
 add-f : tie.Need-add-f Inv-loop μ-loop
 add-f c = omega arith
@@ -125,7 +126,7 @@ loop-again c =
       loop .inv .1,
       loop .inv .2,
       omega (arith, start-row .kept .1 .1 .1 .1 .1 .1 .0, loop .inv .3),
-      omega (arith, c .bit .ensures, bit-low (eqb (getD (args .words .now) (4 * loop .f) 0) 0), loop .inv .4),
+      omega (arith, c .bit .ensures, bit-low (eqb (getD (args .words .now) (rowSize * loop .f) 0) 0), loop .inv .4),
       goes-on (args .n) (args .words .now) _ (table-at start) (loop .state) _ (loop .f) (loop .j) _ (loop-test .taken) (loop .inv .5) (start-row .ensures)
           (ap (λ (i : ℕ). loop .j + i) (c .bit .ensures)),
     )

@@ -6,6 +6,7 @@ use lib.ListN.{length, getD}
 use Prim.Native.Nat.{ℕ, _+_, _*_, _-_, _≤_, _<_}
 use mathlib.Core.Path.{_≡_, refl, _∙_, ap, subst}
 use native.Mathlib.Omega.{arith}
+use Rattle.table.specs.Rows.{maxFlows}
 use Rattle.runner.proofs.tally.add.Statement.{statement}
 use Rattle.runner.proofs.tally.add.Tie as tie
 
@@ -21,7 +22,7 @@ fit : (c : tie.In-loop Inv-loop μ-loop)
     → (let s = c .before .before .before .before .before in
     let l = c .before .loop in
     (l .f < s .args .k)
-    × (s .args .k ≤ 64)
+    × (s .args .k ≤ maxFlows)
     × (s .args .first + l .f < length (s .args .marks .now))
     × (s .args .first + l .f < length (s .args .values .now))
     × (tallySize * l .f + 1 < length (l .tallies))

@@ -10,12 +10,14 @@ use Rattle.semantics.specs.Runs.{Ticks}
 use Rattle.runner.specs.Private.Ready.{rowsIn, Ready}
 use Rattle.runner.proofs.Tabled.{plain-table, row-of}
 use Rattle.runner.proofs.Flowing.{Going, starts, ends, stops, goes-on}
+use Rattle.table.specs.Rows.{rowSize, maxFlows}
+use Rattle.runner.specs.Private.Carried.{stateSize}
 use Rattle.runner.proofs.ticks.flows.Statement.{statement}
 use Rattle.runner.proofs.ticks.flows.Tie as tie
 
 abbrev Inv-loop : tie.InvT-loop
 Inv-loop n words log at t state₀ marks₀ values₀ f₀ state marks values f =
-    (f ≤ n) × (n ≤ 64) × (length words ≡ 4 * n) × (length state ≡ 256) × (length marks ≡ length marks₀) × (length values ≡ length values₀)
+    (f ≤ n) × (n ≤ maxFlows) × (length words ≡ rowSize * n) × (length state ≡ stateSize) × (length marks ≡ length marks₀) × (length values ≡ length values₀)
     × ((past : Ticks) → Ready (rowsIn n words) past t at state₀ → Going (rowsIn n words) log past t state₀ marks₀ values₀ state marks values f)
 
 abbrev μ-loop : tie.MeasureT-loop

@@ -9,12 +9,14 @@ use Rattle.semantics.specs.Runs.{Tick, Ticks}
 use Rattle.runner.specs.Private.Ready.{rowsIn, Wrote, AllFollow}
 use Rattle.runner.proofs.Tabled.{plain-table}
 use Rattle.runner.proofs.Latching.{Latching, starts, ends, stops, goes-on, operands-low}
+use Rattle.table.specs.Rows.{rowSize, maxFlows}
+use Rattle.runner.specs.Private.Carried.{heldSize, stateSize}
 use Rattle.runner.proofs.ticks.latch.Statement.{statement}
 use Rattle.runner.proofs.ticks.latch.Tie as tie
 
 abbrev Inv-loop : tie.InvT-loop
 Inv-loop registers count n words state₀ marks values j₀ state j =
-    (j ≤ count) × (length state ≡ 256) × ((past : Ticks) (cells : Tick) (ms vs : List ℕ) (t : ℕ) → length cells ≡ n → Wrote cells ms vs marks values
+    (j ≤ count) × (length state ≡ stateSize) × ((past : Ticks) (cells : Tick) (ms vs : List ℕ) (t : ℕ) → length cells ≡ n → Wrote cells ms vs marks values
     → AllFollow (rowsIn n words) t cells past state₀ → Latching n t words registers (rowsIn n words) cells past state₀ state j)
 
 abbrev μ-loop : tie.MeasureT-loop
@@ -33,8 +35,8 @@ low : (c : tie.In-loop Inv-loop μ-loop) → (
     let words = args .words .now in
     let registers = args .registers .now in
     let f = getD registers (loop .j) 0 in
-    (f < n) × (n ≤ 64) × (length words ≡ 4 * n) × (getD words (4 * f + 2) 0 < f) × (getD words (4 * f + 3) 0 < n)
-    × (args .count ≤ length registers) × (loop .j < args .count) × (length (loop .state) ≡ 256)
+    (f < n) × (n ≤ maxFlows) × (length words ≡ rowSize * n) × (getD words (rowSize * f + 2) 0 < f) × (getD words (rowSize * f + 3) 0 < n)
+    × (args .count ≤ length registers) × (loop .j < args .count) × (length (loop .state) ≡ stateSize)
     × (n ≤ length (args .marks .now)) × (n ≤ length (args .values .now)))
 low c =
     let at-loop = c .before in
@@ -207,7 +209,7 @@ loop-again c =
       λ past cells ms vs t z w F. goes-on (args .n) (args .count) (args .words .now) (args .registers .now) _ (table-at start) (start .pre .4)
           past cells ms vs (args .marks .now) (args .values .now) (args .state .now) t z w F (loop .state) (loop .j)
           (loop .inv .2 past cells ms vs t z w F) (in-loop .loop-test .taken) _ (loop .inv .1) (else1 .if1 .left)
-          (ap (set (loop .state) (4 * getD (args .registers .now) (loop .j) 0)) (c .latched .ensures)),
+          (ap (set (loop .state) (heldSize * getD (args .registers .now) (loop .j) 0)) (c .latched .ensures)),
     )
 
 same-length-2 : tie.Need-same-length-2 Inv-loop μ-loop
