@@ -21,7 +21,9 @@ use Rattle.runner.specs.Private.Placed.{testing, Replayed}
 use Rattle.runner.proofs.Placing.{placed-trace}
 
 -- what a call leaves, by what its run comes to
-called : (m : ℕ) (words log : List ℕ) (ticks : ℕ) (ms vs ms′ vs′ : List ℕ) (r : Answer) (x : Result Ran) → running m words log ticks (length ms) (length vs) ≡ x → r ≡ ranAnswer ticks x
+called :
+    (m : ℕ) (words log : List ℕ) (ticks : ℕ) (ms vs ms′ vs′ : List ℕ) (r : Answer) (x : Result Ran)
+    → running m words log ticks (length ms) (length vs) ≡ x → r ≡ ranAnswer ticks x
     → ms′ ≡ leaves (λ (y : Ran). map markByte (trace y)) x ms → vs′ ≡ leaves (λ (y : Ran). map value (trace y)) x vs → Called m words log ticks ms vs ms′ vs′ r
 called m words log ticks ms vs ms′ vs′ r x e a p q =
     record {

@@ -41,7 +41,8 @@ module _ (n count : ℕ) (words list : List ℕ) (rows : List Row) (T : Table n 
   unfolding kinds
   later-at j h =
       sym (row-of n words rows T (getD list j 0) (I .within j h) .made)
-      ∙ ap (λ (k : ℕ). decode k (getD words (rowSize * getD list j 0 + 1) 0) (getD words (rowSize * getD list j 0 + 2) 0) (getD words (rowSize * getD list j 0 + 3) 0)) (I .kind j h)
+      ∙ ap (λ (k : ℕ). decode k (getD words (rowSize * getD list j 0 + 1) 0) (getD words (rowSize * getD list j 0 + 2) 0)
+      (getD words (rowSize * getD list j 0 + 3) 0)) (I .kind j h)
 
   fits-at : (j : ℕ) → j < count → Fits n (getD list j 0) (later (getD words (rowSize * getD list j 0 + 1) 0) (getD words (rowSize * getD list j 0 + 2) 0))
   fits-at j h = subst (Fits n (getD list j 0)) (later-at j h) (row-of n words rows T (getD list j 0) (I .within j h) .fits)
@@ -50,7 +51,9 @@ module _ (n count : ℕ) (words list : List ℕ) (rows : List Row) (T : Table n 
   operand-low j h = omega (arith, fits-at j h .0, I .within j h)
 
   -- a later row carries nothing from tick to tick
-  free : (i : ℕ) → i < count → (t : ℕ) (past : Ticks) (s : List ℕ) → Carries rows (getD list i 0) (rowAt rows (getD list i 0)) t (history past) (heldIn s (heldSize * getD list i 0))
+  free :
+      (i : ℕ) → i < count → (t : ℕ) (past : Ticks) (s : List ℕ)
+      → Carries rows (getD list i 0) (rowAt rows (getD list i 0)) t (history past) (heldIn s (heldSize * getD list i 0))
   unfolding Carries
   free i h t past s = subst (λ (r : Row). Carries rows (getD list i 0) r t (history past) (heldIn s (heldSize * getD list i 0))) (sym (later-at i h)) tt
 
@@ -60,7 +63,10 @@ module _ (n count : ℕ) (words list : List ℕ) (rows : List Row) (T : Table n 
     starts = record { done = λ i l. absurd (omega arith); left = λ g e. refl }
 
     module _ (s : List ℕ) (j : ℕ) (L : Collecting n list rows past s₀ s j) where
-      pub goes-on : (h : j < count) (s′ : List ℕ) → Fetched room n (getD words (rowSize * getD list j 0 + 1) 0) (getD words (rowSize * getD list j 0 + 2) 0) (getD list j 0) t ms vs s s′ → Collecting n list rows past s₀ s′ (j + 1)
+      pub goes-on :
+          (h : j < count) (s′ : List ℕ)
+          → Fetched room n (getD words (rowSize * getD list j 0 + 1) 0) (getD words (rowSize * getD list j 0 + 2) 0) (getD list j 0) t ms vs s s′
+          → Collecting n list rows past s₀ s′ (j + 1)
       unfolding Collected
       goes-on h s′ F =
           record {
@@ -88,7 +94,9 @@ module _ (n count : ℕ) (words list : List ℕ) (rows : List Row) (T : Table n 
         where
           split : (g : ℕ) → g < n → Tried (eqb (getD words (rowSize * g) 0) 10) → ((i : ℕ) × (i < j) × (getD list i 0 ≡ g)) ⊎ (getD words (rowSize * g) 0 ≡ 10 → ⊥)
           split g b (failed e) = inr (eqb-false (getD words (rowSize * g) 0) 10 e)
-          split g b (passed e) = let a : (i : ℕ) × (i < count) × (getD list i 0 ≡ g) = I .all g b (eqb-true (getD words (rowSize * g) 0) 10 e) in inl (a .0, omega (arith, a .1), a .2)
+          split g b (passed e) =
+              let a : (i : ℕ) × (i < count) × (getD list i 0 ≡ g) = I .all g b (eqb-true (getD words (rowSize * g) 0) 10 e) in
+              inl (a .0, omega (arith, a .1), a .2)
 
           apart : (g : ℕ) → (getD words (rowSize * g) 0 ≡ 10 → ⊥) → (i : ℕ) → i < j → getD list i 0 ≡ g → ⊥
           apart g e i b q = e (ap (λ (m : ℕ). getD words (rowSize * m) 0) (sym q) ∙ I .kind i (omega arith))
@@ -96,12 +104,17 @@ module _ (n count : ℕ) (words list : List ℕ) (rows : List Row) (T : Table n 
           collected : (g : ℕ) → g < length rows → Collected (rowAt rows g) (history past) (heldIn s (heldSize * g))
           collected g b =
               let c : g < n = omega (arith, T .size) in
-              ⊎-elim (λ (q : (i : ℕ) × (i < j) × (getD list i 0 ≡ g)). subst (λ (m : ℕ). Collected (rowAt rows m) (history past) (heldIn s (heldSize * m))) (q .2) (L .done (q .0) (q .1)))
-              (λ (e : getD words (rowSize * g) 0 ≡ 10 → ⊥). row-of n words rows T g c .no-later e (history past) (heldIn s (heldSize * g))) (split g c (try (eqb (getD words (rowSize * g) 0) 10)))
+              ⊎-elim
+              (λ (q : (i : ℕ) × (i < j) × (getD list i 0 ≡ g)). subst (λ (m : ℕ). Collected (rowAt rows m) (history past) (heldIn s (heldSize * m)))
+              (q .2) (L .done (q .0) (q .1)))
+              (λ (e : getD words (rowSize * g) 0 ≡ 10 → ⊥). row-of n words rows T g c .no-later e (history past) (heldIn s (heldSize * g)))
+              (split g c (try (eqb (getD words (rowSize * g) 0) 10)))
 
           carried : (g : ℕ) → g < length rows → Carries rows g (rowAt rows g) t (history past) (heldIn s (heldSize * g))
           carried g b =
               let c : g < n = omega (arith, T .size) in
-              ⊎-elim (λ (q : (i : ℕ) × (i < j) × (getD list i 0 ≡ g)). subst (λ (m : ℕ). Carries rows m (rowAt rows m) t (history past) (heldIn s (heldSize * m))) (q .2) (free (q .0) (omega (arith, q .1)) t past s))
+              ⊎-elim (λ (q : (i : ℕ) × (i < j) × (getD list i 0 ≡ g)). subst
+              (λ (m : ℕ). Carries rows m (rowAt rows m) t (history past) (heldIn s (heldSize * m))) (q .2)
+              (free (q .0) (omega (arith, q .1)) t past s))
               (λ (e : getD words (rowSize * g) 0 ≡ 10 → ⊥). subst (λ (w : Held). Carries rows g (rowAt rows g) t (history past) w) (sym (L .left g (apart g e))) (C g b))
               (split g c (try (eqb (getD words (rowSize * g) 0) 10)))

@@ -209,10 +209,13 @@ module _ (k g : ℕ) (p : 1 ≤ k) (q : 1 ≤ g) (h : History) (w : Held) where
   moves s (passed e) (failed f) = rw (e, f) (passes k g h w q s (inr (ltb-false (w .y) (w .z) f)))
   moves s (passed e) (passed f) = rw (e, f) (advances k g h w q s (eqb-true (length h) (w .y) e) (ltb-true (w .y) (w .z) f))
 
-  follows : (v : ℕ) (c : Cell) (s : Copying k g h w) → Tried (eqb (length h) (w .z)) → cond (eqb (length h) (w .z)) (is (present v)) clashes ≡ is c → Copying k g (present v ∷ h) (fasterNext (length h) (present v) k g w)
+  follows :
+      (v : ℕ) (c : Cell) (s : Copying k g h w) → Tried (eqb (length h) (w .z)) → cond (eqb (length h) (w .z)) (is (present v)) clashes ≡ is c
+      → Copying k g (present v ∷ h) (fasterNext (length h) (present v) k g w)
   follows v c s (failed e) y = never-is (rw (e) at y)
   follows v c s (passed e) y =
-      rw (not-zero s, e) (begins k g v h p q (λ j l. s .quiet j (omega (arith, eqb-true (length h) (w .z) e, s .at, s .due)) (λ z. omega (arith, eqb-true (length h) (w .z) e, s .at, s .due))))
+      rw (not-zero s, e) (begins k g v h p q
+      (λ j l. s .quiet j (omega (arith, eqb-true (length h) (w .z) e, s .at, s .due)) (λ z. omega (arith, eqb-true (length h) (w .z) e, s .at, s .due))))
 
   pub faster-follows : (a c : Cell) → Copies k g h w → fasterStep (length h) a w ≡ is c → Copies k g (a ∷ h) (fasterNext (length h) a k g w)
   unfolding latest

@@ -38,10 +38,14 @@ cell-told (is c) u = record { cell = c; told = refl }
 cell-told clashes u = absurd (u refl)
 
 -- the words of other rows stay
-pub held-before : (step : Step) (next : Held) (f g : ℕ) (s s′ : List ℕ) (r : Outcome) → Did step next (heldSize * f) s s′ r → g < f → heldIn s′ (heldSize * g) ≡ heldIn s (heldSize * g)
+pub held-before :
+    (step : Step) (next : Held) (f g : ℕ) (s s′ : List ℕ) (r : Outcome) → Did step next (heldSize * f) s s′ r → g < f
+    → heldIn s′ (heldSize * g) ≡ heldIn s (heldSize * g)
 held-before step next f g s s′ r d l = rw (d .before (heldSize * g) (omega arith), d .before (heldSize * g + 1) (omega arith), d .before (heldSize * g + 2) (omega arith))
 
-pub held-after : (step : Step) (next : Held) (f g : ℕ) (s s′ : List ℕ) (r : Outcome) → Did step next (heldSize * f) s s′ r → f < g → heldIn s′ (heldSize * g) ≡ heldIn s (heldSize * g)
+pub held-after :
+    (step : Step) (next : Held) (f g : ℕ) (s s′ : List ℕ) (r : Outcome) → Did step next (heldSize * f) s s′ r → f < g
+    → heldIn s′ (heldSize * g) ≡ heldIn s (heldSize * g)
 held-after step next f g s s′ r d l = rw (d .after (heldSize * g) (omega arith), d .after (heldSize * g + 1) (omega arith), d .after (heldSize * g + 2) (omega arith))
 
 pub record Going (rows : List Row) (log : List ℕ) (past : Ticks) (t : ℕ) (s₀ ms₀ vs₀ s ms vs : List ℕ) (f : ℕ) : Type 0 where
@@ -68,7 +72,9 @@ module _ (n : ℕ) (words log : List ℕ) (rows : List Row) (T : Table n words r
 
     module _ (h : f < n) where
       -- the step of the definition
-      unroll : flowsFrom rows log past [] rows ≡ onStep (cellOf rows log past (G .now) (rowAt rows f)) (G .now) (λ c. flowsFrom rows log past (G .now ++ (c ∷ [])) (drop (suc f) rows))
+      unroll :
+          flowsFrom rows log past [] rows
+          ≡ onStep (cellOf rows log past (G .now) (rowAt rows f)) (G .now) (λ c. flowsFrom rows log past (G .now ++ (c ∷ [])) (drop (suc f) rows))
       unfolding flowsFrom
       unroll = sym (G .rest) ∙ ap (flowsFrom rows log past (G .now)) (drop-cons rows f (tail 0) (omega (arith, T .size)))
 
@@ -85,7 +91,9 @@ module _ (n : ℕ) (words log : List ℕ) (rows : List Row) (T : Table n words r
       collected = subst (λ (w : Held). Collected (rowAt rows f) (history past) w) (sym (G .left f (omega arith))) (R .collected f (omega (arith, T .size)))
 
       -- the code's step is a step from the cells so far
-      near : stepOf (madeOf (wordsAt words f)) t log at (cellsIn ms vs f) (heldIn s (heldSize * f)) ≡ stepOf (rowAt rows f) (length past) log at (cellIn (G .now)) (heldIn s (heldSize * f))
+      near :
+          stepOf (madeOf (wordsAt words f)) t log at (cellsIn ms vs f) (heldIn s (heldSize * f))
+          ≡ stepOf (rowAt rows f) (length past) log at (cellIn (G .now)) (heldIn s (heldSize * f))
       near =
           ap (λ (r : Row). stepOf r t log at (cellsIn ms vs f) (heldIn s (heldSize * f))) (row .made)
           ∙ ap (λ (i : ℕ → Cell). stepOf (rowAt rows f) t log at i (heldIn s (heldSize * f))) (here-is (G .now) ms₀ vs₀ ms vs (G .wrote) f (G .size))
@@ -103,7 +111,8 @@ module _ (n : ℕ) (words log : List ℕ) (rows : List Row) (T : Table n words r
           (R .place ∙ ap (λ (i : ℕ). i * inputs rows) (sym (R .ticks))) (G .size)
 
       module _ (s′ : List ℕ) (r : Outcome)
-          (D : Did (stepOf (madeOf (wordsAt words f)) t log at (cellsIn ms vs f) (heldIn s (heldSize * f))) (nextOf (madeOf (wordsAt words f)) t (cellsIn ms vs f) (heldIn s (heldSize * f))) (heldSize * f) s s′ r) where
+          (D : Did (stepOf (madeOf (wordsAt words f)) t log at (cellsIn ms vs f) (heldIn s (heldSize * f)))
+          (nextOf (madeOf (wordsAt words f)) t (cellsIn ms vs f) (heldIn s (heldSize * f))) (heldSize * f) s s′ r) where
         pub stops : (ms′ vs′ : List ℕ) → r .mark ≡ clashMark → ms′ ≡ ms → vs′ ≡ vs → FlowsEnd rows t past (flowsFrom rows log past [] rows) ms₀ vs₀ ms′ vs′ s′ (ticked.Stopped f)
         stops ms′ vs′ e em ev =
             let c : cellOf rows log past (G .now) (rowAt rows f) ≡ clashes = sym step-is ∙ sym near ∙ clash-told _ (ap (λ (o : Outcome). o .mark) (sym (D .answer)) ∙ e) in
@@ -117,7 +126,9 @@ module _ (n : ℕ) (words log : List ℕ) (rows : List Row) (T : Table n words r
         grows c g a l k = sym (List·getD-append (G .now) (c ∷ []) absent a (omega (arith, G .size)))
 
         -- the cell that a step came to stands in the parts
-        grown : (c : Cell) (ms′ vs′ : List ℕ) → stepOf (madeOf (wordsAt words f)) t log at (cellsIn ms vs f) (heldIn s (heldSize * f)) ≡ is c → f < length ms₀ → f < length vs₀ → ms′ ≡ set ms f (markByte c) → vs′ ≡ set vs f (value c)
+        grown :
+            (c : Cell) (ms′ vs′ : List ℕ) → stepOf (madeOf (wordsAt words f)) t log at (cellsIn ms vs f) (heldIn s (heldSize * f)) ≡ is c
+            → f < length ms₀ → f < length vs₀ → ms′ ≡ set ms f (markByte c) → vs′ ≡ set vs f (value c)
             → Going rows log past t s₀ ms₀ vs₀ s′ ms′ vs′ (f + 1)
         grown c ms′ vs′ e lm lv em ev =
             let o : stepOf (rowAt rows f) (length past) log at (cellIn (G .now)) (heldIn s (heldSize * f)) ≡ is c = sym near ∙ e in
@@ -134,10 +145,13 @@ module _ (n : ℕ) (words log : List ℕ) (rows : List Row) (T : Table n words r
           where
             below : (c : Cell) (g : ℕ) → g < f → Follows rows g (rowAt rows g) t (G .now ++ (c ∷ [])) past (heldIn s′ (heldSize * g))
             below c g l =
-                follows-on n g t rows past (G .now) (G .now ++ (c ∷ [])) (heldIn s′ (heldSize * g)) (rowAt rows g) (row-of n words rows T g (omega arith) .fits) (λ a k. grows c g a (omega arith) k)
+                follows-on n g t rows past (G .now) (G .now ++ (c ∷ [])) (heldIn s′ (heldSize * g)) (rowAt rows g)
+                (row-of n words rows T g (omega arith) .fits) (λ a k. grows c g a (omega arith) k)
                 (subst (λ (w : Held). Follows rows g (rowAt rows g) t (G .now) past w) (sym (held-before _ _ f g s s′ r D l)) (G .followed g l))
 
-            same : (c : Cell) → stepOf (madeOf (wordsAt words f)) t log at (cellsIn ms vs f) (heldIn s (heldSize * f)) ≡ is c → {g : ℕ} → g ≡ f → Follows rows g (rowAt rows g) t (G .now ++ (c ∷ [])) past (heldIn s′ (heldSize * g))
+            same :
+                (c : Cell) → stepOf (madeOf (wordsAt words f)) t log at (cellsIn ms vs f) (heldIn s (heldSize * f)) ≡ is c → {g : ℕ} → g ≡ f
+                → Follows rows g (rowAt rows g) t (G .now ++ (c ∷ [])) past (heldIn s′ (heldSize * g))
             same c e q =
                 subst (λ (i : ℕ). Follows rows i (rowAt rows i) t (G .now ++ (c ∷ [])) past (heldIn s′ (heldSize * i))) (sym q)
                 (follows-on n f t rows past (G .now) (G .now ++ (c ∷ [])) (heldIn s′ (heldSize * f)) (rowAt rows f) (row .fits) (λ a k. grows c f a (omega arith) k)

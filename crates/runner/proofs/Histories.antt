@@ -150,7 +150,9 @@ module _ (v s : ℕ) (h : History) (w : Held) where
   head-steps absent c = is-either (eqb (length h) s) (present v) absent
   head-steps (present x) c = go (try (leb (length h) s))
     where
-      go : Tried (leb (length h) s) → headStep (length h) (present x) v s w ≡ clashUnless (ltb s (length h) && (not (eqb (count h) 1) || evenly s (length h) (latest h))) (present x)
+      go :
+          Tried (leb (length h) s) → headStep (length h) (present x) v s w
+          ≡ clashUnless (ltb s (length h) && (not (eqb (count h) 1) || evenly s (length h) (latest h))) (present x)
       go (passed e) = rw (e, le-ltb s (length h) (leb-true (length h) s e))
       go (failed e) = rw (e, lt-ltb s (length h) (leb-false (length h) s e)) (after-steps x c)
 

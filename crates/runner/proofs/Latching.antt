@@ -67,11 +67,14 @@ module _ (n count : ℕ) (words list : List ℕ) (rows : List Row) (T : Table n 
   other-row : (test : ℕ → ℕ → Bool) (g : ℕ) → g < n → (getD words (rowSize * g) 0 ≡ 7 → ⊥) → onRegister test (rowAt rows g) ≡ true
   other-row test g l k = row-of n words rows T g l .no-register k test
 
-  register-at : (j : ℕ) → j < count → rowAt rows (getD list j 0) ≡ register (getD words (rowSize * getD list j 0 + 1) 0) (getD words (rowSize * getD list j 0 + 2) 0) (getD words (rowSize * getD list j 0 + 3) 0)
+  register-at :
+      (j : ℕ) → j < count → rowAt rows (getD list j 0)
+      ≡ register (getD words (rowSize * getD list j 0 + 1) 0) (getD words (rowSize * getD list j 0 + 2) 0) (getD words (rowSize * getD list j 0 + 3) 0)
   unfolding kinds
   register-at j h =
       sym (row-of n words rows T (getD list j 0) (I .within j h) .made)
-      ∙ ap (λ (k : ℕ). decode k (getD words (rowSize * getD list j 0 + 1) 0) (getD words (rowSize * getD list j 0 + 2) 0) (getD words (rowSize * getD list j 0 + 3) 0)) (I .kind j h)
+      ∙ ap (λ (k : ℕ). decode k (getD words (rowSize * getD list j 0 + 1) 0) (getD words (rowSize * getD list j 0 + 2) 0)
+      (getD words (rowSize * getD list j 0 + 3) 0)) (I .kind j h)
 
   -- its beat is below it, its source in the table
   pub operands-low : (j : ℕ) → j < count → (getD words (rowSize * getD list j 0 + 2) 0 < getD list j 0) × (getD words (rowSize * getD list j 0 + 3) 0 < n)
@@ -115,7 +118,8 @@ module _ (n count : ℕ) (words list : List ℕ) (rows : List Row) (T : Table n 
           carry : (g : ℕ) → g < length rows → Carries rows g (rowAt rows g) (suc t) (history (cells ∷ past)) (heldIn s (heldSize * g))
           carry g b =
               ⊎-elim
-              (λ (p : (i : ℕ) × (i < j) × (getD list i 0 ≡ g)). subst (λ (m : ℕ). Carries rows m (rowAt rows m) (suc t) (history (cells ∷ past)) (heldIn s (heldSize * m))) (p .2) (L .done (p .0) (p .1)))
+              (λ (p : (i : ℕ) × (i < j) × (getD list i 0 ≡ g)). subst
+              (λ (m : ℕ). Carries rows m (rowAt rows m) (suc t) (history (cells ∷ past)) (heldIn s (heldSize * m))) (p .2) (L .done (p .0) (p .1)))
               (λ (e : getD words (rowSize * g) 0 ≡ 7 → ⊥).
               subst (λ (w : Held). Carries rows g (rowAt rows g) (suc t) (history (cells ∷ past)) w) (sym (L .left g (apart g e)))
               (rw (other-row (λ b a. false) g (omega (arith, T .size)) e) at (F g b)))
@@ -141,8 +145,10 @@ module _ (n count : ℕ) (words list : List ℕ) (rows : List Row) (T : Table n 
         meets =
             ap (onRegister (sourceMeets cells)) is-register
             ∙ marks-meet (cellIn cells (getD words (rowSize * f + 3) 0)) (cellIn cells (getD words (rowSize * f + 2) 0))
-            ∙ ap (λ (m : ℕ). eqb m (markByte (cellIn cells (getD words (rowSize * f + 2) 0)))) (sym (mark-at cells ms₀ vs₀ ms vs W (getD words (rowSize * f + 3) 0) (omega (arith, fits .1))))
-            ∙ ap (λ (m : ℕ). eqb (getD ms (getD words (rowSize * f + 3) 0) 0) m) (sym (mark-at cells ms₀ vs₀ ms vs W (getD words (rowSize * f + 2) 0) (omega (arith, fits .0, below))))
+            ∙ ap (λ (m : ℕ). eqb m (markByte (cellIn cells (getD words (rowSize * f + 2) 0))))
+            (sym (mark-at cells ms₀ vs₀ ms vs W (getD words (rowSize * f + 3) 0) (omega (arith, fits .1))))
+            ∙ ap (λ (m : ℕ). eqb (getD ms (getD words (rowSize * f + 3) 0) 0) m)
+            (sym (mark-at cells ms₀ vs₀ ms vs W (getD words (rowSize * f + 2) 0) (omega (arith, fits .0, below))))
 
         pub stops : (getD ms (getD words (rowSize * getD list j 0 + 3) 0) 0 ≡ getD ms (getD words (rowSize * getD list j 0 + 2) 0) 0 → ⊥)
             → LatchEnd rows t past cells (badRegister (sourceMeets cells) 0 rows) s (ticked.Stopped (getD list j 0))
@@ -159,7 +165,9 @@ module _ (n count : ℕ) (words list : List ℕ) (rows : List Row) (T : Table n 
                 (in-list g j (omega (arith, below)) (omega arith) after (try (eqb (getD words (rowSize * g) 0) 7)))
               where
                 after : (i : ℕ) → j ≤ i → i < count → getD list i 0 ≡ g → ⊥
-                after i p q k = ⊎-elim (λ (u : j ≡ i). let v : getD list j 0 ≡ getD list i 0 = ap (λ (m : ℕ). getD list m 0) u in omega arith) (λ (u : j < i). omega (arith, I .rising j i u q)) (eq-or-lt-of-le p)
+                after i p q k =
+                    ⊎-elim (λ (u : j ≡ i). let v : getD list j 0 ≡ getD list i 0 = ap (λ (m : ℕ). getD list m 0) u in omega arith)
+                    (λ (u : j < i). omega (arith, I .rising j i u q)) (eq-or-lt-of-le p)
 
         -- no earlier entry is this register
         earlier : (i : ℕ) → i < j → getD list i 0 ≡ f → ⊥
@@ -173,7 +181,9 @@ module _ (n count : ℕ) (words list : List ℕ) (rows : List Row) (T : Table n 
             ∙ subst (λ (r : Row). Follows rows f r t cells past (heldIn s₀ (heldSize * f))) is-register (F f (omega (arith, T .size, below)))
 
         -- the register's word after the tick
-        latched : (s′ : List ℕ) → length s ≡ stateSize → s′ ≡ set s (heldSize * f) (cond (eqb (getD ms (getD words (rowSize * f + 3) 0) 0) 0) (getD s (heldSize * f) 0) (getD vs (getD words (rowSize * f + 3) 0) 0))
+        latched :
+            (s′ : List ℕ) → length s ≡ stateSize → s′ ≡ set s (heldSize * f)
+            (cond (eqb (getD ms (getD words (rowSize * f + 3) 0) 0) 0) (getD s (heldSize * f) 0) (getD vs (getD words (rowSize * f + 3) 0) 0))
             → Carries rows f (rowAt rows f) (suc t) (history (cells ∷ past)) (heldIn s′ (heldSize * f))
         unfolding Carries history
         latched s′ l q =
@@ -188,12 +198,17 @@ module _ (n count : ℕ) (words list : List ℕ) (rows : List Row) (T : Table n 
             ∙ latest-is (getD words (rowSize * f + 1) 0) (getD s (heldSize * f) 0) (cellIn cells a) (history past a) old)
 
         pub goes-on : (s′ : List ℕ) → length s ≡ stateSize → getD ms (getD words (rowSize * getD list j 0 + 3) 0) 0 ≡ getD ms (getD words (rowSize * getD list j 0 + 2) 0) 0
-            → s′ ≡ set s (heldSize * getD list j 0) (cond (eqb (getD ms (getD words (rowSize * getD list j 0 + 3) 0) 0) 0) (getD s (heldSize * getD list j 0) 0) (getD vs (getD words (rowSize * getD list j 0 + 3) 0) 0))
+            → s′ ≡ set s (heldSize * getD list j 0)
+            (cond (eqb (getD ms (getD words (rowSize * getD list j 0 + 3) 0) 0) 0) (getD s (heldSize * getD list j 0) 0)
+            (getD vs (getD words (rowSize * getD list j 0 + 3) 0) 0))
             → Latching n t words list rows cells past s₀ s′ (j + 1)
         unfolding f
         goes-on s′ l e q =
             record {
-              met = λ i b. ⊎-elim (λ (u : i ≡ j). subst (λ (m : ℕ). onRegister (sourceMeets cells) (rowAt rows (getD list m 0)) ≡ true) (sym u) (meets ∙ eq-eqb _ _ e)) (L .met i) (eq-or-lt-of-le {n = i} {m = j} (omega arith));
+              met =
+                  λ i b. ⊎-elim
+                  (λ (u : i ≡ j). subst (λ (m : ℕ). onRegister (sourceMeets cells) (rowAt rows (getD list m 0)) ≡ true) (sym u) (meets ∙ eq-eqb _ _ e))
+                  (L .met i) (eq-or-lt-of-le {n = i} {m = j} (omega arith));
               done = λ i b. ⊎-elim (here i) (there i) (eq-or-lt-of-le {n = i} {m = j} (omega arith));
               left = λ g b. ap (λ (u : List ℕ). heldIn u (heldSize * g)) q ∙ stored-other s f g _ (λ u. b j (omega arith) (sym u)) ∙ L .left g (λ i k. b i (omega arith));
             }

@@ -32,7 +32,9 @@ module _ (k f : ℕ) (words list : List ℕ) (c : ℕ) (L : Listed k f words lis
         within = λ j l. omega (arith, L .within j l);
         kind = L .kind;
         rising = L .rising;
-        all = λ g l e. ⊎-elim (λ (u : g ≡ f). absurd (n (ap (λ (i : ℕ). getD words (rowSize * i) 0) (sym u) ∙ e))) (λ (u : g < f). L .all g u e) (eq-or-lt-of-le {n = g} {m = f} (omega arith));
+        all =
+            λ g l e. ⊎-elim (λ (u : g ≡ f). absurd (n (ap (λ (i : ℕ). getD words (rowSize * i) 0) (sym u) ∙ e))) (λ (u : g < f). L .all g u e)
+            (eq-or-lt-of-le {n = g} {m = f} (omega arith));
       }
 
   takes : c < length list → getD words (rowSize * f) 0 ≡ k → Listed k (f + 1) words (set list c f) (c + 1)
@@ -53,7 +55,8 @@ module _ (k f : ℕ) (words list : List ℕ) (c : ℕ) (L : Listed k f words lis
 
       by : (j : ℕ) (P : ℕ → Type 0) → P f → (j < c → P (getD list j 0)) → j < c + 1 → P (getD (set list c f) j 0)
       by j P p q l =
-          ⊎-elim (λ (u : j ≡ c). subst (λ (i : ℕ). P (getD (set list c f) i 0)) (sym u) (subst P (sym here) p)) (λ (u : j < c). subst P (sym (there j u)) (q u)) (eq-or-lt-of-le {n = j} {m = c} (omega arith))
+          ⊎-elim (λ (u : j ≡ c). subst (λ (i : ℕ). P (getD (set list c f) i 0)) (sym u) (subst P (sym here) p))
+          (λ (u : j < c). subst P (sym (there j u)) (q u)) (eq-or-lt-of-le {n = j} {m = c} (omega arith))
 
       up : (i j : ℕ) → i < j → (j ≡ c) ⊎ (j < c) → getD (set list c f) i 0 < getD (set list c f) j 0
       up i j l (inl u) =
@@ -66,15 +69,25 @@ module _ (k f : ℕ) (words list : List ℕ) (c : ℕ) (L : Listed k f words lis
       old g p = (p .0, omega (arith, p .1), there (p .0) (p .1) ∙ p .2)
 
   -- one row more
-  pub listed-more : (list′ : List ℕ) (c′ : ℕ) → c < length list → list′ ≡ cond (eqb (getD words (rowSize * f) 0) k) (set list c f) list → c′ ≡ cond (eqb (getD words (rowSize * f) 0) k) (c + 1) c → Listed k (f + 1) words list′ c′ × (c′ ≤ c + 1)
+  pub listed-more :
+      (list′ : List ℕ) (c′ : ℕ) → c < length list → list′ ≡ cond (eqb (getD words (rowSize * f) 0) k) (set list c f) list
+      → c′ ≡ cond (eqb (getD words (rowSize * f) 0) k) (c + 1) c → Listed k (f + 1) words list′ c′ × (c′ ≤ c + 1)
   listed-more list′ c′ r p q = go (try (eqb (getD words (rowSize * f) 0) k)) p q
     where
-      go : Tried (eqb (getD words (rowSize * f) 0) k) → list′ ≡ cond (eqb (getD words (rowSize * f) 0) k) (set list c f) list → c′ ≡ cond (eqb (getD words (rowSize * f) 0) k) (c + 1) c → Listed k (f + 1) words list′ c′ × (c′ ≤ c + 1)
+      go :
+          Tried (eqb (getD words (rowSize * f) 0) k) → list′ ≡ cond (eqb (getD words (rowSize * f) 0) k) (set list c f) list
+          → c′ ≡ cond (eqb (getD words (rowSize * f) 0) k) (c + 1) c → Listed k (f + 1) words list′ c′ × (c′ ≤ c + 1)
       go (passed e) p q =
           let p′ : list′ ≡ set list c f = rw (e) at p in
-          let q′ : c′ ≡ c + 1 = rw (e) at q in
-          (subst (λ (l : List ℕ). Listed k (f + 1) words l c′) (sym p′) (subst (Listed k (f + 1) words (set list c f)) (sym q′) (takes r (eqb-true (getD words (rowSize * f) 0) k e))), omega arith)
+          let q′ : c′ ≡ c + 1 = rw (e) at q in (
+            subst (λ (l : List ℕ). Listed k (f + 1) words l c′) (sym p′)
+                (subst (Listed k (f + 1) words (set list c f)) (sym q′) (takes r (eqb-true (getD words (rowSize * f) 0) k e))),
+            omega arith,
+          )
       go (failed e) p q =
           let p′ : list′ ≡ list = rw (e) at p in
-          let q′ : c′ ≡ c = rw (e) at q in
-          (subst (λ (l : List ℕ). Listed k (f + 1) words l c′) (sym p′) (subst (Listed k (f + 1) words list) (sym q′) (skips (eqb-false (getD words (rowSize * f) 0) k e))), omega arith)
+          let q′ : c′ ≡ c = rw (e) at q in (
+            subst (λ (l : List ℕ). Listed k (f + 1) words l c′) (sym p′)
+                (subst (Listed k (f + 1) words list) (sym q′) (skips (eqb-false (getD words (rowSize * f) 0) k e))),
+            omega arith,
+          )

@@ -54,12 +54,12 @@ one-more room n t g l₀ l l′ past now z e q =
 abbrev pub clashAnswer : ℕ → ℕ → Answer
 clashAnswer f t = record { number = number clash; flow = f; tick = t; count = 0 }
 
-module _ (n room k : ℕ) (rows : List Row) (log ms₀ vs₀ ts₀ : List ℕ) where
-  pub starts : (s : List ℕ) → AllCarry rows 0 [] s → Tallied k [] ts₀ ts₀ → Running n room k 0 rows log ms₀ vs₀ ts₀ s ms₀ vs₀ ts₀
+module _ {n room k : ℕ} {rows : List Row} {log ms₀ vs₀ ts₀ : List ℕ} where
+  pub starts : {s : List ℕ} → AllCarry rows 0 [] s → Tallied k [] ts₀ ts₀ → Running n room k 0 rows log ms₀ vs₀ ts₀ s ms₀ vs₀ ts₀
   unfolding run placed
-  starts s C T = record { past = []; ticks = refl; so-far = refl; regular = tt; marks = refl; values = refl; tallied = T; carried = C }
+  starts C T = record { past = []; ticks = refl; so-far = refl; regular = tt; marks = refl; values = refl; tallied = T; carried = C }
 
-  module _ (t ticks : ℕ) (s ms vs ts : List ℕ) (R : Running n room k t rows log ms₀ vs₀ ts₀ s ms vs ts) where
+  module _ {t : ℕ} {s ms vs ts : List ℕ} (ticks : ℕ) (R : Running n room k t rows log ms₀ vs₀ ts₀ s ms vs ts) where
     pub recall : t ≤ ticks → maxField ≤ room → Fitting room n ticks (length ms₀) → Fitting room n ticks (length vs₀) → Recalls room n t (R .past) ms vs
     recall l w F G = recalls room n t (R .past) (R .ticks) (R .regular) w ms₀ vs₀ ms vs (fewer t l F) (fewer t l G) (R .marks) (R .values)
 
@@ -71,11 +71,11 @@ module _ (n room k : ℕ) (rows : List Row) (log ms₀ vs₀ ts₀ : List ℕ) w
     unfolding run
     unroll = rw (R .so-far)
 
-    module _ (s′ ms′ vs′ : List ℕ) (r : Ticked) (size : length rows ≡ n)
+    module _ (s′ : List ℕ) {ms′ vs′ : List ℕ} {r : Ticked} (size : length rows ≡ n)
         (d : TickAt (firstCell room n t) rows t (R .past) (tickOf rows log (R .past)) ms vs ms′ vs′ s′ r) where
-      pub goes-on : (ts′ : List ℕ) → r ≡ ticked.Full → k ≤ n → firstCell room n t + n ≤ length ms → firstCell room n t + n ≤ length vs
+      pub goes-on : {ts′ : List ℕ} → r ≡ ticked.Full → k ≤ n → firstCell room n t + n ≤ length ms → firstCell room n t + n ≤ length vs
           → Counted (firstCell room n t) k ms′ vs′ ts ts′ → length ts′ ≡ length ts → Running n room k (t + 1) rows log ms₀ vs₀ ts₀ s′ ms′ vs′ ts′
-      goes-on ts′ q few hm hv C z = go (tickOf rows log (R .past)) refl d
+      goes-on {ts′} q few hm hv C z = go (tickOf rows log (R .past)) refl d
         where
           extended : (now : Tick) → run rows log (suc t) ≡ done (now ∷ R .past) → WroteAt (firstCell room n t) now ms vs ms′ vs′ → length now ≡ n
               → AllCarry rows (suc t) (now ∷ R .past) s′ → Running n room k (suc t) rows log ms₀ vs₀ ts₀ s′ ms′ vs′ ts′
@@ -98,8 +98,8 @@ module _ (n room k : ℕ) (rows : List Row) (log ms₀ vs₀ ts₀ : List ℕ) w
               subst (λ (i : ℕ). Running n room k i rows log ms₀ vs₀ ts₀ s′ ms′ vs′ ts′) (sym (add-one t))
               (extended now (unroll ∙ ap (onTick t (R .past)) e) (d .1) (d .2 ∙ size) (d .3))
 
-      pub stops : (f : ℕ) → r ≡ ticked.Stopped f → t < ticks → RanTo (run rows log ticks) room n k ticks ms₀ vs₀ ts₀ ms′ vs′ ts (clashAnswer f t) × (f < n)
-      stops f q h = go (tickOf rows log (R .past)) refl d
+      pub stops : {f : ℕ} → r ≡ ticked.Stopped f → t < ticks → RanTo (run rows log ticks) room n k ticks ms₀ vs₀ ts₀ ms′ vs′ ts (clashAnswer f t) × (f < n)
+      stops {f} q h = go (tickOf rows log (R .past)) refl d
         where
           go : (x : TickEnd) → tickOf rows log (R .past) ≡ x → TickAt (firstCell room n t) rows t (R .past) x ms vs ms′ vs′ s′ r
               → RanTo (run rows log ticks) room n k ticks ms₀ vs₀ ts₀ ms′ vs′ ts (clashAnswer f t) × (f < n)
@@ -107,7 +107,8 @@ module _ (n room k : ℕ) (rows : List Row) (log ms₀ vs₀ ts₀ : List ℕ) w
           go (stopped g now) e d =
               let u : f ≡ g = same-flow (sym q ∙ d .0) in
               let v : ticks ≡ (ticks - suc t) + suc t = omega arith in
-              let x : run rows log ticks ≡ clashed t g now (R .past) = ap (run rows log) v ∙ stays rows log (suc t) t g now (R .past) (ticks - suc t) (unroll ∙ ap (onTick t (R .past)) e) in (
+              let x : run rows log ticks ≡ clashed t g now (R .past) =
+              ap (run rows log) v ∙ stays rows log (suc t) t g now (R .past) (ticks - suc t) (unroll ∙ ap (onTick t (R .past)) e) in (
                 subst (λ (y : Ran). RanTo y room n k ticks ms₀ vs₀ ts₀ ms′ vs′ ts (clashAnswer f t)) (sym x)
                     (record {
                       answer = ap (λ (i : ℕ). clashAnswer i t) u;

@@ -75,7 +75,9 @@ module _ (n : ℕ) (words : List ℕ) (rows : List Row) (T : Table n words rows)
         clear = λ g l m. ap (λ (u : List ℕ). heldIn u (heldSize * g)) e ∙ simp zeros;
       }
 
-  pub goes-on : (s s′ : List ℕ) (f j j′ : ℕ) → f < n → Starting rows s f j → Started (startOf (madeOf (wordsAt words f)) j (heldIn s (heldSize * f))) f s s′ → j′ ≡ j + bit (eqb (getD words (rowSize * f) 0) 0) → Starting rows s′ (f + 1) j′
+  pub goes-on :
+      (s s′ : List ℕ) (f j j′ : ℕ) → f < n → Starting rows s f j → Started (startOf (madeOf (wordsAt words f)) j (heldIn s (heldSize * f))) f s s′
+      → j′ ≡ j + bit (eqb (getD words (rowSize * f) 0) 0) → Starting rows s′ (f + 1) j′
   goes-on s s′ f j j′ l S D e =
       let r : Row-at n words (rowAt rows f) f = row-of n words rows T f l in
       record {

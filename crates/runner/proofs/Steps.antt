@@ -34,7 +34,8 @@ module _ (m f : ℕ) (rows : List Row) (log : List ℕ) (past : Ticks) (now : Ti
   unfolding stepOf cellOf Carries Collected
   row-steps (input n p) l c o e s =
       timed-steps n p (length past) w (c .0) (getD log (at + w .y) 0)
-      ∙ ap (λ (i : ℕ). is (timed n p (length past) (getD log i 0))) (let z : w .y ≡ inputs (take (length now) rows) = c .1 ∙ ap (λ (i : ℕ). inputs (take i rows)) (sym s) in omega arith)
+      ∙ ap (λ (i : ℕ). is (timed n p (length past) (getD log i 0)))
+      (let z : w .y ≡ inputs (take (length now) rows) = c .1 ∙ ap (λ (i : ℕ). inputs (take i rows)) (sym s) in omega arith)
   row-steps (constant v n p) l c o e s = timed-steps n p (length past) w c v
   row-steps (combine op a b) l c o e s = refl
   row-steps (register v b a) l c o e s = registers v (cellIn now b) (history past a) w c

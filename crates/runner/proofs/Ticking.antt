@@ -18,12 +18,15 @@ pub same-flow : {f g : ℕ} → ticked.Stopped f ≡ ticked.Stopped g → f ≡ 
 same-flow e = cc
 
 module _ (rows : List Row) (t : ℕ) (past : Ticks) (ms vs ms′ vs′ s s′ : List ℕ) where
-  pub stops : (e : TickEnd) (r : Ticked) (f : ℕ) → FlowsEnd rows t past e ms vs ms′ vs′ s r → r ≡ ticked.Stopped f → TickDone rows t past (onFlows rows e) ms vs ms′ vs′ s (ticked.Stopped f)
+  pub stops :
+      (e : TickEnd) (r : Ticked) (f : ℕ) → FlowsEnd rows t past e ms vs ms′ vs′ s r → r ≡ ticked.Stopped f
+      → TickDone rows t past (onFlows rows e) ms vs ms′ vs′ s (ticked.Stopped f)
   stops (filled now) r f d q = full-or-stopped (sym (d .0) ∙ q)
   stops (stopped g now) r f d q = (sym q ∙ d .0, d .1, d .2)
 
   pub latches : (n : ℕ) → length rows ≡ n → (e : TickEnd) (r r′ : Ticked) → FlowsEnd rows t past e ms vs ms′ vs′ s r → r ≡ ticked.Full
-      → ((cells : Tick) (ms₀ vs₀ : List ℕ) → length cells ≡ n → Wrote cells ms₀ vs₀ ms′ vs′ → AllFollow rows t cells past s → LatchEnd rows t past cells (badRegister (sourceMeets cells) 0 rows) s′ r′)
+      → ((cells : Tick) (ms₀ vs₀ : List ℕ) → length cells ≡ n → Wrote cells ms₀ vs₀ ms′ vs′ → AllFollow rows t cells past s
+      → LatchEnd rows t past cells (badRegister (sourceMeets cells) 0 rows) s′ r′)
       → TickDone rows t past (onFlows rows e) ms vs ms′ vs′ s′ r′
   latches n z (stopped g now) r r′ d q l = full-or-stopped (sym q ∙ d .0)
   latches n z (filled now) r r′ d q l = go (badRegister (sourceMeets now) 0 rows) (l now ms vs (d .2 ∙ z) (d .1) (d .3))

@@ -71,7 +71,11 @@ stored s i v l = rw (getD-set-same s i v 0 (omega arith), getD-set-other s i (i 
 
 pub stored-other : (s : List ℕ) (f g v : ℕ) → (g ≡ f → ⊥) → heldIn (set s (heldSize * f) v) (heldSize * g) ≡ heldIn s (heldSize * g)
 stored-other s f g v n =
-    rw (getD-set-other s (heldSize * f) (heldSize * g) v 0 (λ e. n (omega arith)), getD-set-other s (heldSize * f) (heldSize * g + 1) v 0 (λ e. omega arith), getD-set-other s (heldSize * f) (heldSize * g + 2) v 0 (λ e. omega arith))
+    rw (
+      getD-set-other s (heldSize * f) (heldSize * g) v 0 (λ e. n (omega arith)),
+      getD-set-other s (heldSize * f) (heldSize * g + 1) v 0 (λ e. omega arith),
+      getD-set-other s (heldSize * f) (heldSize * g + 2) v 0 (λ e. omega arith),
+    )
 
 -- a row's first two words are stored
 pub stored-two : (s : List ℕ) (i u v : ℕ) → i + 4 ≤ length s → heldIn (set (set s i u) (i + 1) v) i ≡ held u v (getD s (i + 2) 0)

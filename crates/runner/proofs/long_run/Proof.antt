@@ -15,10 +15,14 @@ use Rattle.runner.proofs.long_run.Statement.{statement}
 use Rattle.runner.proofs.long_run.Tie as tie
 
 -- the check accepts the table
-clocked : (c : tie.Then1) → (let a = c .before .before .before .before .before .before .before .before .before .before .args in Plain (a .count) (a .words .now) × Clocked (a .count) (a .words .now))
+clocked :
+    (c : tie.Then1) → (let a = c .before .before .before .before .before .before .before .before .before .before .args in
+    Plain (a .count) (a .words .now) × Clocked (a .count) (a .words .now))
 clocked c =
-    let a = c .before .before .before .before .before .before .before .before .before .before .args in
-    let check = c .before .before .before .check in
+    let after-check = c .before .before .before in
+    let start = after-check .before .before .before .before .before .before .before in
+    let a = start .args in
+    let check = after-check .check in
     accepted (a .count) (a .words .now) _ (check .result) (omega (arith, length-replicate {A = ℕ} (clockSize * maxFlows) 0)) (check .ensures .0) (c .if1 .taken)
 
 slice-aggregate-check : tie.Need-slice-aggregate-check
@@ -38,8 +42,10 @@ sub-replay c = search needs
 
 replay-requires : tie.Need-replay-requires
 replay-requires c κs =
-    let a = c .before .before .before .before .before .before .before .before .before .before .before .before .before .args in (
-      clocked (c .before .before .before) .0,
+    let then1 = c .before .before .before in
+    let start = then1 .before .before .before .before .before .before .before .before .before .before in
+    let a = start .args in (
+      clocked then1 .0,
       omega arith,
       window-fits windowTicks (a .count) (a .ticks) (windowTicks * a .count) (omega arith) (omega arith),
       record { width = 13; is = refl },
@@ -58,15 +64,20 @@ same-length-3 c = search needs
 
 returns : tie.Need-returns
 returns c =
-    let a = c .before .before .before .before .before .before .before .before .before .before .before .before .before .before .before .before .before .before .before .before .args in
-    let K = clocked (c .before .before .before .before .before .before .before .before .before .before) in
+    let after-replay = c .before .before .before .before .before .before in
+    let then1 = after-replay .before .before .before .before in
+    let start = then1 .before .before .before .before .before .before .before .before .before .before in
+    let a = start .args in
+    let K = clocked then1 in
     ran (a .count) (a .words .now) (a .log .now) (a .ticks) (a .marks .now) (a .values .now) (a .tallies .now) _ _ _ _ (K .0) (K .1)
-    (c .before .before .before .before .before .before .replay .ensures shortWindow refl)
+    (after-replay .replay .ensures shortWindow refl)
 
 returns-2 : tie.Need-returns-2
 returns-2 c =
-    let a = c .before .before .before .before .before .before .before .before .before .before .args in
-    let check = c .before .before .before .check in
+    let after-check = c .before .before .before in
+    let start = after-check .before .before .before .before .before .before .before in
+    let a = start .args in
+    let check = after-check .check in
     handed-on (a .count) (a .words .now) (a .log .now) (a .ticks) _ (a .marks .now) (a .values .now) (a .tallies .now) (check .result)
     (omega (arith, length-replicate {A = ℕ} (clockSize * maxFlows) 0)) (check .ensures .0) (c .if1 .left)
 

@@ -18,10 +18,12 @@ refusal-requires c κs = search needs
 
 returns : tie.Need-returns
 returns c =
+    let then1 = c .before in
+    let start = then1 .before .before .before .before .before .before in
     λ why e.
-    let a = c .before .before .before .before .before .before .before .args in
+    let a = start .args in
     too-many _ (a .log .now) (a .ticks) (a .most) (a .cells) (a .k) why (a .mask + 1) (a .n) (a .marks .now) (a .values .now) (a .tallies .now) _ (c .refusal .ensures)
-    (c .before .if1 .taken)
+    (then1 .if1 .taken)
 
 slice-aggregate-start : tie.Need-slice-aggregate-start
 slice-aggregate-start c = search needs
@@ -34,14 +36,16 @@ cast-inputs c = search needs
 
 mul-if2 : tie.Need-mul-if2
 mul-if2 c =
-    let s = c .before .before .before .before .before .before .before .before .before in
-    let a = s .args in
-    let T = plain-table (a .n) (a .words .now) (s .pre .0) in
-    let start = c .before .start in
-    let few = c .before .before .before .if1 .left in
+    let after-start = c .before in
+    let else1 = after-start .before .before in
+    let entry = else1 .before .before .before .before .before .before in
+    let a = entry .args in
+    let T = plain-table (a .n) (a .words .now) (entry .pre .0) in
+    let start = after-start .start in
+    let few = else1 .if1 .left in
     omega (
       arith,
-      place-small (a .ticks) (start .result) (2 ^ 24) (omega (arith, few, s .pre .1))
+      place-small (a .ticks) (start .result) (2 ^ 24) (omega (arith, few, entry .pre .1))
           (omega (arith, start .ensures .0, inputs-all (rowsIn (a .n) (a .words .now)), T .size, T .few)),
     )
 
@@ -50,66 +54,96 @@ refusal-requires-2 c κs = search needs
 
 returns-2 : tie.Need-returns-2
 returns-2 c =
+    let then2 = c .before in
+    let after-start = then2 .before .before in
+    let else1 = after-start .before .before in
+    let start = else1 .before .before .before .before .before .before in
     λ why e.
-    let a = c .before .before .before .before .before .before .before .before .before .before .before .args in
-    wrong-log _ (a .log .now) (a .ticks) (a .most) (a .cells) (a .k) why (a .mask + 1) (a .n) (a .marks .now) (a .values .now) (a .tallies .now) (c .before .before .before .before .before .if1 .left) _
-    (c .refusal2 .ensures) (λ q. c .before .if2 .taken (q ∙ ap (λ (i : ℕ). a .ticks * i) (sym (c .before .before .before .start .ensures .0))))
+    let a = start .args in
+    wrong-log _ (a .log .now) (a .ticks) (a .most) (a .cells) (a .k) why (a .mask + 1) (a .n) (a .marks .now) (a .values .now) (a .tallies .now) (else1 .if1 .left) _
+    (c .refusal2 .ensures) (λ q. then2 .if2 .taken (q ∙ ap (λ (i : ℕ). a .ticks * i) (sym (after-start .start .ensures .0))))
 
 refusal-requires-3 : tie.Need-refusal-requires-3
 refusal-requires-3 c κs = search needs
 
 returns-3 : tie.Need-returns-3
 returns-3 c =
+    let then3 = c .before in
+    let else2 = then3 .before in
+    let after-start = else2 .before .before in
+    let else1 = after-start .before .before in
+    let start = else1 .before .before .before .before .before .before in
     λ why e.
-    let a = c .before .before .before .before .before .before .before .before .before .before .before .before .args in
-    let log = c .before .before .if2 .left ∙ ap (λ (i : ℕ). a .ticks * i) (c .before .before .before .before .start .ensures .0) in
-    short-marks _ (a .log .now) (a .ticks) (a .most) (a .cells) (a .k) why (a .mask + 1) (a .n) (a .marks .now) (a .values .now) (a .tallies .now) (c .before .before .before .before .before .before .if1 .left) log _ _
-    (c .refusal3 .ensures) e (c .before .if3 .taken)
+    let a = start .args in
+    let log = else2 .if2 .left ∙ ap (λ (i : ℕ). a .ticks * i) (after-start .start .ensures .0) in
+    short-marks _ (a .log .now) (a .ticks) (a .most) (a .cells) (a .k) why (a .mask + 1) (a .n) (a .marks .now) (a .values .now) (a .tallies .now) (else1 .if1 .left) log _ _
+    (c .refusal3 .ensures) e (then3 .if3 .taken)
 
 refusal-requires-4 : tie.Need-refusal-requires-4
 refusal-requires-4 c κs = search needs
 
 returns-4 : tie.Need-returns-4
 returns-4 c =
+    let then4 = c .before in
+    let else3 = then4 .before in
+    let else2 = else3 .before in
+    let after-start = else2 .before .before in
+    let else1 = after-start .before .before in
+    let start = else1 .before .before .before .before .before .before in
     λ why e.
-    let a = c .before .before .before .before .before .before .before .before .before .before .before .before .before .args in
-    let log = c .before .before .before .if2 .left ∙ ap (λ (i : ℕ). a .ticks * i) (c .before .before .before .before .before .start .ensures .0) in
-    short-values _ (a .log .now) (a .ticks) (a .most) (a .cells) (a .k) why (a .mask + 1) (a .n) (a .marks .now) (a .values .now) (a .tallies .now) (c .before .before .before .before .before .before .before .if1 .left) log _ _
-    (c .refusal4 .ensures) e (c .before .before .if3 .left) (c .before .if4 .taken)
+    let a = start .args in
+    let log = else2 .if2 .left ∙ ap (λ (i : ℕ). a .ticks * i) (after-start .start .ensures .0) in
+    short-values _ (a .log .now) (a .ticks) (a .most) (a .cells) (a .k) why (a .mask + 1) (a .n) (a .marks .now) (a .values .now) (a .tallies .now) (else1 .if1 .left) log _ _
+    (c .refusal4 .ensures) e (else3 .if3 .left) (then4 .if4 .taken)
 
 mul-if5 : tie.Need-mul-if5
-mul-if5 c = let s = c .before .before .before .before .before .before .before .before .before .before .before .before in omega (arith, plain-table (s .args .n) (s .args .words .now) (s .pre .0) .few, s .pre .5)
+mul-if5 c =
+    let start = c .before .before .before .before .before .before .before .before .before .before .before .before in
+    omega (arith, plain-table (start .args .n) (start .args .words .now) (start .pre .0) .few, start .pre .5)
 
 refusal-requires-5 : tie.Need-refusal-requires-5
 refusal-requires-5 c κs = search needs
 
 returns-5 : tie.Need-returns-5
 returns-5 c =
+    let then5 = c .before in
+    let else4 = then5 .before in
+    let else3 = else4 .before in
+    let else2 = else3 .before in
+    let after-start = else2 .before .before in
+    let else1 = after-start .before .before in
+    let start = else1 .before .before .before .before .before .before in
     λ why e.
-    let a = c .before .before .before .before .before .before .before .before .before .before .before .before .before .before .args in
-    let log = c .before .before .before .before .if2 .left ∙ ap (λ (i : ℕ). a .ticks * i) (c .before .before .before .before .before .before .start .ensures .0) in
-    short-tallies _ (a .log .now) (a .ticks) (a .most) (a .cells) (a .k) why (a .mask + 1) (a .n) (a .marks .now) (a .values .now) (a .tallies .now) (c .before .before .before .before .before .before .before .before .if1 .left) log _ _
-    (c .refusal5 .ensures) e (c .before .before .before .if3 .left) (c .before .before .if4 .left) (c .before .if5 .taken)
+    let a = start .args in
+    let log = else2 .if2 .left ∙ ap (λ (i : ℕ). a .ticks * i) (after-start .start .ensures .0) in
+    short-tallies _ (a .log .now) (a .ticks) (a .most) (a .cells) (a .k) why (a .mask + 1) (a .n) (a .marks .now) (a .values .now) (a .tallies .now) (else1 .if1 .left) log _ _
+    (c .refusal5 .ensures) e (else3 .if3 .left) (else4 .if4 .left) (then5 .if5 .taken)
 
 slice-aggregate-run-from : tie.Need-slice-aggregate-run-from
 slice-aggregate-run-from c = search needs
 
 run-from-requires : tie.Need-run-from-requires
 run-from-requires c κs =
-    let s = c .before .before .before .before .before .before .before .before .before .before .before .before .before .before .before .before .before in
-    let a = s .args in
-    let start = c .before .before .before .before .before .before .before .before .before .start in (
-      s .pre .0,
-      longer (a .cells) (length (a .marks .now)) (c .before .before .before .before .before .before .if3 .left) (s .pre .2),
-      longer (a .cells) (length (a .values .now)) (c .before .before .before .before .before .if4 .left) (s .pre .2),
+    let else5 = c .before .before .before .before in
+    let else4 = else5 .before in
+    let else3 = else4 .before in
+    let after-start = else3 .before .before .before in
+    let else1 = after-start .before .before in
+    let entry = else1 .before .before .before .before .before .before in
+    let pre = entry .pre in
+    let a = entry .args in
+    let start = after-start .start in (
+      pre .0,
+      longer (a .cells) (length (a .marks .now)) (else3 .if3 .left) (pre .2),
+      longer (a .cells) (length (a .values .now)) (else4 .if4 .left) (pre .2),
       omega (arith, start .kept .1 .1 .0),
-      omega (arith, c .before .before .before .before .before .before .before .before .before .before .before .if1 .left, s .pre .1),
+      omega (arith, else1 .if1 .left, pre .1),
       start .ensures .0,
       start .ensures .1,
-      s .pre .3,
-      s .pre .4,
-      s .pre .5,
-      c .before .before .before .before .if5 .left,
+      pre .3,
+      pre .4,
+      pre .5,
+      else5 .if5 .left,
     )
 
 same-length : tie.Need-same-length
@@ -123,11 +157,19 @@ same-length-3 c = search needs
 
 returns-6 : tie.Need-returns-6
 returns-6 c =
+    let after-run-from = c .before .before .before .before .before .before .before in
+    let else5 = after-run-from .before .before .before .before .before in
+    let else4 = else5 .before in
+    let else3 = else4 .before in
+    let else2 = else3 .before in
+    let after-start = else2 .before .before in
+    let else1 = after-start .before .before in
+    let start = else1 .before .before .before .before .before .before in
     λ why e.
-    let a = c .before .before .before .before .before .before .before .before .before .before .before .before .before .before .before .before .before .before .before .before .before .before .before .before .before .args in
-    let log = c .before .before .before .before .before .before .before .before .before .before .before .before .before .before .before .if2 .left ∙ ap (λ (i : ℕ). a .ticks * i) (c .before .before .before .before .before .before .before .before .before .before .before .before .before .before .before .before .before .start .ensures .0) in
-    replayed _ (a .log .now) (a .ticks) (a .most) (a .cells) (a .k) why (a .mask + 1) (a .n) (a .marks .now) (a .values .now) (a .tallies .now) (c .before .before .before .before .before .before .before .before .before .before .before .before .before .before .before .before .before .before .before .if1 .left) log _ _ _ _
-    (c .before .before .before .before .before .before .before .before .before .before .before .before .before .before .if3 .left) (c .before .before .before .before .before .before .before .before .before .before .before .before .before .if4 .left) (c .before .before .before .before .before .before .before .before .before .before .before .before .if5 .left) (c .before .before .before .before .before .before .before .run-from .ensures)
+    let a = start .args in
+    let log = else2 .if2 .left ∙ ap (λ (i : ℕ). a .ticks * i) (after-start .start .ensures .0) in
+    replayed _ (a .log .now) (a .ticks) (a .most) (a .cells) (a .k) why (a .mask + 1) (a .n) (a .marks .now) (a .values .now) (a .tallies .now) (else1 .if1 .left) log _ _ _ _
+    (else3 .if3 .left) (else4 .if4 .left) (else5 .if5 .left) (after-run-from .run-from .ensures)
 
 pub replay-spec : {M : Type 1} → statement M
 replay-spec =

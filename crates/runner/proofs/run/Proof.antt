@@ -14,7 +14,10 @@ use Rattle.runner.proofs.run.Tie as tie
 
 -- the table is not refused
 plain : (c : tie.Then1) → (let a = c .before .before .before .before .before .before .before .args in Plain (a .count) (a .words .now))
-plain c = let a = c .before .before .before .before .before .before .before .args in let examine = c .before .before .examine in accepted (a .count) (a .words .now) (examine .result) (examine .ensures) (c .if1 .taken)
+plain c =
+    let after-examine = c .before .before in
+    let start = after-examine .before .before .before .before .before in
+    let a = start .args in let examine = after-examine .examine in accepted (a .count) (a .words .now) (examine .result) (examine .ensures) (c .if1 .taken)
 
 examine-requires : tie.Need-examine-requires
 examine-requires c κs = search needs
@@ -29,8 +32,10 @@ slice-aggregate-replay c = search needs
 
 replay-requires : tie.Need-replay-requires
 replay-requires c κs =
-    let a = c .before .before .before .before .before .before .before .before .before .before .args in (
-      plain (c .before .before .before),
+    let then1 = c .before .before .before in
+    let start = then1 .before .before .before .before .before .before .before in
+    let a = start .args in (
+      plain then1,
       omega arith,
       whole-fits (2 ^ 32) (a .count) (a .ticks) (a .ticks * a .count) (omega arith) (omega arith),
       record { width = 32; is = refl },
@@ -46,14 +51,19 @@ same-length-2 c = search needs
 
 returns : tie.Need-returns
 returns c =
-    let a = c .before .before .before .before .before .before .before .before .before .before .before .before .before .before .before .before .args in
-    ran (a .count) (a .words .now) (a .log .now) (a .ticks) (2 ^ 32) (a .marks .now) (a .values .now) _ _ _ _ _ (plain (c .before .before .before .before .before .before .before .before .before)) (omega arith)
-    (c .before .before .before .before .before .replay .ensures shortTrace refl)
+    let after-replay = c .before .before .before .before .before in
+    let then1 = after-replay .before .before .before .before in
+    let start = then1 .before .before .before .before .before .before .before in
+    let a = start .args in
+    ran (a .count) (a .words .now) (a .log .now) (a .ticks) (2 ^ 32) (a .marks .now) (a .values .now) _ _ _ _ _ (plain then1) (omega arith)
+    (after-replay .replay .ensures shortTrace refl)
 
 returns-2 : tie.Need-returns-2
 returns-2 c =
-    let a = c .before .before .before .before .before .before .before .args in
-    let examine = c .before .before .examine in
+    let after-examine = c .before .before in
+    let start = after-examine .before .before .before .before .before in
+    let a = start .args in
+    let examine = after-examine .examine in
     handed-on (a .count) (a .words .now) (a .log .now) (a .ticks) (a .marks .now) (a .values .now) (examine .result) (examine .ensures) (c .if1 .left)
 
 pub run-spec : {M : Type 1} → statement M

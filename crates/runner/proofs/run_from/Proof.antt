@@ -8,7 +8,9 @@ use Rattle.runner.proofs.run_from.Statement.{statement}
 use Rattle.runner.proofs.run_from.Tie as tie
 
 mul-clear : tie.Need-mul-clear
-mul-clear c = let s = c .before .before .before .before .before .before in omega (arith, plain-table (s .args .n) (s .args .words .now) (s .pre .0) .few, s .pre .9)
+mul-clear c =
+    let start = c .before .before .before .before .before .before in
+    omega (arith, plain-table (start .args .n) (start .args .words .now) (start .pre .0) .few, start .pre .9)
 
 clear-requires : tie.Need-clear-requires
 clear-requires c κs = search needs
@@ -18,8 +20,8 @@ slice-aggregate-listed c = search needs
 
 listed-requires : tie.Need-listed-requires
 listed-requires c κs =
-    let s = c .before .before .before .before .before .before .before .before .before .before .before in
-    let T = plain-table (s .args .n) (s .args .words .now) (s .pre .0) in
+    let start = c .before .before .before .before .before .before .before .before .before .before .before in
+    let T = plain-table (start .args .n) (start .args .words .now) (start .pre .0) in
     (T .few, T .words-size, T .few)
 
 slice-aggregate-listed-2 : tie.Need-slice-aggregate-listed-2
@@ -27,8 +29,8 @@ slice-aggregate-listed-2 c = search needs
 
 listed-requires-2 : tie.Need-listed-requires-2
 listed-requires-2 c κs =
-    let s = c .before .before .before .before .before .before .before .before .before .before .before .before .before .before in
-    let T = plain-table (s .args .n) (s .args .words .now) (s .pre .0) in
+    let start = c .before .before .before .before .before .before .before .before .before .before .before .before .before .before in
+    let T = plain-table (start .args .n) (start .args .words .now) (start .pre .0) in
     (T .few, T .words-size, T .few)
 
 slice-aggregate-run-ticks : tie.Need-slice-aggregate-run-ticks
@@ -39,23 +41,27 @@ slice-aggregate-run-ticks-2 c = search needs
 
 run-ticks-requires : tie.Need-run-ticks-requires
 run-ticks-requires c κs =
-    let s = c .before .before .before .before .before .before .before .before .before .before .before .before .before .before .before .before .before .before .before .before .before .before in
-    let a = s .args in
-    let clear = c .before .before .before .before .before .before .before .before .before .before .before .before .before .before .clear in
+    let after-listed2 = c .before .before .before .before .before .before .before in
+    let after-listed = after-listed2 .before .before .before in
+    let after-clear = after-listed .before .before .before .before in
+    let start = after-clear .before .before .before .before .before .before .before .before in
+    let pre = start .pre in
+    let a = start .args in
+    let clear = after-clear .clear in
     let z = clear .kept .1 .0 in (
-      s .pre .0,
-      s .pre .1,
-      s .pre .2,
-      s .pre .3,
-      c .before .before .before .before .before .before .before .before .before .before .listed .ensures,
-      c .before .before .before .before .before .before .before .listed2 .ensures,
-      s .pre .4,
-      s .pre .5,
-      s .pre .6,
-      s .pre .7,
-      s .pre .8,
-      s .pre .9,
-      omega (arith, z, s .pre .10),
+      pre .0,
+      pre .1,
+      pre .2,
+      pre .3,
+      after-listed .listed .ensures,
+      after-listed2 .listed2 .ensures,
+      pre .4,
+      pre .5,
+      pre .6,
+      pre .7,
+      pre .8,
+      pre .9,
+      omega (arith, z, pre .10),
       tallied-same (a .k) (a .tallies .now) _ (tallied-cleared (a .k) (a .tallies .now) _ z (clear .ensures)),
     )
 
@@ -73,10 +79,14 @@ same-length-4 c = search needs
 
 returns : tie.Need-returns
 returns c =
-    let a = c .before .before .before .before .before .before .before .before .before .before .before .before .before .before .before .before .before .before .before .before .before .before .before .before .before .before .before .before .before .before .before .args in
-    let clear = c .before .before .before .before .before .before .before .before .before .before .before .before .before .before .before .before .before .before .before .before .before .before .before .clear in
+    let after-run-ticks = c .before .before .before .before .before .before .before .before in
+    let after-laters2 = after-run-ticks .before .before .before .before .before .before .before in
+    let after-clear = after-laters2 .before .before .before .before .before .before .before .before in
+    let start = after-clear .before .before .before .before .before .before .before .before in
+    let a = start .args in
+    let clear = after-clear .clear in
     ran-from _ _ (a .n) (a .k) (a .ticks) (a .marks .now) (a .values .now) (a .tallies .now) _ _ _ _ _
-    (tallied-cleared (a .k) (a .tallies .now) _ (clear .kept .1 .0) (clear .ensures)) (c .before .before .before .before .before .before .before .before .run-ticks .ensures)
+    (tallied-cleared (a .k) (a .tallies .now) _ (clear .kept .1 .0) (clear .ensures)) (after-run-ticks .run-ticks .ensures)
 
 pub run-from-spec : {M : Type 1} → statement M
 run-from-spec =

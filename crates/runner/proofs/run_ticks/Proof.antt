@@ -36,122 +36,167 @@ fits : (c : tie.In-loop Inv-loop μ-loop)
     let l = c .before .loop in
     Fitting (s .args .mask + 1) (s .args .n) (l .t + 1) (length (l .marks)) × Fitting (s .args .mask + 1) (s .args .n) (l .t + 1) (length (l .values)))
 fits c =
-    let s = c .before .before .before .before .before .before .before .before .before .before in
-    let l = c .before .loop in
+    let at-loop = c .before in
+    let s = at-loop .before .before .before .before .before .before .before .before .before in
+    let args = s .args in
+    let l = at-loop .loop in
     let h = c .loop-test .taken in (
-      subst (Fitting (s .args .mask + 1) (s .args .n) (l .t + 1)) (sym (l .inv .2)) (fewer (l .t + 1) (omega arith) (s .pre .1)),
-      subst (Fitting (s .args .mask + 1) (s .args .n) (l .t + 1)) (sym (l .inv .3)) (fewer (l .t + 1) (omega arith) (s .pre .2)),
+      subst (Fitting (args .mask + 1) (args .n) (l .t + 1)) (sym (l .inv .2)) (fewer (l .t + 1) (omega arith) (s .pre .1)),
+      subst (Fitting (args .mask + 1) (args .n) (l .t + 1)) (sym (l .inv .3)) (fewer (l .t + 1) (omega arith) (s .pre .2)),
     )
 
 loop-holds : tie.Need-loop-holds Inv-loop μ-loop
 loop-holds c =
-    let s = c .before .before .before .before .before .before .before .before in
-    let a = s .args in
-    (omega arith, s .pre .3, refl, refl, refl, starts (a .n) (a .mask + 1) (a .k) _ (a .log .now) _ _ _ (a .state .now) (s .pre .8) (s .pre .13))
+    let start = c .before .before .before .before .before .before .before .before in
+    let pre = start .pre in
+    let a = start .args in
+    (omega arith, pre .3, refl, refl, refl, starts (pre .8) (pre .13))
 
 turn-requires : tie.Need-turn-requires Inv-loop μ-loop
 turn-requires c κs =
-    let s = c .before .before .before .before .before .before .before .before .before .before .before .before .before in
-    let l = c .before .before .before .before .loop in
-    let f = fits (c .before .before .before) in
-    let h = c .before .before .before .loop-test .taken in
-    (s .pre .0, f .0, f .1, l .inv .1, s .pre .4, s .pre .5, omega (arith, h, s .pre .6), s .pre .7, s .pre .9)
+    let in-loop = c .before .before .before in
+    let at-loop = in-loop .before in
+    let start = at-loop .before .before .before .before .before .before .before .before .before in
+    let pre = start .pre in
+    let l = at-loop .loop in
+    let f = fits in-loop in
+    let h = in-loop .loop-test .taken in
+    (pre .0, f .0, f .1, l .inv .1, pre .4, pre .5, omega (arith, h, pre .6), pre .7, pre .9)
 
 add-next : tie.Need-add-next Inv-loop μ-loop
-add-next c = omega (arith, c .before .before .before .before .before .before .before .before .before .before .loop-test .taken, c .before .before .before .before .before .before .before .before .before .before .before .before .before .before .before .before .before .before .before .before .pre .6)
+add-next c =
+    let in-loop = c .before .before .before .before .before .before .before .before .before .before in
+    let start = in-loop .before .before .before .before .before .before .before .before .before .before in
+    omega (arith, in-loop .loop-test .taken, start .pre .6)
 
 enum-known-done : tie.Need-enum-known-done Inv-loop μ-loop
 enum-known-done c = search needs
 
 cast-t27 : tie.Need-cast-t27 Inv-loop μ-loop
 cast-t27 c =
-    let s = c .before .before .before .before .before .before .before .before .before .before .before .before .before .before .before .before .before .before .before .before .before .before .before in
-    let a = s .args in
-    let l = c .before .before .before .before .before .before .before .before .before .before .before .before .before .before .loop in
+    let after-done = c .before in
+    let after-turn = after-done .before .before .before .before .before .before .before .before in
+    let in-loop = after-turn .before .before .before .before in
+    let at-loop = in-loop .before in
+    let start = at-loop .before .before .before .before .before .before .before .before .before in
+    let pre = start .pre in
+    let a = start .args in
+    let l = at-loop .loop in
     let R = l .inv .5 in
-    let in-window = recall (a .n) (a .mask + 1) (a .k) _ (a .log .now) (a .marks .now) (a .values .now) (a .tallies .now) (l .t) (a .ticks) (l .state) (l .marks) (l .values)
-    (l .tallies) R (l .inv .0) (omega (arith, s .pre .10)) (s .pre .1) (s .pre .2) in
-    let tick = c .before .before .before .before .before .before .before .before .before .turn .ensures (R .past) (R .ticks) in-window (R .carried) in
-    let stop = stops (a .n) (a .mask + 1) (a .k) _ (a .log .now) (a .marks .now) (a .values .now) (a .tallies .now) (l .t) (a .ticks) (l .state) (l .marks) (l .values)
-    (l .tallies) R _ _ _ _ (table-at s .size) tick _ (c .before .done .given .1) (c .before .before .before .before .before .before .before .before .before .before .before .before .before .loop-test .taken) in
-    omega (arith, stop .1, table-at s .few)
+    let in-window = recall (a .ticks) R (l .inv .0) (omega (arith, pre .10)) (pre .1) (pre .2) in
+    let tick = after-turn .turn .ensures (R .past) (R .ticks) in-window (R .carried) in
+    let stop = stops (a .ticks) R _ (table-at start .size) tick (after-done .done .given .1) (in-loop .loop-test .taken) in
+    omega (arith, stop .1, table-at start .few)
 
 same-length : tie.Need-same-length Inv-loop μ-loop
-same-length c = omega (arith, c .before .before .before .before .before .before .before .before .before .turn .kept .1 .1 .1 .1 .1 .1 .1 .1 .1 .1 .0, c .before .before .before .before .before .before .before .before .before .before .before .before .before .before .loop .inv .1, c .before .before .before .before .before .before .before .before .before .before .before .before .before .before .before .before .before .before .before .before .before .before .before .pre .3)
+same-length c =
+    let after-turn = c .before .before .before .before .before .before .before .before .before in
+    let at-loop = after-turn .before .before .before .before .before in
+    let start = at-loop .before .before .before .before .before .before .before .before .before in
+    omega (arith, after-turn .turn .kept .1 .1 .1 .1 .1 .1 .1 .1 .1 .1 .0, at-loop .loop .inv .1, start .pre .3)
 
 same-length-2 : tie.Need-same-length-2 Inv-loop μ-loop
-same-length-2 c = c .before .before .before .before .before .before .before .before .before .turn .kept .1 .1 .1 .1 .1 .1 .1 .1 .1 .1 .1 .0 ∙ c .before .before .before .before .before .before .before .before .before .before .before .before .before .before .loop .inv .2
+same-length-2 c =
+    let after-turn = c .before .before .before .before .before .before .before .before .before in
+    let at-loop = after-turn .before .before .before .before .before in
+    after-turn .turn .kept .1 .1 .1 .1 .1 .1 .1 .1 .1 .1 .1 .0 ∙ at-loop .loop .inv .2
 
 same-length-3 : tie.Need-same-length-3 Inv-loop μ-loop
-same-length-3 c = c .before .before .before .before .before .before .before .before .before .turn .kept .1 .1 .1 .1 .1 .1 .1 .1 .1 .1 .1 .1 .0 ∙ c .before .before .before .before .before .before .before .before .before .before .before .before .before .before .loop .inv .3
+same-length-3 c =
+    let after-turn = c .before .before .before .before .before .before .before .before .before in
+    let at-loop = after-turn .before .before .before .before .before in
+    after-turn .turn .kept .1 .1 .1 .1 .1 .1 .1 .1 .1 .1 .1 .1 .0 ∙ at-loop .loop .inv .3
 
 same-length-4 : tie.Need-same-length-4 Inv-loop μ-loop
-same-length-4 c = c .before .before .before .before .before .before .before .before .before .before .before .before .before .before .loop .inv .4
+same-length-4 c =
+    let at-loop = c .before .before .before .before .before .before .before .before .before .before .before .before .before .before in
+    at-loop .loop .inv .4
 
 returns : tie.Need-returns Inv-loop μ-loop
 returns c =
-    let s = c .before .before .before .before .before .before .before .before .before .before .before .before .before .before .before .before .before .before .before .before .before .before .before in
-    let a = s .args in
-    let l = c .before .before .before .before .before .before .before .before .before .before .before .before .before .before .loop in
+    let after-done = c .before in
+    let after-turn = after-done .before .before .before .before .before .before .before .before in
+    let in-loop = after-turn .before .before .before .before in
+    let at-loop = in-loop .before in
+    let start = at-loop .before .before .before .before .before .before .before .before .before in
+    let pre = start .pre in
+    let a = start .args in
+    let l = at-loop .loop in
     let R = l .inv .5 in
-    let in-window = recall (a .n) (a .mask + 1) (a .k) _ (a .log .now) (a .marks .now) (a .values .now) (a .tallies .now) (l .t) (a .ticks) (l .state) (l .marks) (l .values)
-    (l .tallies) R (l .inv .0) (omega (arith, s .pre .10)) (s .pre .1) (s .pre .2) in
-    let tick = c .before .before .before .before .before .before .before .before .before .turn .ensures (R .past) (R .ticks) in-window (R .carried) in
-    stops (a .n) (a .mask + 1) (a .k) _ (a .log .now) (a .marks .now) (a .values .now) (a .tallies .now) (l .t) (a .ticks) (l .state) (l .marks) (l .values) (l .tallies) R
-    _ _ _ _ (table-at s .size) tick _ (c .before .done .given .1) (c .before .before .before .before .before .before .before .before .before .before .before .before .before .loop-test .taken) .0
+    let in-window = recall (a .ticks) R (l .inv .0) (omega (arith, pre .10)) (pre .1) (pre .2) in
+    let tick = after-turn .turn .ensures (R .past) (R .ticks) in-window (R .carried) in
+    stops (a .ticks) R _ (table-at start .size) tick (after-done .done .given .1) (in-loop .loop-test .taken) .0
 
 enum-told : tie.Need-enum-told Inv-loop μ-loop
 enum-told c = search needs
 
 first-cell-requires : tie.Need-first-cell-requires Inv-loop μ-loop
-first-cell-requires c κs = let s = c .before .before .before .before .before .before .before .before .before .before .before .before .before .before .before .before .before .before .before .before .before .before in (s .pre .9, table-at s .few)
+first-cell-requires c κs =
+    let after-turn-arg = c .before .before .before .before .before .before .before .before .before .before .before in
+    let start = after-turn-arg .before .before .before .before .before .before .before .before .before .before .before in
+    (start .pre .9, table-at start .few)
 
 add-requires : tie.Need-add-requires Inv-loop μ-loop
 add-requires c κs =
-    let s = c .before .before .before .before .before .before .before .before .before .before .before .before .before .before .before .before .before .before .before .before .before .before .before .before .before .before in
-    let a = s .args in
-    let l = c .before .before .before .before .before .before .before .before .before .before .before .before .before .before .before .before .before .loop in
-    let f = fits (c .before .before .before .before .before .before .before .before .before .before .before .before .before .before .before .before) in
-    let first = c .before .before .before .first-cell .ensures in
-    let kept = c .before .before .before .before .before .before .before .before .before .before .before .before .turn .kept in (
-      omega (arith, s .pre .11, table-at s .few),
-      omega (arith, first, s .pre .11, f .0 .place (l .t) (omega arith), kept .1 .1 .1 .1 .1 .1 .1 .1 .1 .1 .1 .0),
-      omega (arith, first, s .pre .11, f .1 .place (l .t) (omega arith), kept .1 .1 .1 .1 .1 .1 .1 .1 .1 .1 .1 .1 .0),
-      omega (arith, s .pre .12, l .inv .4),
-      low (a .n) (a .mask + 1) (a .k) _ (a .log .now) (a .marks .now) (a .values .now) (a .tallies .now) (l .t) (a .ticks) (l .state) (l .marks) (l .values) (l .tallies)
-          (l .inv .5) (omega (arith, c .before .before .before .before .before .before .before .before .before .before .before .before .before .before .before .before .loop-test .taken, s .pre .6)),
+    let after-first-cell = c .before .before .before in
+    let after-turn = after-first-cell .before .before .before .before .before .before .before .before .before in
+    let in-loop = after-turn .before .before .before .before in
+    let at-loop = in-loop .before in
+    let start = at-loop .before .before .before .before .before .before .before .before .before in
+    let pre = start .pre in
+    let a = start .args in
+    let l = at-loop .loop in
+    let f = fits in-loop in
+    let first = after-first-cell .first-cell .ensures in
+    let kept = after-turn .turn .kept in (
+      omega (arith, pre .11, table-at start .few),
+      omega (arith, first, pre .11, f .0 .place (l .t) (omega arith), kept .1 .1 .1 .1 .1 .1 .1 .1 .1 .1 .1 .0),
+      omega (arith, first, pre .11, f .1 .place (l .t) (omega arith), kept .1 .1 .1 .1 .1 .1 .1 .1 .1 .1 .1 .1 .0),
+      omega (arith, pre .12, l .inv .4),
+      low (a .ticks) (l .inv .5) (omega (arith, in-loop .loop-test .taken, pre .6)),
     )
 
 loop-less : tie.Need-loop-less Inv-loop μ-loop
-loop-less c = omega (arith, c .before .before .before .before .before .before .before .before .before .before .before .before .before .before .before .before .before .before .before .loop-test .taken)
+loop-less c =
+    let after-slice-known7 = c .before .before .before .before .before .before .before .before .before in
+    let in-loop = after-slice-known7 .before .before .before .before .before .before .before .before .before .before in
+    omega (arith, in-loop .loop-test .taken)
 
 loop-again : tie.Need-loop-again Inv-loop μ-loop
 loop-again c =
-    let s = c .before .before .before .before .before .before .before .before .before .before .before .before .before .before .before .before .before .before .before .before .before .before .before .before .before .before .before .before .before in
-    let a = s .args in
-    let l = c .before .before .before .before .before .before .before .before .before .before .before .before .before .before .before .before .before .before .before .before .loop in
+    let after-add = c .before .before in
+    let after-first-cell = after-add .before .before .before .before in
+    let after-enum-told = after-first-cell .before in
+    let after-turn = after-enum-told .before .before .before .before .before .before .before .before in
+    let in-loop = after-turn .before .before .before .before in
+    let at-loop = in-loop .before in
+    let start = at-loop .before .before .before .before .before .before .before .before .before in
+    let pre = start .pre in
+    let a = start .args in
+    let l = at-loop .loop in
     let R = l .inv .5 in
-    let f = fits (c .before .before .before .before .before .before .before .before .before .before .before .before .before .before .before .before .before .before .before) in
-    let kept = c .before .before .before .before .before .before .before .before .before .before .before .before .before .before .before .turn .kept in
-    let add = c .before .before .add in
-    let in-window = recall (a .n) (a .mask + 1) (a .k) _ (a .log .now) (a .marks .now) (a .values .now) (a .tallies .now) (l .t) (a .ticks) (l .state) (l .marks) (l .values)
-    (l .tallies) R (l .inv .0) (omega (arith, s .pre .10)) (s .pre .1) (s .pre .2) in
-    let tick = c .before .before .before .before .before .before .before .before .before .before .before .before .before .before .before .turn .ensures (R .past) (R .ticks) in-window (R .carried) in (
-      omega (arith, c .before .before .before .before .before .before .before .before .before .before .before .before .before .before .before .before .before .before .before .loop-test .taken),
+    let f = fits in-loop in
+    let kept = after-turn .turn .kept in
+    let add = after-add .add in
+    let in-window = recall (a .ticks) R (l .inv .0) (omega (arith, pre .10)) (pre .1) (pre .2) in
+    let tick = after-turn .turn .ensures (R .past) (R .ticks) in-window (R .carried) in (
+      omega (arith, in-loop .loop-test .taken),
       omega (arith, kept .1 .1 .1 .1 .1 .1 .1 .1 .1 .1 .0, l .inv .1),
       kept .1 .1 .1 .1 .1 .1 .1 .1 .1 .1 .1 .0 ∙ l .inv .2,
       kept .1 .1 .1 .1 .1 .1 .1 .1 .1 .1 .1 .1 .0 ∙ l .inv .3,
       add .kept .1 .1 .1 .1 .0 ∙ l .inv .4,
-      goes-on (a .n) (a .mask + 1) (a .k) _ (a .log .now) (a .marks .now) (a .values .now) (a .tallies .now) (l .t) (a .ticks) (l .state) (l .marks) (l .values) (l .tallies) R
-          _ _ _ _ (table-at s .size) tick _ (c .before .before .before .before .before .before .before .enum-told .given .1) (s .pre .11) (f .0 .place (l .t) (omega arith)) (f .1 .place (l .t) (omega arith))
-          (rw (← c .before .before .before .before .before .before .first-cell .ensures) (add .ensures)) (add .kept .1 .1 .1 .1 .0),
+      goes-on (a .ticks) R _ (table-at start .size) tick (after-enum-told .enum-told .given .1) (pre .11) (f .0 .place (l .t) (omega arith)) (f .1 .place (l .t) (omega arith))
+          (rw (← after-first-cell .first-cell .ensures) (add .ensures)) (add .kept .1 .1 .1 .1 .0),
     )
 
 success-requires : tie.Need-success-requires Inv-loop μ-loop
 success-requires c κs = search needs
 
 same-length-5 : tie.Need-same-length-5 Inv-loop μ-loop
-same-length-5 c = c .before .before .loop .inv .1 ∙ sym (c .before .before .before .before .before .before .before .before .before .before .before .pre .3)
+same-length-5 c =
+    let at-loop = c .before .before in
+    let start = at-loop .before .before .before .before .before .before .before .before .before in
+    at-loop .loop .inv .1 ∙ sym (start .pre .3)
 
 same-length-6 : tie.Need-same-length-6 Inv-loop μ-loop
 same-length-6 c = c .before .before .loop .inv .2
@@ -164,11 +209,13 @@ same-length-8 c = c .before .before .loop .inv .4
 
 returns-2 : tie.Need-returns-2 Inv-loop μ-loop
 returns-2 c =
-    let a = c .before .before .before .before .before .before .before .before .before .before .before .args in
-    let l = c .before .before .loop in
+    let after-loop = c .before in
+    let at-loop = after-loop .before in
+    let start = at-loop .before .before .before .before .before .before .before .before .before in
+    let a = start .args in
+    let l = at-loop .loop in
     rw (c .success .ensures)
-    (ends (a .n) (a .mask + 1) (a .k) _ (a .log .now) (a .marks .now) (a .values .now) (a .tallies .now) (l .t) (a .ticks) (l .state) (l .marks) (l .values) (l .tallies)
-    (l .inv .5) (c .before .loop-test .left) (l .inv .0))
+    (ends (a .ticks) (l .inv .5) (after-loop .loop-test .left) (l .inv .0))
 
 pub run-ticks-spec : {M : Type 1} → statement M
 run-ticks-spec =

@@ -30,14 +30,16 @@ part-tick-end-2 c = search needs
 
 tick-requires : tie.Need-tick-requires
 tick-requires c κs =
-    let s = c .before .before .before .before .before .before .before .before .before in (
-      s .pre .0,
-      omega (arith, part-length (s .args .first) (s .args .marks .now), s .pre .1),
-      omega (arith, part-length (s .args .first) (s .args .values .now), s .pre .2),
-      s .pre .3,
-      s .pre .4,
-      s .pre .5,
-      s .pre .6,
+    let start = c .before .before .before .before .before .before .before .before .before in
+    let args = start .args in
+    let pre = start .pre in (
+      pre .0,
+      omega (arith, part-length (args .first) (args .marks .now), pre .1),
+      omega (arith, part-length (args .first) (args .values .now), pre .2),
+      pre .3,
+      pre .4,
+      pre .5,
+      pre .6,
     )
 
 same-length : tie.Need-same-length
@@ -51,11 +53,13 @@ same-length-3 c = search needs
 
 returns : tie.Need-returns
 returns c =
+    let after-tick = c .before .before .before .before .before .before in
+    let start = after-tick .before .before .before .before .before .before .before .before .before .before in
+    let args = start .args in
     λ past R.
-    let s = c .before .before .before .before .before .before .before .before .before .before .before .before .before .before .before .before in
-    let rows = rowsIn (s .args .n) (s .args .words .now) in
-    lent rows (s .args .t) (s .args .first) past (tickOf rows (s .args .log .now) past) (s .args .marks .now) (s .args .values .now) _ _ _ _
-    (c .before .before .before .before .before .before .tick .ensures past R)
+    let rows = rowsIn (args .n) (args .words .now) in
+    lent rows (args .t) (args .first) past (tickOf rows (args .log .now) past) (args .marks .now) (args .values .now) _ _ _ _
+    (after-tick .tick .ensures past R)
 
 pub tick-at-spec : {M : Type 1} → statement M
 tick-at-spec =

@@ -26,22 +26,29 @@ collect-requires : tie.Need-collect-requires
 collect-requires c κs = search needs
 
 first-cell-requires : tie.Need-first-cell-requires
-first-cell-requires c κs = let s = c .before .before .before .before .before .before .before .before .before .before .before .before .before in (s .pre .8, table-at s .few)
+first-cell-requires c κs =
+    let start = c .before .before .before .before .before .before .before .before .before .before .before .before .before in
+    (start .pre .8, table-at start .few)
 
 mul-at : tie.Need-mul-at
-mul-at c = omega (arith, small (c .before .before .before .before .before .before .before .before .before .before .before .before .before .before))
+mul-at c =
+    let start = c .before .before .before .before .before .before .before .before .before .before .before .before .before .before in
+    omega (arith, small start)
 
 tick-at-requires : tie.Need-tick-at-requires
 tick-at-requires c κs =
-    let s = c .before .before .before .before .before .before .before .before .before .before .before .before .before .before .before .before .before in
-    let first = c .before .before .before .first-cell .ensures in (
-      s .pre .0,
-      omega (arith, first, s .pre .1 .place (s .args .t) (omega arith)),
-      omega (arith, first, s .pre .2 .place (s .args .t) (omega arith)),
-      omega (arith, c .before .before .before .before .before .before .collect .kept .1 .1 .1 .1 .1 .1 .1 .1 .0, s .pre .3),
-      s .pre .4,
-      s .pre .6,
-      omega (arith, small s),
+    let after-first-cell = c .before .before .before in
+    let after-collect = after-first-cell .before .before .before in
+    let start = after-collect .before .before .before .before .before .before .before .before .before .before .before in
+    let pre = start .pre in
+    let first = after-first-cell .first-cell .ensures in (
+      pre .0,
+      omega (arith, first, pre .1 .place (start .args .t) (omega arith)),
+      omega (arith, first, pre .2 .place (start .args .t) (omega arith)),
+      omega (arith, after-collect .collect .kept .1 .1 .1 .1 .1 .1 .1 .1 .0, pre .3),
+      pre .4,
+      pre .6,
+      omega (arith, small start),
     )
 
 same-length : tie.Need-same-length
@@ -55,10 +62,13 @@ same-length-3 c = search needs
 
 returns : tie.Need-returns
 returns c =
+    let after-tick-at = c .before .before .before .before .before .before in
+    let after-first-cell = after-tick-at .before .before .before .before in
+    let after-collect = after-first-cell .before .before .before in
+    let start = after-collect .before .before .before .before .before .before .before .before .before .before .before in
     λ past z r C.
-    let s = c .before .before .before .before .before .before .before .before .before .before .before .before .before .before .before .before .before .before .before .before .before .before .before .before in
-    rw (← c .before .before .before .before .before .before .before .before .before .before .first-cell .ensures)
-    (c .before .before .before .before .before .before .tick-at .ensures past (c .before .before .before .before .before .before .before .before .before .before .before .before .before .collect .ensures past _ z (ap (λ (i : ℕ). s .args .t * i) (s .pre .7)) r C))
+    rw (← after-first-cell .first-cell .ensures)
+    (after-tick-at .tick-at .ensures past (after-collect .collect .ensures past _ z (ap (λ (i : ℕ). start .args .t * i) (start .pre .7)) r C))
 
 pub turn-spec : {M : Type 1} → statement M
 turn-spec =

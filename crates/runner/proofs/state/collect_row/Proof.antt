@@ -11,12 +11,17 @@ use Rattle.runner.proofs.state.collect_row.Statement.{statement}
 use Rattle.runner.proofs.state.collect_row.Tie as tie
 
 -- the earlier tick's cell is in marks and values
-fit : (c : tie.After-first-cell) → (let s = c .before .before .before .before .before in let i = c .first-cell .result + s .args .a in (i < length (s .args .marks .now)) × (i < length (s .args .values .now)))
+fit : (c : tie.After-first-cell) → (
+    let start = c .before .before .before .before .before in
+    let args = start .args in
+    let i = c .first-cell .result + args .a in (i < length (args .marks .now)) × (i < length (args .values .now)))
 fit c =
-    let s = c .before .before .before .before .before in
+    let start = c .before .before .before .before .before in
+    let args = start .args in
+    let pre = start .pre in
     let e = c .first-cell .ensures in
-    let h : s .args .t - s .args .d < s .args .t + 1 = omega arith in
-    (omega (arith, e, s .pre .1, s .pre .4 .place (s .args .t - s .args .d) h), omega (arith, e, s .pre .1, s .pre .5 .place (s .args .t - s .args .d) h))
+    let h : args .t - args .d < args .t + 1 = omega arith in
+    (omega (arith, e, pre .1, pre .4 .place (args .t - args .d) h), omega (arith, e, pre .1, pre .5 .place (args .t - args .d) h))
 
 first-cell-requires : tie.Need-first-cell-requires
 first-cell-requires c κs = search needs
@@ -28,7 +33,10 @@ shared-slice-read-state : tie.Need-shared-slice-read-state
 shared-slice-read-state c = omega (arith, fit (c .before))
 
 cast-state : tie.Need-cast-state
-cast-state c = let s = c .before .before .before .before .before .before in omega (arith, c .shared-slice-known3 .given (c .before .first-cell .result + s .args .a))
+cast-state c =
+    let after-first-cell = c .before in
+    let start = after-first-cell .before .before .before .before .before in
+    omega (arith, c .shared-slice-known3 .given (after-first-cell .first-cell .result + start .args .a))
 
 mul-state : tie.Need-mul-state
 mul-state c = search needs
@@ -56,8 +64,10 @@ mul-state-5 c = search needs
 
 slice-write-state-2 : tie.Need-slice-write-state-2
 slice-write-state-2 c =
-    let s = c .before .before .before .before .before .before .before in
-    omega (arith, length-set (s .args .state .now) (heldSize * s .args .f) (getD (s .args .marks .now) (c .before .before .first-cell .result + s .args .a) 0))
+    let after-first-cell = c .before .before in
+    let start = after-first-cell .before .before .before .before .before in
+    let args = start .args in
+    omega (arith, length-set (args .state .now) (heldSize * args .f) (getD (args .marks .now) (after-first-cell .first-cell .result + args .a) 0))
 
 mul-state-6 : tie.Need-mul-state-6
 mul-state-6 c = search needs
@@ -73,12 +83,15 @@ same-length c = search needs
 
 returns : tie.Need-returns
 returns c =
-    let s = c .before .before .before .before .before .before .before in
+    let after-first-cell = c .before .before in
+    let then1 = after-first-cell .before in
+    let start = then1 .before .before .before .before in
+    let args = start .args in
     record {
       cell =
-          rw (le-leb (s .args .d) (s .args .t) (c .before .before .before .if1 .taken), ← c .before .before .first-cell .ensures)
-          (ap (λ (w : Held). cellAt (w .x) (w .y)) (stored-two (s .args .state .now) (heldSize * s .args .f) _ _ (omega arith)));
-      others = λ g n. stored-two-other (s .args .state .now) (s .args .f) g _ _ n;
+          rw (le-leb (args .d) (args .t) (then1 .if1 .taken), ← after-first-cell .first-cell .ensures)
+          (ap (λ (w : Held). cellAt (w .x) (w .y)) (stored-two (args .state .now) (heldSize * args .f) _ _ (omega arith)));
+      others = λ g n. stored-two-other (args .state .now) (args .f) g _ _ n;
     }
 
 same-length-2 : tie.Need-same-length-2
@@ -86,12 +99,13 @@ same-length-2 c = search needs
 
 returns-2 : tie.Need-returns-2
 returns-2 c =
-    let s = c .before .before .before .before in
+    let start = c .before .before .before .before in
+    let args = start .args in
     record {
       cell =
-          rw (lt-leb (s .args .d) (s .args .t) (c .if1 .left))
-          (ap (λ (w : Held). cellAt (w .x) (w .y)) (stored (s .args .state .now) (heldSize * s .args .f) 0 (omega arith)));
-      others = λ g n. stored-other (s .args .state .now) (s .args .f) g 0 n;
+          rw (lt-leb (args .d) (args .t) (c .if1 .left))
+          (ap (λ (w : Held). cellAt (w .x) (w .y)) (stored (args .state .now) (heldSize * args .f) 0 (omega arith)));
+      others = λ g n. stored-other (args .state .now) (args .f) g 0 n;
     }
 
 pub collect-row-spec : {M : Type 1} → statement M

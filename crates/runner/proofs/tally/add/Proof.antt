@@ -28,15 +28,17 @@ fit : (c : tie.In-loop Inv-loop μ-loop)
     × (tallySize * l .f + 1 < length (l .tallies))
     × (getD (l .tallies) (tallySize * l .f) 0 < countLimit))
 fit c =
-    let s = c .before .before .before .before .before in
-    let l = c .before .loop in
+    let at-loop = c .before in
+    let s = at-loop .before .before .before .before in
+    let pre = s .pre in
+    let l = at-loop .loop in
     let t = c .loop-test .taken in (
       t,
-      s .pre .0,
-      omega (arith, s .pre .1),
-      omega (arith, s .pre .2),
-      omega (arith, s .pre .3, l .inv .1),
-      omega (arith, l .inv .2 .rest (tallySize * l .f) (omega arith), s .pre .4 .count (l .f) t),
+      pre .0,
+      omega (arith, pre .1),
+      omega (arith, pre .2),
+      omega (arith, pre .3, l .inv .1),
+      omega (arith, l .inv .2 .rest (tallySize * l .f) (omega arith), pre .4 .count (l .f) t),
     )
 
 loop-holds : tie.Need-loop-holds Inv-loop μ-loop
@@ -58,26 +60,36 @@ shared-slice-read-add-cell-2 : tie.Need-shared-slice-read-add-cell-2 Inv-loop μ
 shared-slice-read-add-cell-2 c = omega (arith, fit (c .before .before))
 
 add-cell-requires : tie.Need-add-cell-requires Inv-loop μ-loop
-add-cell-requires c κs = let h = fit (c .before .before .before) in (omega (arith, h .0, h .1), h .4, h .5)
+add-cell-requires c κs =
+    let in-loop = c .before .before .before in
+    let h = fit in-loop in (omega (arith, h .0, h .1), h .4, h .5)
 
 add-f : tie.Need-add-f Inv-loop μ-loop
-add-f c = omega (arith, fit (c .before .before .before .before .before .before))
+add-f c =
+    let in-loop = c .before .before .before .before .before .before in
+    omega (arith, fit in-loop)
 
 loop-less : tie.Need-loop-less Inv-loop μ-loop
-loop-less c = omega (arith, fit (c .before .before .before .before .before .before))
+loop-less c =
+    let in-loop = c .before .before .before .before .before .before in
+    omega (arith, fit in-loop)
 
 loop-again : tie.Need-loop-again Inv-loop μ-loop
 loop-again c =
-    let s = c .before .before .before .before .before .before .before .before .before .before .before in
-    let l = c .before .before .before .before .before .before .before .loop in
-    let h = fit (c .before .before .before .before .before .before) in
-    let e = c .before .before .add-cell .ensures in
-    let m = getD (s .args .marks .now) (s .args .first + l .f) 0 in
-    let v = getD (s .args .values .now) (s .args .first + l .f) 0 in (
+    let after-add-cell = c .before .before in
+    let in-loop = after-add-cell .before .before .before .before in
+    let at-loop = in-loop .before in
+    let start = at-loop .before .before .before .before in
+    let args = start .args in
+    let l = at-loop .loop in
+    let h = fit in-loop in
+    let e = after-add-cell .add-cell .ensures in
+    let m = getD (args .marks .now) (args .first + l .f) 0 in
+    let v = getD (args .values .now) (args .first + l .f) 0 in (
       omega (arith, h .0),
       ap length e ∙ taken-length (l .f) m v (l .tallies) ∙ l .inv .1,
       rw e
-          (counts-more (s .args .first) (l .f) m v (s .args .marks .now) (s .args .values .now) (s .args .tallies .now) (l .tallies) (h .4) refl refl (l .inv .2)),
+          (counts-more (args .first) (l .f) m v (args .marks .now) (args .values .now) (args .tallies .now) (l .tallies) (h .4) refl refl (l .inv .2)),
     )
 
 same-length : tie.Need-same-length Inv-loop μ-loop
@@ -85,10 +97,12 @@ same-length c = c .before .loop .inv .1
 
 returns : tie.Need-returns Inv-loop μ-loop
 returns c =
-    let s = c .before .before .before .before .before in
-    let l = c .before .loop in
-    let e : l .f ≡ s .args .k = omega (arith, l .inv .0, c .loop-test .left) in
-    subst (λ (i : ℕ). Counted (s .args .first) i (s .args .marks .now) (s .args .values .now) (s .args .tallies .now) (l .tallies)) e (l .inv .2)
+    let at-loop = c .before in
+    let start = at-loop .before .before .before .before in
+    let args = start .args in
+    let l = at-loop .loop in
+    let e : l .f ≡ args .k = omega (arith, l .inv .0, c .loop-test .left) in
+    subst (λ (i : ℕ). Counted (args .first) i (args .marks .now) (args .values .now) (args .tallies .now) (l .tallies)) e (l .inv .2)
 
 pub add-spec : {M : Type 1} → statement M
 add-spec =

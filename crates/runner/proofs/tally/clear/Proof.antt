@@ -40,10 +40,11 @@ same-length c = c .before .loop .inv .1
 
 returns : tie.Need-returns Inv-loop μ-loop
 returns c =
-    let s = c .before .before in
-    let l = c .before .loop in
-    let e : l .i ≡ s .args .n = omega arith in
-    subst (λ (k : ℕ). Cleared k (s .args .tallies .now) (l .tallies)) e (l .inv .2)
+    let at-loop = c .before in
+    let start = at-loop .before in
+    let l = at-loop .loop in
+    let e : l .i ≡ start .args .n = omega arith in
+    subst (λ (k : ℕ). Cleared k (start .args .tallies .now) (l .tallies)) e (l .inv .2)
 
 pub clear-spec : {M : Type 1} → statement M
 clear-spec =
