@@ -76,7 +76,7 @@ fn tick_at(
     )
 }
 
-// One turn of a run: what tick t needs of earlier ticks is collected, and the tick is worked out at its place.
+// One turn of a run: what tick t needs of earlier ticks is collected, and the tick is worked out from its first cell on.
 fn turn(
     n: usize,
     words: &[u32],
@@ -88,6 +88,7 @@ fn turn(
     inputs: usize,
     t: u32,
     mask: u32,
+    first: usize,
     state: &mut [u32],
     marks: &mut [u8],
     values: &mut [u32],
@@ -100,16 +101,16 @@ fn turn(
         × (Listed 10 n (now words) (now laters) «later_count»)
         × (t < 2 ^ 24)
         × (inputs ≡ runs.inputs (rowsIn n (now words)))
-        × (Mask mask) ⌝ }
+        × (Mask mask)
+        × (first ≡ firstCell (mask + 1) n t) ⌝ }
     ensures { λ r. ⌜ ((past : Ticks)
         → length past ≡ t
         → Recalls (mask + 1) n t past (now (marks .entry)) (now (values .entry))
         → AllCarry (rowsIn n (now (words .entry))) t past (now (state .entry))
-        → TickAt (firstCell (mask + 1) n t) (rowsIn n (now (words .entry))) t past (tickOf (rowsIn n (now (words .entry))) (now (log .entry)) past)
+        → TickAt first (rowsIn n (now (words .entry))) t past (tickOf (rowsIn n (now (words .entry))) (now (log .entry)) past)
         (now (marks .entry)) (now (values .entry)) (now (marks .exit)) (now (values .exit)) (now (state .exit)) r) ⌝ }
 {
     state::collect(laters, later_count, n, words, t, mask, marks, values, state);
-    let first = state::first_cell(t, mask, n);
     let at = (t as usize) * inputs;
     tick_at(
         first,
@@ -163,6 +164,8 @@ fn run_ticks(
 {
     let mut t: u32 = 0;
     while t < ticks {
+        let next = t + 1;
+        let first = state::first_cell(t, mask, n);
         let done = turn(
             n,
             words,
@@ -174,11 +177,11 @@ fn run_ticks(
             inputs,
             t,
             mask,
+            first,
             state,
             marks,
             values,
         );
-        let next = t + 1;
         match done {
             Ticked::Stopped(f) => {
                 return Answer {
@@ -190,7 +193,7 @@ fn run_ticks(
             }
             Ticked::Full => {}
         }
-        tally::add(state::first_cell(t, mask, n), k, marks, values, tallies);
+        tally::add(first, k, marks, values, tallies);
         t = next;
     }
     Answer::success(ticks)

@@ -52,31 +52,37 @@ loop-holds c =
     let a = start .args in
     (omega arith, pre .3, refl, refl, refl, starts (pre .8) (pre .13))
 
+add-next : tie.Need-add-next Inv-loop μ-loop
+add-next c =
+    let start = c .before .before .before .before .before .before .before .before .before .before in
+    omega (arith, c .loop-test .taken, start .pre .6)
+
+first-cell-requires : tie.Need-first-cell-requires Inv-loop μ-loop
+first-cell-requires c κs =
+    let start = c .before .before .before .before .before .before .before .before .before .before in
+    (start .pre .9, table-at start .few)
+
 turn-requires : tie.Need-turn-requires Inv-loop μ-loop
 turn-requires c κs =
-    let in-loop = c .before .before .before in
+    let after-first-cell = c .before .before .before in
+    let in-loop = after-first-cell .before in
     let at-loop = in-loop .before in
     let start = at-loop .before .before .before .before .before .before .before .before .before in
     let pre = start .pre in
     let l = at-loop .loop in
     let f = fits in-loop in
     let h = in-loop .loop-test .taken in
-    (pre .0, f .0, f .1, l .inv .1, pre .4, pre .5, omega (arith, h, pre .6), pre .7, pre .9)
-
-add-next : tie.Need-add-next Inv-loop μ-loop
-add-next c =
-    let in-loop = c .before .before .before .before .before .before .before .before .before .before in
-    let start = in-loop .before .before .before .before .before .before .before .before .before .before in
-    omega (arith, in-loop .loop-test .taken, start .pre .6)
+    (pre .0, f .0, f .1, l .inv .1, pre .4, pre .5, omega (arith, h, pre .6), pre .7, pre .9, after-first-cell .first-cell .ensures)
 
 enum-known-done : tie.Need-enum-known-done Inv-loop μ-loop
 enum-known-done c = search needs
 
-cast-t27 : tie.Need-cast-t27 Inv-loop μ-loop
-cast-t27 c =
+cast-t28 : tie.Need-cast-t28 Inv-loop μ-loop
+cast-t28 c =
     let after-done = c .before in
     let after-turn = after-done .before .before .before .before .before .before .before .before in
-    let in-loop = after-turn .before .before .before .before in
+    let after-first-cell = after-turn .before .before .before .before in
+    let in-loop = after-first-cell .before in
     let at-loop = in-loop .before in
     let start = at-loop .before .before .before .before .before .before .before .before .before in
     let pre = start .pre in
@@ -84,39 +90,41 @@ cast-t27 c =
     let l = at-loop .loop in
     let R = l .inv .5 in
     let in-window = recall (a .ticks) R (l .inv .0) (omega (arith, pre .10)) (pre .1) (pre .2) in
-    let tick = after-turn .turn .ensures (R .past) (R .ticks) in-window (R .carried) in
+    let tick = rw (after-first-cell .first-cell .ensures) at (after-turn .turn .ensures (R .past) (R .ticks) in-window (R .carried)) in
     let stop = stops (a .ticks) R _ (table-at start .size) tick (after-done .done .given .1) (in-loop .loop-test .taken) in
     omega (arith, stop .1, table-at start .few)
 
 same-length : tie.Need-same-length Inv-loop μ-loop
 same-length c =
     let after-turn = c .before .before .before .before .before .before .before .before .before in
-    let at-loop = after-turn .before .before .before .before .before in
+    let at-loop = after-turn .before .before .before .before .before .before in
     let start = at-loop .before .before .before .before .before .before .before .before .before in
-    omega (arith, after-turn .turn .kept .1 .1 .1 .1 .1 .1 .1 .1 .1 .1 .0, at-loop .loop .inv .1, start .pre .3)
+    omega (arith, after-turn .turn .kept .1 .1 .1 .1 .1 .1 .1 .1 .1 .1 .1 .0, at-loop .loop .inv .1, start .pre .3)
 
 same-length-2 : tie.Need-same-length-2 Inv-loop μ-loop
 same-length-2 c =
     let after-turn = c .before .before .before .before .before .before .before .before .before in
-    let at-loop = after-turn .before .before .before .before .before in
-    after-turn .turn .kept .1 .1 .1 .1 .1 .1 .1 .1 .1 .1 .1 .0 ∙ at-loop .loop .inv .2
+    let at-loop = after-turn .before .before .before .before .before .before in
+    after-turn .turn .kept .1 .1 .1 .1 .1 .1 .1 .1 .1 .1 .1 .1 .0 ∙ at-loop .loop .inv .2
 
 same-length-3 : tie.Need-same-length-3 Inv-loop μ-loop
 same-length-3 c =
     let after-turn = c .before .before .before .before .before .before .before .before .before in
-    let at-loop = after-turn .before .before .before .before .before in
-    after-turn .turn .kept .1 .1 .1 .1 .1 .1 .1 .1 .1 .1 .1 .1 .0 ∙ at-loop .loop .inv .3
+    let at-loop = after-turn .before .before .before .before .before .before in
+    after-turn .turn .kept .1 .1 .1 .1 .1 .1 .1 .1 .1 .1 .1 .1 .1 .0 ∙ at-loop .loop .inv .3
 
 same-length-4 : tie.Need-same-length-4 Inv-loop μ-loop
 same-length-4 c =
-    let at-loop = c .before .before .before .before .before .before .before .before .before .before .before .before .before .before in
+    let after-slice-known5 = c .before .before .before .before .before .before .before in
+    let at-loop = after-slice-known5 .before .before .before .before .before .before .before .before in
     at-loop .loop .inv .4
 
 returns : tie.Need-returns Inv-loop μ-loop
 returns c =
     let after-done = c .before in
     let after-turn = after-done .before .before .before .before .before .before .before .before in
-    let in-loop = after-turn .before .before .before .before in
+    let after-first-cell = after-turn .before .before .before .before in
+    let in-loop = after-first-cell .before in
     let at-loop = in-loop .before in
     let start = at-loop .before .before .before .before .before .before .before .before .before in
     let pre = start .pre in
@@ -124,23 +132,17 @@ returns c =
     let l = at-loop .loop in
     let R = l .inv .5 in
     let in-window = recall (a .ticks) R (l .inv .0) (omega (arith, pre .10)) (pre .1) (pre .2) in
-    let tick = after-turn .turn .ensures (R .past) (R .ticks) in-window (R .carried) in
+    let tick = rw (after-first-cell .first-cell .ensures) at (after-turn .turn .ensures (R .past) (R .ticks) in-window (R .carried)) in
     stops (a .ticks) R _ (table-at start .size) tick (after-done .done .given .1) (in-loop .loop-test .taken) .0
 
 enum-told : tie.Need-enum-told Inv-loop μ-loop
 enum-told c = search needs
 
-first-cell-requires : tie.Need-first-cell-requires Inv-loop μ-loop
-first-cell-requires c κs =
-    let after-turn-arg = c .before .before .before .before .before .before .before .before .before .before .before in
-    let start = after-turn-arg .before .before .before .before .before .before .before .before .before .before .before in
-    (start .pre .9, table-at start .few)
-
 add-requires : tie.Need-add-requires Inv-loop μ-loop
 add-requires c κs =
-    let after-first-cell = c .before .before .before in
-    let after-turn = after-first-cell .before .before .before .before .before .before .before .before .before in
-    let in-loop = after-turn .before .before .before .before in
+    let after-turn = c .before .before .before .before .before .before .before .before .before .before .before in
+    let after-first-cell = after-turn .before .before .before .before in
+    let in-loop = after-first-cell .before in
     let at-loop = in-loop .before in
     let start = at-loop .before .before .before .before .before .before .before .before .before in
     let pre = start .pre in
@@ -150,25 +152,25 @@ add-requires c κs =
     let first = after-first-cell .first-cell .ensures in
     let kept = after-turn .turn .kept in (
       omega (arith, pre .11, table-at start .few),
-      omega (arith, first, pre .11, f .0 .place (l .t) (omega arith), kept .1 .1 .1 .1 .1 .1 .1 .1 .1 .1 .1 .0),
-      omega (arith, first, pre .11, f .1 .place (l .t) (omega arith), kept .1 .1 .1 .1 .1 .1 .1 .1 .1 .1 .1 .1 .0),
+      omega (arith, first, pre .11, f .0 .place (l .t) (omega arith), kept .1 .1 .1 .1 .1 .1 .1 .1 .1 .1 .1 .1 .0),
+      omega (arith, first, pre .11, f .1 .place (l .t) (omega arith), kept .1 .1 .1 .1 .1 .1 .1 .1 .1 .1 .1 .1 .1 .0),
       omega (arith, pre .12, l .inv .4),
       low (a .ticks) (l .inv .5) (omega (arith, in-loop .loop-test .taken, pre .6)),
     )
 
 loop-less : tie.Need-loop-less Inv-loop μ-loop
 loop-less c =
-    let after-slice-known7 = c .before .before .before .before .before .before .before .before .before in
-    let in-loop = after-slice-known7 .before .before .before .before .before .before .before .before .before .before in
+    let after-values = c .before .before .before .before .before .before .before .before .before in
+    let in-loop = after-values .before .before .before .before .before .before .before .before .before .before in
     omega (arith, in-loop .loop-test .taken)
 
 loop-again : tie.Need-loop-again Inv-loop μ-loop
 loop-again c =
     let after-add = c .before .before in
-    let after-first-cell = after-add .before .before .before .before in
-    let after-enum-told = after-first-cell .before in
+    let after-enum-told = after-add .before .before .before .before in
     let after-turn = after-enum-told .before .before .before .before .before .before .before .before in
-    let in-loop = after-turn .before .before .before .before in
+    let after-first-cell = after-turn .before .before .before .before in
+    let in-loop = after-first-cell .before in
     let at-loop = in-loop .before in
     let start = at-loop .before .before .before .before .before .before .before .before .before in
     let pre = start .pre in
@@ -179,11 +181,11 @@ loop-again c =
     let kept = after-turn .turn .kept in
     let add = after-add .add in
     let in-window = recall (a .ticks) R (l .inv .0) (omega (arith, pre .10)) (pre .1) (pre .2) in
-    let tick = after-turn .turn .ensures (R .past) (R .ticks) in-window (R .carried) in (
+    let tick = rw (after-first-cell .first-cell .ensures) at (after-turn .turn .ensures (R .past) (R .ticks) in-window (R .carried)) in (
       omega (arith, in-loop .loop-test .taken),
-      omega (arith, kept .1 .1 .1 .1 .1 .1 .1 .1 .1 .1 .0, l .inv .1),
-      kept .1 .1 .1 .1 .1 .1 .1 .1 .1 .1 .1 .0 ∙ l .inv .2,
-      kept .1 .1 .1 .1 .1 .1 .1 .1 .1 .1 .1 .1 .0 ∙ l .inv .3,
+      omega (arith, kept .1 .1 .1 .1 .1 .1 .1 .1 .1 .1 .1 .0, l .inv .1),
+      kept .1 .1 .1 .1 .1 .1 .1 .1 .1 .1 .1 .1 .0 ∙ l .inv .2,
+      kept .1 .1 .1 .1 .1 .1 .1 .1 .1 .1 .1 .1 .1 .0 ∙ l .inv .3,
       add .kept .1 .1 .1 .1 .0 ∙ l .inv .4,
       goes-on (a .ticks) R _ (table-at start .size) tick (after-enum-told .enum-told .given .1) (pre .11) (f .0 .place (l .t) (omega arith)) (f .1 .place (l .t) (omega arith))
           (rw (← after-first-cell .first-cell .ensures) (add .ensures)) (add .kept .1 .1 .1 .1 .0),
@@ -224,17 +226,17 @@ run-ticks-spec =
     Inv-loop
     μ-loop
     loop-holds
-    turn-requires
     add-next
+    first-cell-requires
+    turn-requires
     enum-known-done
-    cast-t27
+    cast-t28
     same-length
     same-length-2
     same-length-3
     same-length-4
     returns
     enum-told
-    first-cell-requires
     add-requires
     loop-less
     loop-again

@@ -25,23 +25,17 @@ small c =
 collect-requires : tie.Need-collect-requires
 collect-requires c κs = search needs
 
-first-cell-requires : tie.Need-first-cell-requires
-first-cell-requires c κs =
-    let start = c .before .before .before .before .before .before .before .before .before .before .before .before .before in
-    (start .pre .8, table-at start .few)
-
 mul-at : tie.Need-mul-at
 mul-at c =
-    let start = c .before .before .before .before .before .before .before .before .before .before .before .before .before .before in
+    let start = c .before .before .before .before .before .before .before .before .before .before .before .before .before in
     omega (arith, small start)
 
 tick-at-requires : tie.Need-tick-at-requires
 tick-at-requires c κs =
-    let after-first-cell = c .before .before .before in
-    let after-collect = after-first-cell .before .before .before in
+    let after-collect = c .before .before .before .before .before in
     let start = after-collect .before .before .before .before .before .before .before .before .before .before .before in
     let pre = start .pre in
-    let first = after-first-cell .first-cell .ensures in (
+    let first = pre .9 in (
       pre .0,
       omega (arith, first, pre .1 .place (start .args .t) (omega arith)),
       omega (arith, first, pre .2 .place (start .args .t) (omega arith)),
@@ -63,19 +57,16 @@ same-length-3 c = search needs
 returns : tie.Need-returns
 returns c =
     let after-tick-at = c .before .before .before .before .before .before in
-    let after-first-cell = after-tick-at .before .before .before .before in
-    let after-collect = after-first-cell .before .before .before in
+    let after-collect = after-tick-at .before .before .before .before .before .before in
     let start = after-collect .before .before .before .before .before .before .before .before .before .before .before in
     λ past z r C.
-    rw (← after-first-cell .first-cell .ensures)
-    (after-tick-at .tick-at .ensures past (after-collect .collect .ensures past _ z (ap (λ (i : ℕ). start .args .t * i) (start .pre .7)) r C))
+    after-tick-at .tick-at .ensures past (after-collect .collect .ensures past _ z (ap (λ (i : ℕ). start .args .t * i) (start .pre .7)) r C)
 
 pub turn-spec : {M : Type 1} → statement M
 turn-spec =
     tie.close
     (tie.spec
     collect-requires
-    first-cell-requires
     mul-at
     tick-at-requires
     same-length
