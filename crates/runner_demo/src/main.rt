@@ -1,10 +1,13 @@
 // Runs some plans and writes, for each, its title, a line with the answer's number, flow, tick and count, and a line with some cells of the
-// trace, mark and value. The trace holds 9 where nothing was written.
+// trace, mark and value; of a long run also the tallies. Trace, window and tallies hold 9 where nothing was written.
 use libc::STDOUT_FILENO;
 use table::Answer;
 
 // Room for the trace of every plan here, and some cells more.
 const ROOM: usize = 36;
+
+// Room for the window of two flows, and a cell more.
+const WINDOW: usize = 2 * 8192 + 1;
 
 // Some text, and a number after it.
 fn part(before: &[u8], n: u32) {
@@ -66,6 +69,30 @@ fn plan_k() {
     shown(b"K\n", 2, &words, &log, 5, 0, 11);
 }
 
+// Plan K for a tick more than the window has: tick 8,192 stands where tick 0 stood.
+fn long_k() {
+    let words = [0, 2, 0, 0, 7, 7, 0, 0];
+    let mut log = [0u32; 8193];
+    log[0] = 3;
+    log[8190] = 4;
+    log[8192] = 5;
+    let mut marks = [9u8; WINDOW];
+    let mut values = [9u32; WINDOW];
+    let mut tallies = [9u32; 5];
+    let a = runner::long_run(2, &words, &log, 8193, &mut marks, &mut values, &mut tallies);
+    io::write_all(STDOUT_FILENO, b"K, long, 8193 ticks\n");
+    answer(a);
+    io::write_all(STDOUT_FILENO, b"\n");
+    cells(&marks, &values, 0, 6);
+    cells(&marks, &values, 16380, 16385);
+    part(b"\n ", tallies[0]);
+    part(b" ", tallies[1]);
+    part(b" ", tallies[2]);
+    part(b" ", tallies[3]);
+    part(b" ", tallies[4]);
+    io::write_all(STDOUT_FILENO, b"\n");
+}
+
 // A refusal of the table names its row and leaves all.
 fn unknown_kind() {
     let words = [0, 1, 0, 0, 16, 0, 0, 0];
@@ -76,5 +103,6 @@ fn unknown_kind() {
 fn main() {
     plan_d();
     plan_k();
+    long_k();
     unknown_kind();
 }
