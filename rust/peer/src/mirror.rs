@@ -93,7 +93,8 @@ pub fn long_run(
     run_ticks(rows, inputs, log, ticks, WINDOW - 1, rows.len(), marks, values, tallies)
 }
 
-/// The ticks from 0 on, each at the place that the mask leaves of it. The first flows, so many, are tallied.
+/// The ticks from 0 on, each at the place that the mask leaves of it. The first flows, so many, are tallied; a tick that
+/// clashed is not, since only the run can clash.
 #[allow(clippy::too_many_arguments)]
 fn run_ticks(
     rows: &[Row],
@@ -116,11 +117,7 @@ fn run_ticks(
         let (marks, values) = (&mut marks[first..], &mut values[first..]);
         match tick(rows, registers.flows(), log, at, t, &mut state, marks, values) {
             Ticked::Full => tally(tallied, marks, values, tallies),
-            Ticked::Stopped(flow) => {
-                let worked_out = if rows[flow][0] == 7 { rows.len() } else { flow };
-                tally(tallied.min(worked_out), marks, values, tallies);
-                return Answer { number: 34, flow: flow as u32, tick: t, count: 0 };
-            }
+            Ticked::Stopped(flow) => return Answer { number: 34, flow: flow as u32, tick: t, count: 0 },
         }
     }
     Answer::success(ticks as usize)
