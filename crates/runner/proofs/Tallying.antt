@@ -1,11 +1,11 @@
 -- The tallies after a tick, and the loops that clear and add. Assumes nothing.
 use mathlib.Core.Path.{_≡_, refl, sym, _∙_, ap, subst}
-use Prim.Native.Nat.{ℕ, suc, _+_, _*_, _^_, _≤_, _<_}
+use Prim.Native.Nat.{ℕ, _+_, _*_, _^_, _≤_, _<_}
 use native.Mathlib.Omega.{arith}
 use native.Mathlib.Nat.{eq-or-lt-of-le}
 use mathlib.Core.Bool.{cond}
 use mathlib.Core.Logic.{⊎-elim}
-use mathlib.Core.List.{List, [], _∷_, map}
+use mathlib.Core.List.{List, [], _∷_}
 use lib.Seq.{getD-set-same, getD-set-other}
 use lib.ListN.{length, getD, set, length-set}
 use lib.Dec.{eqb}
@@ -16,7 +16,7 @@ use Rattle.semantics.specs.Runs.{Tick, Ticks, cellIn, Ran}
 use Rattle.semantics.specs.Answers.{markByte}
 use Rattle.semantics.specs.Windows.{tallySize, Tallied}
 use Rattle.semantics.proofs.Tallies.{tallied-more, tallied-none, tallied-from, tally-few}
-use Rattle.runner.specs.Private.Placed.{splice, WroteAt, Cleared, Low, Counted, RanTo}
+use Rattle.runner.specs.Private.Placed.{WroteAt, Cleared, Low, Counted, RanTo}
 use Rattle.runner.proofs.Placing.{cell-at}
 
 by-mark : (c : Cell) (a b : ℕ) → cond (eqb (markByte c) 0) a b ≡ cond (mark c) b a

@@ -1,7 +1,7 @@
 // The runs: each flow's cell at each tick, or a clash. A run has room for every tick, a long run for a window of them.
 ghost use mathlib.Core.Path.{_≡_};
-ghost use Prim.Native.Nat.{ℕ, _+_, _*_, _≤_, _<_, _^_};
-ghost use mathlib.Core.List.{List, []};
+ghost use Prim.Native.Nat.{_+_, _*_, _≤_, _<_, _^_};
+ghost use mathlib.Core.List.{[]};
 ghost use lib.ListN.{length};
 ghost use Rattle.table.specs.Answers.{Refusal, number};
 ghost use Rattle.table.specs.Rows.{maxField};

@@ -8,7 +8,7 @@ use Rattle.runner.specs.Private.Placed.{Fitting}
 use Rattle.table.proofs.Tables.{Table}
 use lib.ListN.{length}
 use borrow.Author.Needs.{needs}
-use Prim.Native.Nat.{ℕ, _+_, _-_, _≤_}
+use Prim.Native.Nat.{_+_, _-_, _≤_}
 use mathlib.Core.Path.{_≡_, refl, sym, _∙_, subst}
 use native.Mathlib.Omega.{arith}
 use Rattle.runner.proofs.run_ticks.Statement.{statement}
