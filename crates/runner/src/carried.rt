@@ -3,7 +3,8 @@
 ghost use mathlib.Core.Path.{_≡_};
 ghost use Prim.Native.Nat.{ℕ, _+_, _*_, _≤_, _<_, _^_};
 ghost use lib.ListN.{length, getD};
-ghost use Rattle.runner.specs.Private.Carried.{outcomeOf, cellsIn, heldSize, heldIn, Did, timedStep, timedNext, fasterStep, fasterNext, begun, slowerStep, slowerNext, laterStep, afterStep, afterNext, headStep, headNext, tailStep, tailNext};
+ghost use Rattle.runner.specs.Private.Carried.{outcomeOf, cellsIn, heldSize, heldIn, Did, timedStep, timedNext, fasterStep, fasterNext, begun};
+ghost use Rattle.runner.specs.Private.Carried.{slowerStep, slowerNext, laterStep, afterStep, afterNext, headStep, headNext, tailStep, tailNext};
 ghost use Rattle.semantics.specs.Operators.{is};
 ghost use Rattle.semantics.specs.Cells.{absent, present};
 use crate::operators::ABSENT;
