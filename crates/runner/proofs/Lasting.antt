@@ -6,13 +6,12 @@ use mathlib.Core.Bool.{_&&_}
 use mathlib.Core.List.{List}
 use lib.ListN.{length}
 use lib.Dec.{leb, eqb}
-use borrow.Author.Tests.{leb-true}
 use Rattle.table.specs.declared.Answer.{Answer}
 use Rattle.table.specs.Answers.{Refusal, tooManyTicks, wrongLog, shortWindow, Result, good, refused, unless, then, answer}
 use Rattle.table.specs.Rows.{Row, maxFlows}
 use Rattle.table.specs.Plain.{tableOf, rowsIn as goodRows}
 use Rattle.table.proofs.AnswerLaws.{answer-zero, answer-other}
-use Rattle.table.proofs.Tests.{and-left, and-right, not-good, good-inj, unless-good}
+use Rattle.table.proofs.Tests.{not-good}
 use Rattle.table.proofs.Tables.{AllFit, table-made}
 use Rattle.checker.specs.Clocks.{Clock}
 use Rattle.checker.specs.Rules.{clocksOf}
@@ -28,6 +27,7 @@ use Rattle.runner.specs.Private.Ready.{rowsIn, Plain, Clocked}
 use Rattle.runner.specs.Private.Placed.{placed, RanTo, testing, Replayed}
 use Rattle.runner.proofs.Tabled.{plain-table}
 use Rattle.runner.proofs.Placing.{windowed, window-fits}
+use Rattle.runner.proofs.Replaying.{granted}
 
 -- what a call leaves, by what its run comes to
 called : (m : ℕ) (words log : List ℕ) (ticks : ℕ) (ms vs ts ms′ vs′ ts′ : List ℕ) (r : Answer) (x : Result Ran)
@@ -41,7 +41,8 @@ finished : (m : ℕ) (words log : List ℕ) (ticks : ℕ) → Plain m words → 
 unfolding Clocked
 finished m words log ticks P K =
     let T = plain-table m words P in
-    unclashed (rowsIn m words) (K .0) (subst (λ (k : ℕ). AllFit k 0 (rowsIn m words)) (sym (T .size)) (T .fits)) (K .1) log ticks
+    let u = unclashed (rowsIn m words) (K .0) (subst (λ (k : ℕ). AllFit k 0 (rowsIn m words)) (sym (T .size)) (T .fits)) (K .1) log ticks in
+    (u .0, u .1)
 
 -- a run into a window: what it leaves are window and tallies of a run to its end
 module _ (m : ℕ) (words log : List ℕ) (ticks : ℕ) (ms vs ts ms′ vs′ ts′ : List ℕ) (r : Answer) (P : Plain m words) (K : Clocked m words) where
@@ -49,23 +50,6 @@ module _ (m : ℕ) (words log : List ℕ) (ticks : ℕ) (ms vs ts ms′ vs′ ts
       ≡ testing (rowsIn m words) log ticks maxLongTicks (windowTicks * m) m shortWindow (length ms) (length vs) (length ts)
   unfolding lasting Plain Clocked testing
   tests = rw (P, K .1)
-
-  -- a run that is not refused comes to its end, and has room for its window
-  granted : (x : Ran) → testing (rowsIn m words) log ticks maxLongTicks (windowTicks * m) m shortWindow (length ms) (length vs) (length ts) ≡ good x
-      → (x ≡ done (finished m words log ticks P K .0)) × (windowTicks * m ≤ length ms) × (windowTicks * m ≤ length vs)
-  unfolding testing
-  granted x e =
-      let in-marks = leb (windowTicks * m) (length ms) in
-      let in-values = leb (windowTicks * m) (length vs) in
-      let in-tallies = leb (tallySize * m) (length ts) in
-      let a = unless-good (leb ticks maxLongTicks) tooManyTicks 0 _ x e in
-      let b = unless-good (eqb (length log) (ticks * inputs (rowsIn m words))) wrongLog 0 _ x (a .1) in
-      let c = unless-good (in-marks && in-values && in-tallies) shortWindow 0 _ x (b .1) in
-      let window = and-left (in-marks && in-values) in-tallies (c .0) in (
-        sym (good-inj (c .1)) ∙ finished m words log ticks P K .1,
-        leb-true (windowTicks * m) (length ms) (and-left in-marks in-values window),
-        leb-true (windowTicks * m) (length vs) (and-right in-marks in-values window),
-      )
 
   pub ran : Replayed (testing (rowsIn m words) log ticks maxLongTicks (windowTicks * m) m shortWindow (length ms) (length vs) (length ts))
       windowTicks m m ticks ms vs ts ms′ vs′ ts′ r
@@ -87,10 +71,11 @@ module _ (m : ℕ) (words log : List ℕ) (ticks : ℕ) (ms vs ts ms′ vs′ ts
           let D = R .refuses why f e in
           called m words log ticks ms vs ts ms′ vs′ ts′ r (refused why f) (tests ∙ e) (D .0) (D .1, D .2, D .3)
       go (good x) e =
-          let G = granted x e in
+          let G = granted (rowsIn m words) log ticks maxLongTicks (windowTicks * m) m shortWindow (length ms) (length vs) (length ts) x e in
+          let ends : x ≡ done past = sym (G .0) ∙ finished m words log ticks P K .1 in
           let D : RanTo (done past) windowTicks m m ticks ms vs ts ms′ vs′ ts′ r =
-          subst (λ (y : Ran). RanTo y windowTicks m m ticks ms vs ts ms′ vs′ ts′ r) (G .0) (R .ran x e) in
-          called m words log ticks ms vs ts ms′ vs′ ts′ r (good (done past)) (tests ∙ e ∙ ap good (G .0)) (D .answer) (
+          subst (λ (y : Ran). RanTo y windowTicks m m ticks ms vs ts ms′ vs′ ts′ r) ends (R .ran x e) in
+          called m words log ticks ms vs ts ms′ vs′ ts′ r (good (done past)) (tests ∙ e ∙ ap good ends) (D .answer) (
             window markByte refl ms ms′ (G .1) (D .regular) (D .marks),
             window value refl vs vs′ (G .2) (D .regular) (D .values),
             D .tallied past refl,

@@ -19,3 +19,4 @@ pub mod Running
 pub mod Replaying
 pub mod Called
 pub mod Lasting
+pub mod LastTicks

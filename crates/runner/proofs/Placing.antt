@@ -6,7 +6,7 @@ use native.Mathlib.Omega.{arith}
 use mathlib.Core.Bool.{cond, _&&_}
 use mathlib.Core.Logic.{_⊎_, inl, inr}
 use mathlib.Core.List.{List, [], _∷_, _++_, map, append-assoc, map-append}
-use mathlib.Core.Option.{some}
+use mathlib.Core.Option.{none, some}
 use lib.ListN.{length, getD, take, drop, length-append, length-drop, length-map, List·getD-append, List·getD-map}
 use lib.Seq.{length-take-le, getD-append-add, getD-take, getD-drop, take-append-seam, drop-append-seam, drop-drop}
 use lib.Bits.{bitAnd, and-mask}
@@ -199,6 +199,14 @@ last-back room n a l (now ∷ past) r s (suc k) e b =
     let q : s + suc k ≡ length past = omega arith in
     rw (ne-eqb (length past % room) (s % room) (λ i. differ room s k b (ap (λ (j : ℕ). j % room) q ∙ i)))
     (last-back room n a l past (r .1) s k q (omega arith))
+
+-- a place that no tick has come to yet
+pub none-yet : (room q f : ℕ) (past : Ticks) → length past ≤ q → q < room → lastAt room q f past ≡ none
+unfolding lastAt
+none-yet room q f [] l h = refl
+none-yet room q f (now ∷ past) l h =
+    let e : length past % room ≡ length past = mod-eq-of-lt (omega arith) in
+    rw (ne-eqb (length past % room) q (λ i. omega arith)) (none-yet room q f past (omega arith) h)
 
 -- every tick has its place where there is room for all, and where there is room for a window
 pub whole-fits : (room n ticks size : ℕ) → ticks ≤ room → ticks * n ≤ size → Fitting room n ticks size

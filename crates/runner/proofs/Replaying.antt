@@ -4,18 +4,29 @@ use Prim.Native.Nat.{ℕ, _*_, _≤_, _<_}
 use mathlib.Core.Bool.{false, _&&_}
 use mathlib.Core.List.{List}
 use lib.ListN.{length}
-use lib.Dec.{leb}
-use borrow.Author.Tests.{le-leb, lt-leb, eq-eqb, ne-eqb}
+use lib.Dec.{leb, eqb}
+use borrow.Author.Tests.{leb-true, le-leb, lt-leb, eq-eqb, ne-eqb}
 use Rattle.table.specs.declared.Answer.{Answer}
 use Rattle.table.specs.Answers.{Refusal, number, tooManyTicks, wrongLog, Result, good, refused, numbered, refusal}
 use Rattle.table.specs.Rows.{Row}
-use Rattle.table.proofs.Tests.{not-good, good-inj}
+use Rattle.table.proofs.Tests.{and-left, and-right, not-good, good-inj, unless-good}
 use Rattle.semantics.specs.Runs.{inputs, Ran, run}
 use Rattle.semantics.specs.Windows.{tallySize}
 use Rattle.runner.specs.Private.Placed.{RanTo, testing, Replayed}
 
 same-refusal : {u w : Refusal} {f g : ℕ} → _≡_ {A = Result Ran} (refused u f) (refused w g) → refusal u f ≡ refusal w g
 same-refusal e = cc
+
+-- a run that is not refused is the definition's, and has room
+pub granted : (rows : List Row) (log : List ℕ) (ticks most cells k : ℕ) (short : Refusal) (a b c : ℕ) (x : Ran) → testing rows log ticks most cells k short a b c ≡ good x
+    → (run rows log ticks ≡ x) × (cells ≤ a) × (cells ≤ b)
+unfolding testing
+granted rows log ticks most cells k short a b c x e =
+    let few = unless-good (leb ticks most) tooManyTicks 0 _ x e in
+    let logged = unless-good (eqb (length log) (ticks * inputs rows)) wrongLog 0 _ x (few .1) in
+    let room = unless-good (leb cells a && leb cells b && leb (tallySize * k) c) short 0 _ x (logged .1) in
+    let both = and-left (leb cells a && leb cells b) (leb (tallySize * k) c) (room .0) in
+    (good-inj (room .1), leb-true cells a (and-left (leb cells a) (leb cells b) both), leb-true cells b (and-right (leb cells a) (leb cells b) both))
 
 module _ (rows : List Row) (log : List ℕ) (ticks most cells k : ℕ) (short : Refusal) (room n : ℕ) (ms vs ts : List ℕ) where
   -- a run that is refused leaves all
