@@ -5,7 +5,7 @@ ghost use lib.ListN.{length};
 ghost use Rattle.table.specs.Packed.{readAnswer, wordsAfter, writeAnswer, bytesAfter};
 ghost use Rattle.checker.specs.Answers.{checkAnswer, clocksAfter};
 ghost use Rattle.semantics.specs.Answers.{runAnswer, marksAfter, valuesAfter};
-ghost use Rattle.runner.specs.Long.{lasting, longAnswer, LongLeft};
+ghost use Rattle.runner.specs.Long.{longRunning, longAnswer, LongLeft};
 ghost use Rattle.lister.specs.Listing.{listingAnswer, textAfter};
 ghost use Rattle.exports.specs.Parts.{Given};
 use table::Answer;
@@ -115,7 +115,7 @@ pub extern "C" fn baarqidho_long_run(
         (length (now (tallies .entry))))
         r (now (flow .exit)) (now (tick .exit)) (now (count .exit)) ⌝ }
     ensures left { λ r. ⌜ LongLeft flows
-        (lasting flows (now (words .entry)) (now (log .entry)) ticks (length (now (marks .entry))) (length (now (values .entry)))
+        (longRunning flows (now (words .entry)) (now (log .entry)) ticks (length (now (marks .entry))) (length (now (values .entry)))
         (length (now (tallies .entry))))
         (now (marks .entry)) (now (values .entry)) (now (tallies .entry)) (now (marks .exit)) (now (values .exit)) (now (tallies .exit)) ⌝ }
 {

@@ -21,7 +21,7 @@ use Rattle.semantics.specs.Answers.{ranAnswer, markByte}
 use Rattle.semantics.specs.Windows.{shown, Windowed}
 use Rattle.semantics.proofs.Traces.{cells-at}
 use Rattle.calendar.proofs.Unclashed.{unclashed}
-use Rattle.runner.specs.Long.{windowTicks, maxLongTicks, lasting, LongLeft, LongCalled}
+use Rattle.runner.specs.Long.{windowTicks, maxLongTicks, longRunning, LongLeft, LongCalled}
 use Rattle.runner.specs.LastTicks.{tracedAt, Kept, Unchanged, LastTicks}
 use Rattle.runner.specs.Private.Placed.{testing}
 use Rattle.runner.proofs.Placing.{last-back, none-yet}
@@ -37,9 +37,9 @@ record Ended (m : ℕ) (words log : List ℕ) (ticks : ℕ) (ms vs ms′ vs′ :
   values : Windowed windowTicks m value past vs vs′
 
 -- the ticks behind a long run that was not refused
-finished : (m : ℕ) (words log : List ℕ) (ticks a b c : ℕ) (past : Ticks) → lasting m words log ticks a b c ≡ good (done past)
+finished : (m : ℕ) (words log : List ℕ) (ticks a b c : ℕ) (past : Ticks) → longRunning m words log ticks a b c ≡ good (done past)
     → (run (rowsIn (tableOf m words)) log ticks ≡ done past) × (length past ≡ ticks) × Regular m past
-unfolding lasting testing
+unfolding longRunning testing
 finished m words log ticks a b c past e =
     let T = then-good (tableOf m words) (λ rows. then (clocksOf rows) λ clocks. testing rows log ticks maxLongTicks (windowTicks * m) m shortWindow a b c) (done past) e in
     let K = then-good (clocksOf (T .0)) (λ clocks. testing (T .0) log ticks maxLongTicks (windowTicks * m) m shortWindow a b c) (done past) (T .2) in
@@ -62,9 +62,9 @@ finished m words log ticks a b c past e =
 module _ (m : ℕ) (words log : List ℕ) (ticks : ℕ) (ms vs ts ms′ vs′ ts′ : List ℕ) (r : Answer)
     (L : LongCalled m words log ticks ms vs ts ms′ vs′ ts′ r) (z : r .number ≡ 0) where
   ended : Ended m words log ticks ms vs ms′ vs′
-  ended = go (lasting m words log ticks (length ms) (length vs) (length ts)) refl (L .answer) (L .left)
+  ended = go (longRunning m words log ticks (length ms) (length vs) (length ts)) refl (L .answer) (L .left)
     where
-      go : (x : Result Ran) → lasting m words log ticks (length ms) (length vs) (length ts) ≡ x → r ≡ ranAnswer ticks x → LongLeft m x ms vs ts ms′ vs′ ts′
+      go : (x : Result Ran) → longRunning m words log ticks (length ms) (length vs) (length ts) ≡ x → r ≡ ranAnswer ticks x → LongLeft m x ms vs ts ms′ vs′ ts′
           → Ended m words log ticks ms vs ms′ vs′
       go (refused why f) e a l = absurd (no-zero why (ap (λ (b : Answer). b .number) (sym a) ∙ z))
       go (good (clashed t f now past)) e a l = absurd (let q : 34 ≡ 0 = ap (λ (b : Answer). b .number) (sym a) ∙ z in omega arith)

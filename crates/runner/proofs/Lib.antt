@@ -18,5 +18,5 @@ pub mod Tallying
 pub mod Running
 pub mod Replaying
 pub mod Called
-pub mod Lasting
+pub mod LongCalled
 pub mod LastTicks

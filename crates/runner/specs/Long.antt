@@ -22,8 +22,8 @@ abbrev pub maxLongTicks : ℕ
 maxLongTicks = 4194303
 
 -- what a long run comes to over so many marks, values and words of tallies
-unfoldable pub lasting : ℕ → List ℕ → List ℕ → ℕ → ℕ → ℕ → ℕ → Result Ran
-lasting m words log ticks marks values tallies =
+unfoldable pub longRunning : ℕ → List ℕ → List ℕ → ℕ → ℕ → ℕ → ℕ → Result Ran
+longRunning m words log ticks marks values tallies =
     then (tableOf m words) λ rows.
     then (clocksOf rows) λ clocks.
     unless (leb ticks maxLongTicks) tooManyTicks 0
@@ -32,7 +32,7 @@ lasting m words log ticks marks values tallies =
     (good (run rows log ticks))))
 
 abbrev pub longAnswer : ℕ → List ℕ → List ℕ → ℕ → ℕ → ℕ → ℕ → Answer
-longAnswer m words log ticks marks values tallies = ranAnswer ticks (lasting m words log ticks marks values tallies)
+longAnswer m words log ticks marks values tallies = ranAnswer ticks (longRunning m words log ticks marks values tallies)
 
 -- what it leaves: window and tallies over the ticks worked out, or all as it was
 abbrev pub LongLeft : ℕ → Result Ran → List ℕ → List ℕ → List ℕ → List ℕ → List ℕ → List ℕ → Type 0
@@ -45,4 +45,4 @@ LongLeft m (refused why f) ms vs ts ms′ vs′ ts′ = (ms′ ≡ ms) × (vs′
 -- what a call of the long run promises: its answer, and what marks, values and tallies hold at the end
 pub record LongCalled (m : ℕ) (words log : List ℕ) (ticks : ℕ) (ms vs ts ms′ vs′ ts′ : List ℕ) (r : Answer) : Type 0 where
   pub answer : r ≡ longAnswer m words log ticks (length ms) (length vs) (length ts)
-  pub left : LongLeft m (lasting m words log ticks (length ms) (length vs) (length ts)) ms vs ts ms′ vs′ ts′
+  pub left : LongLeft m (longRunning m words log ticks (length ms) (length vs) (length ts)) ms vs ts ms′ vs′ ts′

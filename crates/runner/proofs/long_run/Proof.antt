@@ -1,5 +1,5 @@
 -- `long_run` meets its contract. Assumes nothing.
-use Rattle.runner.proofs.Lasting.{ran, accepted, handed-on}
+use Rattle.runner.proofs.LongCalled.{ran, accepted, handed-on}
 use Rattle.runner.proofs.Placing.{window-fits}
 use Rattle.runner.specs.Long.{windowTicks}
 use Rattle.runner.specs.Private.Ready.{Plain, Clocked}

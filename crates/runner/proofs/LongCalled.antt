@@ -22,7 +22,7 @@ use Rattle.semantics.specs.Runs.{Ticks, inputs, Ran, done, run, Regular}
 use Rattle.semantics.specs.Answers.{ranAnswer, markByte}
 use Rattle.semantics.specs.Windows.{Windowed, tallySize}
 use Rattle.calendar.proofs.Unclashed.{unclashed}
-use Rattle.runner.specs.Long.{windowTicks, maxLongTicks, lasting, LongLeft, LongCalled}
+use Rattle.runner.specs.Long.{windowTicks, maxLongTicks, longRunning, LongLeft, LongCalled}
 use Rattle.runner.specs.Private.Ready.{rowsIn, Plain, Clocked}
 use Rattle.runner.specs.Private.Placed.{placed, RanTo, testing, Replayed}
 use Rattle.runner.proofs.Tabled.{plain-table}
@@ -31,7 +31,7 @@ use Rattle.runner.proofs.Replaying.{granted}
 
 -- what a call leaves, by what its run comes to
 called : (m : ℕ) (words log : List ℕ) (ticks : ℕ) (ms vs ts ms′ vs′ ts′ : List ℕ) (r : Answer) (x : Result Ran)
-    → lasting m words log ticks (length ms) (length vs) (length ts) ≡ x → r ≡ ranAnswer ticks x → LongLeft m x ms vs ts ms′ vs′ ts′
+    → longRunning m words log ticks (length ms) (length vs) (length ts) ≡ x → r ≡ ranAnswer ticks x → LongLeft m x ms vs ts ms′ vs′ ts′
     → LongCalled m words log ticks ms vs ts ms′ vs′ ts′ r
 called m words log ticks ms vs ts ms′ vs′ ts′ r x e a l =
     record { answer = a ∙ ap (ranAnswer ticks) (sym e); left = subst (λ (y : Result Ran). LongLeft m y ms vs ts ms′ vs′ ts′) (sym e) l }
@@ -46,9 +46,9 @@ finished m words log ticks P K =
 
 -- a run into a window: what it leaves are window and tallies of a run to its end
 module _ (m : ℕ) (words log : List ℕ) (ticks : ℕ) (ms vs ts ms′ vs′ ts′ : List ℕ) (r : Answer) (P : Plain m words) (K : Clocked m words) where
-  tests : lasting m words log ticks (length ms) (length vs) (length ts)
+  tests : longRunning m words log ticks (length ms) (length vs) (length ts)
       ≡ testing (rowsIn m words) log ticks maxLongTicks (windowTicks * m) m shortWindow (length ms) (length vs) (length ts)
-  unfolding lasting Plain Clocked testing
+  unfolding longRunning Plain Clocked testing
   tests = rw (P, K .1)
 
   pub ran : Replayed (testing (rowsIn m words) log ticks maxLongTicks (windowTicks * m) m shortWindow (length ms) (length vs) (length ts))
@@ -98,8 +98,8 @@ accepted m words room r b e z = go (tableOf m words) refl
 
 -- the check's refusal is the long run's
 down-by : (m : ℕ) (words log : List ℕ) (ticks a b c : ℕ) (room : ℕ) (why : Refusal) (f : ℕ) → clockSize * maxFlows ≤ room → checking m words room ≡ refused why f
-    → lasting m words log ticks a b c ≡ refused why f
-unfolding lasting
+    → longRunning m words log ticks a b c ≡ refused why f
+unfolding longRunning
 down-by m words log ticks a b c room why f l e = go (tableOf m words) refl
   where
     go : (y : Result (List Row)) → tableOf m words ≡ y
