@@ -68,7 +68,3 @@ tallied-from n past ts₀ ts ts′ A B =
 
 pub tallied-same : (n : ℕ) (ts₀ ts : List ℕ) → Tallied n [] ts₀ ts → Tallied n [] ts ts
 tallied-same n ts₀ ts A = record { size = refl; counts = A .counts; lasts = A .lasts; rest = λ i l. refl }
-
--- no flow is tallied
-pub tallied-nothing : (past : Ticks) (ts : List ℕ) → Tallied 0 past ts ts
-tallied-nothing past ts = record { size = refl; counts = λ f l. absurd (omega arith); lasts = λ f l. absurd (omega arith); rest = λ i l. refl }
