@@ -30,6 +30,7 @@ use Rattle.semantics.specs.Answers.{maxTicks, running, ranAnswer, markByte}
 use Rattle.calendar.specs.Calendar.{Accepts, Asked, Ends, OnCalendar, Free, Judged, judgingTicks, SharedCalendar}
 use Rattle.semantics.proofs.Traces.{cells-length}
 use Rattle.calendar.proofs.Accepted.{Runs, runs}
+use Rattle.calendar.proofs.Unclashed.{rows-fit}
 use Rattle.calendar.proofs.Judged.{conditional, FreeRow, AllFree, refused-clashes}
 use Rattle.calendar.proofs.Shown.{AtTick, at-tick, written, due-shown}
 
@@ -44,12 +45,6 @@ record Accepted (m : ℕ) (words : List ℕ) (room : ℕ) : Type 0 where
   clocked : Clocked (clockAt clocks) 0 rows
   sources : Each (Passes (sourceFits clocks)) 0 rows
   found : checking m words room ≡ good clocks
-
--- the rows of a table fit it
-rows-fit : (m : ℕ) (words : List ℕ) (rows : List Row) → tableOf m words ≡ good rows → AllFit (length rows) 0 rows
-rows-fit m words rows e =
-    let t : Table m words rows = table-made m words rows e in
-    subst (λ (i : ℕ). AllFit i 0 rows) (sym (t .size)) (t .fits)
 
 accepted : (m : ℕ) (words : List ℕ) (room : ℕ) → checkAnswer m words room .number ≡ 0 → Accepted m words room
 unfolding checking

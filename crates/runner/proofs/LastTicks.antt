@@ -7,12 +7,11 @@ use mathlib.Core.List.{List}
 use mathlib.Core.Option.{Option}
 use lib.ListN.{length, getD}
 use Rattle.table.specs.declared.Answer.{Answer}
-use Rattle.table.specs.Answers.{shortWindow, Result, good, refused, then}
+use Rattle.table.specs.Answers.{number, clash, shortWindow, Result, good, refused, then}
 use Rattle.table.specs.Rows.{Row}
 use Rattle.table.specs.Plain.{tableOf, rowsIn}
 use Rattle.table.proofs.AnswerLaws.{no-zero}
 use Rattle.table.proofs.Tests.{then-good}
-use Rattle.table.proofs.Tables.{AllFit, Table, table-made}
 use Rattle.checker.specs.Clocks.{Clock}
 use Rattle.checker.specs.Rules.{clocksOf}
 use Rattle.semantics.specs.Cells.{Cell, absent, value}
@@ -48,12 +47,11 @@ finished m words log ticks a b c past e =
     go : (rows : List Row) (ks : List Clock) → tableOf m words ≡ good rows → clocksOf rows ≡ good ks → run rows log ticks ≡ done past
         → (run (rowsIn (tableOf m words)) log ticks ≡ done past) × (length past ≡ ticks) × Regular m past
     go rows ks t k r =
-        let T : Table m words rows = table-made m words rows t in
-        let u = unclashed rows ks (subst (λ (i : ℕ). AllFit i 0 rows) (sym (T .size)) (T .fits)) k log ticks in
+        let u = unclashed m words rows ks t k log ticks in
         let p : u .0 ≡ past = same (sym (u .1) ∙ r) in (
           ap (λ (x : Result (List Row)). run (rowsIn x) log ticks) t ∙ r,
           ap length (sym p) ∙ u .2,
-          subst (λ (i : ℕ). Regular i past) (T .size) (subst (Regular (length rows)) p (u .3)),
+          subst (Regular m) p (u .3),
         )
       where
         same : {x y : Ticks} → done x ≡ done y → x ≡ y
@@ -67,7 +65,7 @@ module _ (m : ℕ) (words log : List ℕ) (ticks : ℕ) (ms vs ts ms′ vs′ ts
       go : (x : Result Ran) → longRunning m words log ticks (length ms) (length vs) (length ts) ≡ x → r ≡ ranAnswer ticks x → LongLeft m x ms vs ts ms′ vs′ ts′
           → Ended m words log ticks ms vs ms′ vs′
       go (refused why f) e a l = absurd (no-zero why (ap (λ (b : Answer). b .number) (sym a) ∙ z))
-      go (good (clashed t f now past)) e a l = absurd (let q : 34 ≡ 0 = ap (λ (b : Answer). b .number) (sym a) ∙ z in omega arith)
+      go (good (clashed t f now past)) e a l = absurd (let q : number clash ≡ 0 = ap (λ (b : Answer). b .number) (sym a) ∙ z in omega arith)
       go (good (done past)) e a l =
           let F = finished m words log ticks (length ms) (length vs) (length ts) past e in
           record { past = past; eq = F .0; size = F .1; regular = F .2; marks = l .0; values = l .1 }

@@ -2,30 +2,27 @@
 use mathlib.Core.Path.{_≡_, refl, sym, _∙_, ap, subst}
 use Prim.Native.Nat.{ℕ, _*_, _≤_}
 use native.Mathlib.Omega.{arith}
-use mathlib.Core.Bool.{_&&_}
 use mathlib.Core.List.{List}
 use lib.ListN.{length}
-use lib.Dec.{leb, eqb}
 use Rattle.table.specs.declared.Answer.{Answer}
-use Rattle.table.specs.Answers.{Refusal, tooManyTicks, wrongLog, shortWindow, Result, good, refused, unless, then, answer}
+use Rattle.table.specs.Answers.{Refusal, shortWindow, Result, good, refused, then, answer}
 use Rattle.table.specs.Rows.{Row, maxFlows}
 use Rattle.table.specs.Plain.{tableOf, rowsIn as goodRows}
 use Rattle.table.proofs.AnswerLaws.{answer-zero, answer-other}
 use Rattle.table.proofs.Tests.{not-good}
-use Rattle.table.proofs.Tables.{AllFit, table-made}
+use Rattle.table.proofs.Tables.{table-made}
 use Rattle.checker.specs.Clocks.{Clock}
 use Rattle.checker.specs.Rules.{clocksOf}
 use Rattle.checker.specs.Answers.{clockSize, checking, checkAnswer}
 use Rattle.checker.proofs.Checks.{check-table, check-clocks, rows-good}
 use Rattle.semantics.specs.Cells.{Cell, absent, value}
-use Rattle.semantics.specs.Runs.{Ticks, inputs, Ran, done, run, Regular}
+use Rattle.semantics.specs.Runs.{Ticks, Ran, done, run, Regular}
 use Rattle.semantics.specs.Answers.{ranAnswer, markByte}
-use Rattle.semantics.specs.Windows.{Windowed, tallySize}
+use Rattle.semantics.specs.Windows.{Windowed}
 use Rattle.calendar.proofs.Unclashed.{unclashed}
 use Rattle.runner.specs.Long.{windowTicks, maxLongTicks, longRunning, LongLeft, LongCalled}
 use Rattle.runner.specs.Private.Ready.{rowsIn, Plain, Clocked}
 use Rattle.runner.specs.Private.Placed.{placed, RanTo, testing, Replayed}
-use Rattle.runner.proofs.Tabled.{plain-table}
 use Rattle.runner.proofs.Placing.{windowed, window-fits}
 use Rattle.runner.proofs.Replaying.{granted}
 
@@ -38,11 +35,8 @@ called m words log ticks ms vs ts ms′ vs′ ts′ r x e a l =
 
 -- an accepted plan does not clash
 finished : (m : ℕ) (words log : List ℕ) (ticks : ℕ) → Plain m words → Clocked m words → (past : Ticks) × (run (rowsIn m words) log ticks ≡ done past)
-unfolding Clocked
-finished m words log ticks P K =
-    let T = plain-table m words P in
-    let u = unclashed (rowsIn m words) (K .0) (subst (λ (k : ℕ). AllFit k 0 (rowsIn m words)) (sym (T .size)) (T .fits)) (K .1) log ticks in
-    (u .0, u .1)
+unfolding Plain Clocked
+finished m words log ticks P K = let u = unclashed m words (rowsIn m words) (K .0) P (K .1) log ticks in (u .0, u .1)
 
 -- a run into a window: what it leaves are window and tallies of a run to its end
 module _ (m : ℕ) (words log : List ℕ) (ticks : ℕ) (ms vs ts ms′ vs′ ts′ : List ℕ) (r : Answer) (P : Plain m words) (K : Clocked m words) where
@@ -99,16 +93,11 @@ accepted m words room r b e z = go (tableOf m words) refl
 -- the check's refusal is the long run's
 down-by : (m : ℕ) (words log : List ℕ) (ticks a b c : ℕ) (room : ℕ) (why : Refusal) (f : ℕ) → clockSize * maxFlows ≤ room → checking m words room ≡ refused why f
     → longRunning m words log ticks a b c ≡ refused why f
-unfolding longRunning
+unfolding longRunning testing
 down-by m words log ticks a b c room why f l e = go (tableOf m words) refl
   where
     go : (y : Result (List Row)) → tableOf m words ≡ y
-        → (then y λ rows.
-        then (clocksOf rows) λ clocks.
-        unless (leb ticks maxLongTicks) tooManyTicks 0
-        (unless (eqb (length log) (ticks * inputs rows)) wrongLog 0
-        (unless (leb (windowTicks * m) a && leb (windowTicks * m) b && leb (tallySize * m) c) shortWindow 0 (good (run rows log ticks)))))
-        ≡ refused why f
+        → (then y λ rows. then (clocksOf rows) λ clocks. testing rows log ticks maxLongTicks (windowTicks * m) m shortWindow a b c) ≡ refused why f
     go (refused u g) q =
         let p = sym (check-table m words room u g q) ∙ e in
         let x : u ≡ why = cc in
