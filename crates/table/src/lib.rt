@@ -134,6 +134,10 @@ pub const CLASH: u32 = 34;
 
 pub const SHORT_WINDOW: u32 = 35;
 
+pub const WRONG_TIMES: u32 = 36;
+
+pub const SHORT_PAGE: u32 = 37;
+
 // The bytes of the longest packed table.
 pub const LONGEST_TABLE: usize = (Cursor::LAST + 7) / 8;
 
