@@ -1,12 +1,13 @@
--- The clocks of a table that the check accepts are within the limits. Assumes nothing.
-use mathlib.Core.Path.{_≡_, _∙_}
+-- The clocks of a table that the check accepts are sane, and within the limits. Assumes nothing.
+use mathlib.Core.Path.{_≡_, refl, _∙_, subst}
 use Prim.Native.Nat.{ℕ, _*_, _≤_}
 use native.Mathlib.Omega.{arith}
 use mathlib.Core.List.{List}
 use lib.ListN.{length}
 use lib.Dec.{leb}
-use Rattle.table.specs.Answers.{good, unless, noRoom}
-use Rattle.table.specs.Rows.{maxFlows}
+use borrow.Author.Tests.{le-leb}
+use Rattle.table.specs.Answers.{Result, good, refused, unless, then, noRoom}
+use Rattle.table.specs.Rows.{Row, maxFlows}
 use Rattle.table.specs.Plain.{tableOf}
 use Rattle.table.proofs.Tests.{unless-good, then-good}
 use Rattle.table.proofs.Tables.{table-made}
@@ -14,7 +15,7 @@ use Rattle.checker.specs.Clocks.{Clock}
 use Rattle.checker.specs.Rules.{clockAt, clocksOf, Within, AllWithin}
 use Rattle.checker.specs.Answers.{clockSize, checking}
 use Rattle.checker.proofs.RuleLaws.{within-limits}
-use Rattle.checker.proofs.CheckLaws.{Sane, below-le, sane-clocks}
+use Rattle.checker.proofs.CheckLaws.{Sane, AllSane, below-le, sane-clocks}
 
 sane-within : (f : ℕ) (k : Clock) → f ≤ maxFlows → Sane f k → Within k
 sane-within f k l s = (
@@ -22,12 +23,28 @@ sane-within f k l s = (
   below-le f maxFlows (k .conditions) l (s .below),
 )
 
--- what an accepted table's clocks have: one a flow, within the limits
+-- what an accepted table's clocks are: one a flow, and sane
+pub accepted-sane : (m : ℕ) (words : List ℕ) (rows : List Row) (ks : List Clock) → tableOf m words ≡ good rows → clocksOf rows ≡ good ks
+    → (length ks ≡ m) × (m ≤ maxFlows) × AllSane (clockAt ks) m
+accepted-sane m words rows ks e c =
+    let t = table-made m words rows e in
+    let s = sane-clocks m rows ks (t .fits) c in
+    (s .0 ∙ t .size, t .few, subst (AllSane (clockAt ks)) (t .size) (s .1))
+
+-- with room for the clocks of any table, the check comes to what the rules come to
+pub check-whole : (m : ℕ) (words : List ℕ) (room : ℕ) → clockSize * maxFlows ≤ room → checking m words room ≡ then (tableOf m words) clocksOf
+unfolding checking
+check-whole m words room l = go (tableOf m words) refl
+  where
+    go : (r : Result (List Row)) → tableOf m words ≡ r → then r (λ rows. unless (leb (clockSize * m) room) noRoom 0 (clocksOf rows)) ≡ then r clocksOf
+    go (good rows) e = let h : clockSize * m ≤ room = omega (arith, table-made m words rows e .few) in rw (le-leb (clockSize * m) room h)
+    go (refused why f) e = refl
+
+-- so they are within the limits
 pub checked-within : (m : ℕ) (words : List ℕ) (room : ℕ) (ks : List Clock) → checking m words room ≡ good ks → (length ks ≡ m) × (m ≤ maxFlows) × AllWithin ks
 unfolding checking
 checked-within m words room ks e =
     let x = then-good (tableOf m words) (λ rows. unless (leb (clockSize * m) room) noRoom 0 (clocksOf rows)) ks e in
     let c : clocksOf (x .0) ≡ good ks = unless-good (leb (clockSize * m) room) noRoom 0 (clocksOf (x .0)) ks (x .2) .1 in
-    let t = table-made m words (x .0) (x .1) in
-    let s = sane-clocks m (x .0) ks (t .fits) c in
-    (s .0 ∙ t .size, t .few, λ f l. sane-within f (clockAt ks f) (omega (arith, s .0, t .size, t .few)) (s .1 f (omega (arith, s .0))))
+    let s = accepted-sane m words (x .0) ks (x .1) c in
+    (s .0, s .1, λ f l. sane-within f (clockAt ks f) (omega (arith, s .0, s .1)) (s .2 f (omega (arith, s .0))))

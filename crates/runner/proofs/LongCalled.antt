@@ -9,12 +9,12 @@ use Rattle.table.specs.Answers.{Refusal, shortWindow, Result, good, refused, th
 use Rattle.table.specs.Rows.{Row, maxFlows}
 use Rattle.table.specs.Plain.{tableOf, rowsIn as goodRows}
 use Rattle.table.proofs.AnswerLaws.{answer-zero, answer-other}
-use Rattle.table.proofs.Tests.{not-good}
-use Rattle.table.proofs.Tables.{table-made}
+use Rattle.table.proofs.Tests.{then-good}
 use Rattle.checker.specs.Clocks.{Clock}
 use Rattle.checker.specs.Rules.{clocksOf}
 use Rattle.checker.specs.Answers.{clockSize, checking, checkAnswer}
-use Rattle.checker.proofs.Checks.{check-table, check-clocks, rows-good}
+use Rattle.checker.proofs.Checks.{rows-good}
+use Rattle.checker.proofs.Bounds.{check-whole}
 use Rattle.semantics.specs.Cells.{Cell, absent, value}
 use Rattle.semantics.specs.Runs.{Ticks, Ran, done, run, Regular}
 use Rattle.semantics.specs.Answers.{ranAnswer, markByte}
@@ -79,35 +79,24 @@ module _ (m : ℕ) (words log : List ℕ) (ticks : ℕ) (ms vs ts ms′ vs′ ts
 pub accepted : (m : ℕ) (words : List ℕ) (room : ℕ) (r : Answer) → clockSize * maxFlows ≤ room → r ≡ checkAnswer m words room → r .number ≡ 0
     → Plain m words × Clocked m words
 unfolding Plain rowsIn Clocked checking
-accepted m words room r b e z = go (tableOf m words) refl
-  where
-    x : (ks : List Clock) × (checking m words room ≡ good ks)
-    x = answer-zero length (checking m words room) (ap (λ (a : Answer). a .number) (sym e) ∙ z)
-
-    go : (y : Result (List Row)) → tableOf m words ≡ y → Plain m words × Clocked m words
-    go (refused why f) q = not-good (sym (check-table m words room why f q) ∙ x .1)
-    go (good rows) q =
-        let g : tableOf m words ≡ good (goodRows (tableOf m words)) = rows-good m words rows q in
-        (g, (x .0, sym (check-clocks m words room g (omega (arith, (table-made m words rows q) .few))) ∙ x .1))
+accepted m words room r b e z =
+    let x : (ks : List Clock) × (checking m words room ≡ good ks) = answer-zero length (checking m words room) (ap (λ (a : Answer). a .number) (sym e) ∙ z) in
+    let t = then-good (tableOf m words) clocksOf (x .0) (sym (check-whole m words room b) ∙ x .1) in
+    (rows-good m words (t .0) (t .1), (x .0, ap (λ (y : Result (List Row)). clocksOf (goodRows y)) (t .1) ∙ t .2))
 
 -- the check's refusal is the long run's
 down-by : (m : ℕ) (words log : List ℕ) (ticks a b c : ℕ) (room : ℕ) (why : Refusal) (f : ℕ) → clockSize * maxFlows ≤ room → checking m words room ≡ refused why f
     → longRunning m words log ticks a b c ≡ refused why f
 unfolding longRunning testing
-down-by m words log ticks a b c room why f l e = go (tableOf m words) refl
+down-by m words log ticks a b c room why f l e = go (tableOf m words) (sym (check-whole m words room l) ∙ e)
   where
-    go : (y : Result (List Row)) → tableOf m words ≡ y
+    go : (y : Result (List Row)) → then y clocksOf ≡ refused why f
         → (then y λ rows. then (clocksOf rows) λ clocks. testing rows log ticks maxLongTicks (windowTicks * m) m shortWindow a b c) ≡ refused why f
     go (refused u g) q =
-        let p = sym (check-table m words room u g q) ∙ e in
         let x : u ≡ why = cc in
         let y : g ≡ f = cc in
         cc
-    go (good rows) q =
-        let g : tableOf m words ≡ good (goodRows (tableOf m words)) = rows-good m words rows q in
-        let h : clocksOf rows ≡ refused why f =
-        ap clocksOf (sym (ap goodRows q)) ∙ sym (check-clocks m words room g (omega (arith, (table-made m words rows q) .few))) ∙ e in
-        rw (h)
+    go (good rows) q = rw q
 
 pub handed-on : (m : ℕ) (words log : List ℕ) (ticks room : ℕ) (ms vs ts : List ℕ) (r : Answer) → clockSize * maxFlows ≤ room → r ≡ checkAnswer m words room
     → (r .number ≡ 0 → ⊥) → LongCalled m words log ticks ms vs ts ms vs ts r
