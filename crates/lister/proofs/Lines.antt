@@ -7,7 +7,7 @@ use mathlib.Core.List.{List, [], _∷_, _++_}
 use lib.ListN.{length, getD, drop, length-append}
 use lib.Seq.{drop-drop, getD-drop}
 use Rattle.text.specs.Text.{lineFeed, space, decimal}
-use Rattle.text.proofs.Decimal.{ten}
+use Rattle.text.proofs.Decimal.{digits-fit}
 use Rattle.checker.specs.Answers.{clockSize}
 use Rattle.lister.specs.Listing.{field, refusalText, longest}
 use Rattle.lister.specs.Private.Words.{wordText, wordsText, countedText, clockText, clocksText}
@@ -66,8 +66,8 @@ unfolding refusalText
 refusal-short n f p q =
     omega (
       arith,
-      ten n (omega arith),
-      ten f (omega arith),
+      digits-fit 9 n (omega arith),
+      digits-fit 9 f (omega arith),
       length-append (field n) (decimal f ++ (lineFeed ∷ [])),
       length-append (decimal n) (space ∷ []),
       length-append (decimal f) (lineFeed ∷ []),

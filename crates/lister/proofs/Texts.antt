@@ -10,7 +10,7 @@ use lib.Seq.{drop-append-seam, take-append-add}
 use lib.Dec.{eqb, leb}
 use borrow.Author.Tests.{ne-eqb, le-leb, lt-leb}
 use Rattle.text.specs.Text.{lineFeed, space, decimal, Wrote}
-use Rattle.text.proofs.Decimal.{two, four}
+use Rattle.text.proofs.Decimal.{digits-fit}
 use Rattle.text.proofs.Writing.{whole}
 use Rattle.table.specs.declared.Answer.{Answer}
 use Rattle.table.specs.Answers.{Refusal, good, refused, number, success, over, answer, leaves}
@@ -85,7 +85,7 @@ table-text ks rest h = ap (λ (w : List ℕ). okay ++ (decimal (length ks) ++ (l
 
 condition-length : (c : Condition) → c .flow < maxFlows → length (conditionText c) ≤ 4
 unfolding conditionText
-condition-length c l = omega (arith, two (c .flow) (omega arith), length-append (decimal (c .flow)) (sign (c .truth) ∷ []))
+condition-length c l = omega (arith, digits-fit 1 (c .flow) (omega arith), length-append (decimal (c .flow)) (sign (c .truth) ∷ []))
 
 conditions-length : (cs : List Condition) → Below maxFlows cs → length (conditionsFrom cs) ≤ 4 * length cs
 unfolding conditionsFrom
@@ -106,9 +106,9 @@ line-length f k l w =
     let t : List ℕ = conditionsText (k .conditions) ++ (lineFeed ∷ []) in
     omega (
       arith,
-      field-length f 2 (two f (omega arith)),
-      field-length (k .period) 4 (four (k .period) (omega (arith, fit .period-fits))),
-      field-length (k .phase) 4 (four (k .phase) (omega (arith, fit .phase-fits))),
+      field-length f 2 (digits-fit 1 f (omega arith)),
+      field-length (k .period) 4 (digits-fit 3 (k .period) (omega (arith, fit .period-fits))),
+      field-length (k .phase) 4 (digits-fit 3 (k .phase) (omega (arith, fit .phase-fits))),
       conditions-short (k .conditions) (few k w) (w .1),
       length-append (field f) (field (k .period) ++ (field (k .phase) ++ t)),
       length-append (field (k .period)) (field (k .phase) ++ t),
@@ -130,7 +130,7 @@ lines-length f (k ∷ ks) l h =
 ok-length : (ks : List Clock) → length ks ≤ maxFlows → AllWithin ks → length (okText ks) ≤ longest
 unfolding okText
 ok-length ks l h =
-    omega (arith, two (length ks) (omega arith), lines-length 0 ks (omega arith) h, length-append (decimal (length ks)) (lineFeed ∷ linesFrom 0 ks))
+    omega (arith, digits-fit 1 (length ks) (omega arith), lines-length 0 ks (omega arith) h, length-append (decimal (length ks)) (lineFeed ∷ linesFrom 0 ks))
 
 -- ---- the listing
 

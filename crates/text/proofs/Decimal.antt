@@ -1,6 +1,7 @@
 -- Decimal digits. Assumes nothing.
 use mathlib.Core.Path.{_≡_, refl, sym, _∙_, ap}
-use Prim.Native.Nat.{ℕ, zero, suc, _+_, _*_, _/_, _%_, _≤_, _<_}
+use Prim.Native.Nat.{ℕ, zero, suc, _+_, _*_, _/_, _%_, _^_, _≤_, _<_}
+use native.Mathlib.Nat.{pow-suc}
 use native.Mathlib.Omega.{arith}
 use mathlib.Core.Bool.{Bool, true, false}
 use mathlib.Core.List.{List, [], _∷_, _++_}
@@ -37,23 +38,19 @@ pub decimal-more : (n : ℕ) → 10 ≤ n → decimal n ≡ decimal (n / 10) ++ 
 unfolding decimal
 decimal-more n h = digits-more n n h ∙ ap (λ (w : List ℕ). w ++ (digit (n % 10) ∷ [])) (enough n (suc (n / 10)) (n / 10) (omega arith) (omega arith))
 
--- ten times the bound is one digit more
-longer : (j b : ℕ) → ((n : ℕ) → n < b → length (decimal n) ≤ suc j) → (n : ℕ) → n < 10 * b → length (decimal n) ≤ suc (suc j)
-longer j b h n l = go (ltb n 10) refl
+-- ---- how many digits
+
+pub one-digit : (n : ℕ) → n < 10 → length (decimal n) ≡ 1
+one-digit n h = ap length (decimal-one n h)
+
+pub one-more : (n : ℕ) → 10 ≤ n → length (decimal n) ≡ length (decimal (n / 10)) + 1
+one-more n h = ap length (decimal-more n h) ∙ length-append (decimal (n / 10)) (digit (n % 10) ∷ [])
+
+-- a number below 10 ^ (k + 1) has at most k + 1
+pub digits-fit : (k n : ℕ) → n < 10 ^ suc k → length (decimal n) ≤ suc k
+digits-fit zero n h = omega (arith, one-digit n (omega arith))
+digits-fit (suc k) n h = go (ltb n 10) refl (digits-fit k (n / 10))
   where
-    go : (t : Bool) → ltb n 10 ≡ t → length (decimal n) ≤ suc (suc j)
-    go true e = omega (arith, ap length (decimal-one n (ltb-true n 10 e)))
-    go false e =
-        omega (arith, h (n / 10) (omega arith), ap length (decimal-more n (ltb-false n 10 e)), length-append (decimal (n / 10)) (digit (n % 10) ∷ []))
-
-one : (n : ℕ) → n < 10 → length (decimal n) ≤ 1
-one n h = omega (arith, ap length (decimal-one n h))
-
-pub two : (n : ℕ) → n < 100 → length (decimal n) ≤ 2
-two = longer 0 10 one
-
-pub four : (n : ℕ) → n < 10000 → length (decimal n) ≤ 4
-four = longer 2 1000 (longer 1 100 two)
-
-pub ten : (n : ℕ) → n < 10000000000 → length (decimal n) ≤ 10
-ten = longer 8 1000000000 (longer 7 100000000 (longer 6 10000000 (longer 5 1000000 (longer 4 100000 (longer 3 10000 four)))))
+    go : (t : Bool) → ltb n 10 ≡ t → (n / 10 < 10 ^ suc k → length (decimal (n / 10)) ≤ suc k) → length (decimal n) ≤ suc (suc k)
+    go true e r = omega (arith, one-digit n (ltb-true n 10 e))
+    go false e r = omega (arith, r (omega (arith, pow-suc 10 (suc k))), one-more n (ltb-false n 10 e))

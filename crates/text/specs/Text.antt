@@ -3,7 +3,7 @@ use mathlib.Core.Path.{_≡_}
 use Prim.Native.Nat.{ℕ, zero, suc, _+_, _-_, _/_, _%_}
 use mathlib.Core.Bool.{cond}
 use mathlib.Core.List.{List, [], _∷_, _++_}
-use lib.ListN.{length, take, drop}
+use lib.ListN.{length, take, drop, replicate}
 use lib.Dec.{ltb}
 
 -- ASCII: line feed, space, a decimal digit
@@ -24,6 +24,10 @@ digitsIn (suc k) n = cond (ltb n 10) (digit n ∷ []) (digitsIn k (n / 10) ++ (d
 -- n in decimal: it has at most n + 1 digits
 unfoldable pub decimal : ℕ → List ℕ
 decimal n = digitsIn (suc n) n
+
+-- n in decimal at the right end of w characters, blanks before it; it has more characters where n needs more
+unfoldable pub right : ℕ → ℕ → List ℕ
+right w n = replicate (w - length (decimal n)) space ++ decimal n
 
 -- as many of the bytes as the text has room for from a place on
 abbrev pub fitting : ℕ → List ℕ → List ℕ → List ℕ
