@@ -1,0 +1,12 @@
+-- What the key of a line says: its flow, and by what lines stand. Assumes nothing.
+use mathlib.Core.Path.{_≡_}
+use Prim.Native.Nat.{ℕ, _*_, _%_, _≤_, _<_}
+use native.Mathlib.Omega.{arith}
+use Rattle.table.specs.Rows.{maxFlows}
+use Rattle.loads.specs.Loads.{Line, key}
+
+pub key-flow : (l : Line) → l .flow < maxFlows → key l % maxFlows ≡ l .flow
+key-flow l h = omega arith
+
+pub by-period : (a b : Line) → a .flow < maxFlows → b .flow < maxFlows → key a < key b → (a .period ≤ b .period) × (a .period ≡ b .period → a .flow < b .flow)
+by-period a b p q h = (omega arith, λ (e : a .period ≡ b .period). omega arith)

@@ -1,0 +1,8 @@
+pub mod Rounding
+pub mod Keys
+pub mod Orders
+mod Selecting
+mod Sums
+mod Turns
+pub mod Widths
+pub mod Pages

@@ -1,0 +1,160 @@
+-- The page of an accepted plan, and what the call comes to in each case. Assumes nothing.
+use mathlib.Core.Path.{_≡_, refl, sym, _∙_, ap, ap₂, subst}
+use Prim.Native.Nat.{ℕ, _+_, _*_, _≤_, _<_}
+use native.Mathlib.Nat.{add-zero, zero-add}
+use native.Mathlib.Omega.{arith}
+use mathlib.Core.List.{List, _++_}
+use lib.ListN.{length, getD, drop}
+use lib.Dec.{leb, eqb}
+use borrow.Author.Tests.{le-leb, lt-leb, eq-eqb, ne-eqb}
+use Rattle.text.specs.Text.{Wrote}
+use Rattle.text.proofs.Writing.{whole}
+use Rattle.table.specs.declared.Answer.{Answer}
+use Rattle.table.specs.Answers.{Refusal, Result, good, refused, then, refusal, success, over, answer, leaves, wrongTimes, shortPage}
+use Rattle.table.specs.Rows.{maxFlows}
+use Rattle.table.specs.Plain.{tableOf}
+use Rattle.table.proofs.AnswerLaws.{answer-zero, answer-other}
+use Rattle.table.proofs.Tests.{then-good}
+use Rattle.checker.specs.Clocks.{Clock}
+use Rattle.checker.specs.Rules.{clockAt, clocksOf}
+use Rattle.checker.specs.Answers.{clockSize, clockWords, clocksWords, checking, checkAnswer, clocksAfter}
+use Rattle.checker.proofs.CheckLaws.{AllSane}
+use Rattle.checker.proofs.WordLaws.{word-at}
+use Rattle.checker.proofs.Bounds.{accepted-sane, check-whole}
+use Rattle.loads.specs.Loads.{load, maxLoad, Line, lineOf, linesFrom, sorted, Among, Ordered, lineText, total, totalText, pageText, pageOf, lineSize, paging, pageAnswer, pageAfter}
+use Rattle.loads.specs.Private.Words.{loadIn, lineIn, linesIn, Loaded}
+use Rattle.loads.proofs.Rounding.{load-some}
+use Rattle.loads.proofs.Orders.{lines-length, of-lines, in-order, sorted-total}
+use Rattle.loads.proofs.Sums.{lines-same, total-bound}
+use Rattle.loads.proofs.Widths.{line-length, in-columns, total-length, page-length}
+
+-- ---- the page of an accepted plan
+
+module _ (m : ℕ) (words times : List ℕ) (ks : List Clock) (e : then (tableOf m words) clocksOf ≡ good ks) where
+  pub accepted : (length ks ≡ m) × (m ≤ maxFlows) × AllSane (clockAt ks) m
+  accepted = let t = then-good (tableOf m words) clocksOf ks e in accepted-sane m words (t .0) ks (t .1) (t .2)
+
+  abbrev pub lines : List Line
+  lines = sorted (linesFrom (lineOf ks times) (length ks) 0)
+
+  pub ordered : Ordered (linesFrom (lineOf ks times) (length ks) 0) lines
+  ordered = in-order (lineOf ks times) (λ f. refl) (length ks) (omega (arith, accepted .0, accepted .1))
+
+  of-flows : (l : Line) → Among l lines → (f : ℕ) × (f < m) × (l ≡ lineOf ks times f)
+  of-flows l i =
+      let x = of-lines (lineOf ks times) (length ks) 0 l (ordered .only l i) in
+      (x .0, omega (arith, x .2, accepted .0), x .3)
+
+  module _ (loads : (f : ℕ) → f < m → lineOf ks times f .load ≤ maxLoad) where
+    pub load-bounds : (l : Line) → Among l lines → l .load ≤ maxLoad
+    load-bounds l i = let x = of-flows l i in omega (arith, loads (x .0) (x .1), ap (λ (y : Line). y .load) (x .2))
+
+    pub widths : (l : Line) → Among l lines → length (lineText l) ≡ lineSize
+    widths l i =
+        let x = of-flows l i in
+        let c = in-columns ks times (x .0) (omega (arith, x .1, accepted .1)) (accepted .2 (x .0) (x .1)) (loads (x .0) (x .1)) in
+        ap (λ (y : Line). length (lineText y)) (x .2) ∙ line-length (lineOf ks times (x .0)) c
+
+    size : length lines ≡ m
+    size = ordered .size ∙ lines-length (lineOf ks times) (length ks) 0 ∙ accepted .0
+
+    pub total-bounds : total lines ≤ maxFlows * maxLoad
+    total-bounds = omega (arith, total-bound lines load-bounds, size, accepted .1)
+
+    pub last : length (totalText (total lines)) ≡ lineSize
+    last = total-length (total lines) total-bounds
+
+    pub page-size : length (pageOf ks times) ≡ lineSize * (m + 1)
+    page-size = omega (arith, page-length lines widths last, size)
+
+-- ---- each case
+
+  module _ (room : ℕ) where
+    pub paging-times : (length times ≡ m → ⊥) → paging m words times room ≡ refused wrongTimes 0
+    unfolding paging
+    paging-times h = rw (e, ne-eqb (length times) m h)
+
+    pub paging-short : length times ≡ m → room < lineSize * (m + 1) → paging m words times room ≡ refused shortPage 0
+    unfolding paging
+    paging-short t h = rw (e, eq-eqb (length times) m t, lt-leb (lineSize * (m + 1)) room h)
+
+    pub paging-good : length times ≡ m → lineSize * (m + 1) ≤ room → paging m words times room ≡ good (pageOf ks times)
+    unfolding paging
+    paging-good t h = rw (e, eq-eqb (length times) m t, le-leb (lineSize * (m + 1)) room h)
+
+paging-refused : (m : ℕ) (words times : List ℕ) (room : ℕ) (why : Refusal) (f : ℕ) → then (tableOf m words) clocksOf ≡ refused why f → paging m words times room ≡ refused why f
+unfolding paging
+paging-refused m words times room why f e = rw e
+
+-- a refusal leaves the page
+refused-page : (m : ℕ) (words times old : List ℕ) (why : Refusal) (f : ℕ) → paging m words times (length old) ≡ refused why f
+    → (refusal why f ≡ pageAnswer m words times (length old)) × (old ≡ pageAfter m words times old)
+refused-page m words times old why f e = (rw e, rw e)
+
+-- ---- after the check
+
+module _ (m : ℕ) (words times zeros clocks : List ℕ) (found : Answer) (room : clockSize * maxFlows ≤ length zeros)
+    (answered : found ≡ checkAnswer m words (length zeros)) (stored : clocks ≡ clocksAfter m words zeros) where
+  rules : checking m words (length zeros) ≡ then (tableOf m words) clocksOf
+  rules = check-whole m words (length zeros) room
+
+  -- the check's refusal is handed on
+  pub handed-on : (found .number ≡ 0 → ⊥) → (old : List ℕ) → (found ≡ pageAnswer m words times (length old)) × (old ≡ pageAfter m words times old)
+  handed-on z old =
+      let x = answer-other length (checking m words (length zeros)) (λ q. z (ap (λ (a : Answer). a .number) answered ∙ q)) in
+      let p = refused-page m words times old (x .0) (x .1) (paging-refused m words times (length old) (x .0) (x .1) (sym rules ∙ x .2)) in
+      (answered ∙ ap (answer length) (x .2) ∙ p .0, p .1)
+
+  module _ (zero : found .number ≡ 0) where
+    checked : (ks : List Clock) × (checking m words (length zeros) ≡ good ks)
+    checked = answer-zero length (checking m words (length zeros)) (sym (ap (λ (a : Answer). a .number) answered) ∙ zero)
+
+    abbrev ks : List Clock
+    ks = checked .0
+
+    clocked : then (tableOf m words) clocksOf ≡ good ks
+    clocked = sym rules ∙ checked .1
+
+    pub few : m ≤ maxFlows
+    few = accepted m words times ks clocked .1
+
+    pub wrong-times : (length times ≡ m → ⊥) → (old : List ℕ) → (refusal wrongTimes 0 ≡ pageAnswer m words times (length old)) × (old ≡ pageAfter m words times old)
+    wrong-times h old = refused-page m words times old wrongTimes 0 (paging-times m words times ks clocked (length old) h)
+
+    pub short : length times ≡ m → (old : List ℕ) → length old < lineSize * (m + 1)
+        → (refusal shortPage 0 ≡ pageAnswer m words times (length old)) × (old ≡ pageAfter m words times old)
+    short t old h = refused-page m words times old shortPage 0 (paging-short m words times ks clocked (length old) t h)
+
+    -- the lines by the words that the check left are those by the clocks
+    word : (f i : ℕ) → f < m → i < clockSize → getD clocks (clockSize * f + i) 0 ≡ getD (clockWords (clockAt ks f)) i 0
+    word f i l x =
+        ap (λ (w : List ℕ). getD w (clockSize * f + i) 0) (stored ∙ ap (λ (r : Result (List Clock)). leaves clocksWords r zeros) (checked .1))
+        ∙ word-at ks (drop (length (clocksWords ks)) zeros) f i (omega (arith, accepted m words times ks clocked .0)) x
+
+    line : (f : ℕ) → f < m → lineIn clocks times f ≡ lineOf ks times f
+    line f l =
+        let p : getD clocks (clockSize * f) 0 ≡ clockAt ks f .period = ap (λ (i : ℕ). getD clocks i 0) (sym (add-zero (clockSize * f))) ∙ word f 0 l (omega arith) in
+        let q : getD clocks (clockSize * f + 1) 0 ≡ clockAt ks f .phase = word f 1 l (omega arith) in
+        let n : getD clocks (clockSize * f + 2) 0 ≡ length (clockAt ks f .conditions) = word f 2 l (omega arith) in
+        let s = accepted m words times ks clocked .2 f l in
+        let c : loadIn (getD times f 0) (getD clocks (clockSize * f) 0) ≡ load (getD times f 0) (clockAt ks f .period) =
+        ap (loadIn (getD times f 0)) p ∙ sym (load-some (getD times f 0) (clockAt ks f .period) (λ (z : clockAt ks f .period ≡ 0). omega (arith, s .positive))) in
+        cc
+
+    same-lines : linesIn clocks times m ≡ linesFrom (lineOf ks times) (length ks) 0
+    same-lines =
+        lines-same (lineIn clocks times) (lineOf ks times) m 0 (λ (f : ℕ). λ (l : f < 0 + m). line f (omega arith))
+        ∙ ap (λ (n : ℕ). linesFrom (lineOf ks times) n 0) (sym (accepted m words times ks clocked .0))
+
+    pub done : {old new : List ℕ} {size : ℕ} → length times ≡ m → lineSize * (m + 1) ≤ length old → Loaded clocks times m
+        → Wrote 0 (pageText (sorted (linesIn clocks times m))) old size new
+        → (size ≡ lineSize * (m + 1)) × (success size ≡ pageAnswer m words times (length old)) × (new ≡ pageAfter m words times old)
+    done {old} {new} {size} t h b w =
+        let loads : (f : ℕ) → f < m → lineOf ks times f .load ≤ maxLoad = λ (f : ℕ). λ (l : f < m). subst (λ (y : Line). y .load ≤ maxLoad) (line f l) (b .each f l) in
+        let bytes : List ℕ = pageOf ks times in
+        let n : length bytes ≡ lineSize * (m + 1) = page-size m words times ks clocked loads in
+        let same : pageText (sorted (linesIn clocks times m)) ≡ bytes = ap (λ (ls : List Line). pageText (sorted ls)) same-lines in
+        let v = whole (omega (arith, n)) (subst (λ (b : List ℕ). Wrote 0 b old size new) same w) in
+        let z : 0 + length bytes ≡ length bytes = zero-add (length bytes) in
+        let g : paging m words times (length old) ≡ good bytes = paging-good m words times ks clocked (length old) t h in
+        (v .0 ∙ z ∙ n, rw g (ap success (v .0 ∙ z)), rw g (v .1 ∙ ap (λ (i : ℕ). bytes ++ drop i old) z))

@@ -1,0 +1,59 @@
+-- `loads::least` meets its contract. Assumes nothing.
+use mathlib.Core.Path.{_≡_, subst}
+use Prim.Native.Nat.{ℕ, _-_, _≤_}
+use native.Mathlib.Omega.{arith}
+use denote.Ref.{now}
+use borrow.Author.Needs.{needs}
+use Rattle.loads.specs.Private.Words.{Least}
+use Rattle.loads.proofs.Selecting.{least-none, least-more}
+use Rattle.loads.proofs.least.Statement.{statement}
+use Rattle.loads.proofs.least.Tie as tie
+
+abbrev Inv-loop : tie.InvT-loop
+Inv-loop clocks n from best₀ f₀ best f = (f ≤ n) × Least clocks f from best
+
+abbrev μ-loop : tie.MeasureT-loop
+μ-loop clocks n from best₀ f₀ best f = n - f
+
+loop-holds : tie.Need-loop-holds Inv-loop μ-loop
+loop-holds c = (search needs, least-none _ _)
+
+key-requires : tie.Need-key-requires Inv-loop μ-loop
+key-requires c κs = search needs
+
+nearer-requires : tie.Need-nearer-requires Inv-loop μ-loop
+nearer-requires c κs = search needs
+
+add-f : tie.Need-add-f Inv-loop μ-loop
+add-f c = search needs
+
+loop-less : tie.Need-loop-less Inv-loop μ-loop
+loop-less c = search needs
+
+loop-again : tie.Need-loop-again Inv-loop μ-loop
+loop-again c =
+    let after-key = c .before in
+    let k = after-key .key .ensures in
+    let l = after-key .before .before .loop in
+    (search needs, least-more (k .0) (k .1) (c .nearer .ensures) (l .inv .1))
+
+returns : tie.Need-returns Inv-loop μ-loop
+returns c =
+    let l = c .before .loop in
+    let a = c .before .before .before .args in
+    let e : l .f ≡ a .n = omega (arith, l .inv .0, c .loop-test .left) in
+    subst (λ (i : ℕ). Least (now (a .clocks)) i (a .from) (l .best)) e (l .inv .1)
+
+pub least-spec : {M : Type 1} → statement M
+least-spec =
+    tie.close
+    (tie.spec
+    Inv-loop
+    μ-loop
+    loop-holds
+    key-requires
+    nearer-requires
+    add-f
+    loop-less
+    loop-again
+    returns)

@@ -1,0 +1,148 @@
+-- The load page, byte by byte: a line for each flow in order, and the total.
+use mathlib.Core.Path.{_≡_}
+use Prim.Native.Nat.{ℕ, zero, suc, _+_, _*_, _-_, _/_, _%_, _≤_, _<_}
+use mathlib.Core.Bool.{cond}
+use mathlib.Core.List.{List, [], _∷_, _++_}
+use lib.ListN.{length, getD}
+use lib.Dec.{ltb, leb, eqb}
+use Rattle.text.specs.Text.{lineFeed, space, right}
+use Rattle.table.specs.declared.Answer.{Answer}
+use Rattle.table.specs.Answers.{Result, good, unless, then, answer, leaves, wrongTimes, shortPage}
+use Rattle.table.specs.Rows.{maxFlows}
+use Rattle.table.specs.Plain.{tableOf}
+use Rattle.checker.specs.Clocks.{Clock}
+use Rattle.checker.specs.Rules.{clockAt, clocksOf}
+
+-- ---- a load
+
+-- r is the whole nearest to x / p, the upper one of two that are as near: twice the distance between x and r × p is below p, or p itself where r × p
+-- is above
+pub record Nearest (x p r : ℕ) : Type 0 where
+  pub below : 2 * (x - r * p) < p
+  pub above : 2 * (r * p - x) ≤ p
+
+-- x divided by p, to the nearest whole, the half going up
+abbrev pub rounded : ℕ → ℕ → ℕ
+rounded x p = cond (ltb (2 * (x % p)) p) (x / p) (x / p + 1)
+
+-- 1000 times the worst time divided by the period
+abbrev pub load : ℕ → ℕ → ℕ
+load worst period = rounded (1000 * worst) period
+
+-- the largest worst time, and the largest load
+abbrev pub maxTime : ℕ
+maxTime = 65535
+
+abbrev pub maxLoad : ℕ
+maxLoad = 1000 * maxTime
+
+-- ---- lines
+
+-- what a line shows of a flow
+pub record Line : Type 0 where
+  pub flow : ℕ
+  pub period : ℕ
+  pub phase : ℕ
+  pub conditions : ℕ
+  pub load : ℕ
+
+-- the line of flow f, by its clock and its worst time
+abbrev pub lineOf : List Clock → List ℕ → ℕ → Line
+lineOf ks times f =
+    record {
+      flow = f;
+      period = clockAt ks f .period;
+      phase = clockAt ks f .phase;
+      conditions = length (clockAt ks f .conditions);
+      load = load (getD times f 0) (clockAt ks f .period);
+    }
+
+-- the lines of n flows, from number f on
+unfoldable pub linesFrom : (ℕ → Line) → ℕ → ℕ → List Line
+linesFrom line zero f = []
+linesFrom line (suc n) f = line f ∷ linesFrom line n (suc f)
+
+-- ---- their order
+
+-- Lines stand by this number, ascending: by period, and equal periods by flow.
+abbrev pub key : Line → ℕ
+key l = maxFlows * l .period + l .flow
+
+-- a line put before the first one that has a larger key
+unfoldable pub insert : Line → List Line → List Line
+insert l [] = l ∷ []
+insert l (h ∷ ls) = cond (ltb (key l) (key h)) (l ∷ h ∷ ls) (h ∷ insert l ls)
+
+-- lines in order
+unfoldable pub sorted : List Line → List Line
+sorted [] = []
+sorted (l ∷ ls) = insert l (sorted ls)
+
+-- a line is among those of a list
+pub data Among (l : Line) : List Line → Type 0 where
+  here : {h : Line} {ls : List Line} → l ≡ h → Among l (h ∷ ls)
+  there : {h : Line} {ls : List Line} → Among l ls → Among l (h ∷ ls)
+
+-- each key is above the one before it, the first at least a number
+abbrev pub Ascending : ℕ → List Line → Type 0
+Ascending from [] = Unit {0}
+Ascending from (l ∷ ls) = (from ≤ key l) × Ascending (suc (key l)) ls
+
+-- what it is to be in order: sorted, and the same lines
+pub record Ordered (ls ss : List Line) : Type 0 where
+  pub ascending : Ascending 0 ss
+  pub size : length ss ≡ length ls
+  pub same : (l : Line) → Among l ls → Among l ss
+  pub only : (l : Line) → Among l ss → Among l ls
+
+-- ---- the page
+
+-- a number right-aligned in w characters, and a space
+abbrev pub field : ℕ → ℕ → List ℕ
+field w n = right w n ++ (space ∷ [])
+
+-- flow 2 wide, period 5, phase 5, count of conditions 1, load 8, one space between
+unfoldable pub lineText : Line → List ℕ
+lineText l =
+    field 2 (l .flow) ++ (field 5 (l .period) ++ (field 5 (l .phase) ++ (field 1 (l .conditions) ++ (right 8 (l .load) ++ (lineFeed ∷ [])))))
+
+unfoldable pub linesText : List Line → List ℕ
+linesText [] = []
+linesText (l ∷ ls) = lineText l ++ linesText ls
+
+-- the sum of the printed loads
+unfoldable pub total : List Line → ℕ
+total [] = 0
+total (l ∷ ls) = l .load + total ls
+
+-- `total`
+abbrev pub totalWord : List ℕ
+totalWord = 116 ∷ 111 ∷ 116 ∷ 97 ∷ 108 ∷ []
+
+unfoldable pub totalText : ℕ → List ℕ
+totalText n = totalWord ++ (right 20 n ++ (lineFeed ∷ []))
+
+unfoldable pub pageText : List Line → List ℕ
+pageText ls = linesText ls ++ totalText (total ls)
+
+-- the page of a plan by its clocks and worst times
+abbrev pub pageOf : List Clock → List ℕ → List ℕ
+pageOf ks times = pageText (sorted (linesFrom (lineOf ks times) (length ks) 0))
+
+-- the bytes of a line: 25 characters and a line feed
+abbrev pub lineSize : ℕ
+lineSize = 26
+
+-- what the page comes to where there is room for so many bytes
+unfoldable pub paging : ℕ → List ℕ → List ℕ → ℕ → Result (List ℕ)
+paging m words times room =
+    then (then (tableOf m words) clocksOf) λ ks.
+    unless (eqb (length times) m) wrongTimes 0
+    (unless (leb (lineSize * (m + 1)) room) shortPage 0 (good (pageOf ks times)))
+
+-- What it answers, and leaves in the lent page.
+abbrev pub pageAnswer : ℕ → List ℕ → List ℕ → ℕ → Answer
+pageAnswer m words times room = answer length (paging m words times room)
+
+abbrev pub pageAfter : ℕ → List ℕ → List ℕ → List ℕ → List ℕ
+pageAfter m words times old = leaves (λ bytes. bytes) (paging m words times (length old)) old

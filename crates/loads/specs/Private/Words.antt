@@ -1,0 +1,55 @@
+-- A flow's line by the words that the check left, and the least key of a flow: what the functions below the page promise.
+use mathlib.Core.Path.{_≡_}
+use Prim.Native.Nat.{ℕ, _+_, _*_, _≤_, _<_}
+use mathlib.Core.Bool.{cond}
+use mathlib.Core.List.{List}
+use lib.ListN.{getD}
+use lib.Dec.{eqb, ltb}
+use Rattle.checker.specs.Answers.{clockSize}
+use Rattle.loads.specs.Loads.{load, maxLoad, Line, linesFrom, key}
+
+-- a load, and 0 over a period of 0, which no clock has
+abbrev pub loadIn : ℕ → ℕ → ℕ
+loadIn worst period = cond (eqb period 0) 0 (load worst period)
+
+-- flow f's line by the words of the clocks, with a load
+abbrev pub lineWith : List ℕ → ℕ → ℕ → Line
+lineWith ws f cost =
+    record {
+      flow = f;
+      period = getD ws (clockSize * f) 0;
+      phase = getD ws (clockSize * f + 1) 0;
+      conditions = getD ws (clockSize * f + 2) 0;
+      load = cost;
+    }
+
+-- flow f's line by the words of the clocks and the worst times
+abbrev pub lineIn : List ℕ → List ℕ → ℕ → Line
+lineIn ws times f = lineWith ws f (loadIn (getD times f 0) (getD ws (clockSize * f) 0))
+
+-- the lines of n flows
+abbrev pub linesIn : List ℕ → List ℕ → ℕ → List Line
+linesIn ws times n = linesFrom (lineIn ws times) n 0
+
+-- no load of n flows is above the largest
+pub record Loaded (ws times : List ℕ) (n : ℕ) : Type 0 where
+  pub each : (f : ℕ) → f < n → lineIn ws times f .load ≤ maxLoad
+
+-- a flow's key, which has no part of the load
+abbrev pub keyIn : List ℕ → ℕ → ℕ
+keyIn ws f = key (lineWith ws f 0)
+
+-- no key is as large
+abbrev pub noKey : ℕ
+noKey = 9223372036854775808
+
+-- the lesser of the best key so far and a key that is not below from
+abbrev pub nearer : ℕ → ℕ → ℕ → ℕ
+nearer from k best = cond (ltb k from) best (cond (ltb k best) k best)
+
+-- the least key of n flows that is not below from, and noKey where there is none
+pub record Least (ws : List ℕ) (n from best : ℕ) : Type 0 where
+  pub bound : best ≤ noKey
+  pub keys : (g : ℕ) → g < n → keyIn ws g < noKey
+  pub least : (g : ℕ) → g < n → from ≤ keyIn ws g → best ≤ keyIn ws g
+  pub found : best < noKey → (g : ℕ) × (g < n) × (from ≤ keyIn ws g) × (keyIn ws g ≡ best)
