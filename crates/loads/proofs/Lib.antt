@@ -6,3 +6,4 @@ mod Sums
 mod Turns
 pub mod Widths
 pub mod Pages
+pub mod Shown

@@ -67,7 +67,7 @@ module _ (m : ℕ) (words times : List ℕ) (ks : List Clock) (e : then (tableOf
     pub page-size : length (pageOf ks times) ≡ lineSize * (m + 1)
     page-size = omega (arith, page-length lines widths last, size)
 
--- ---- each case
+  -- ---- each case
 
   module _ (room : ℕ) where
     pub paging-times : (length times ≡ m → ⊥) → paging m words times room ≡ refused wrongTimes 0

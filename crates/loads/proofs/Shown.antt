@@ -1,0 +1,74 @@
+-- What a caller finds on a page. Assumes nothing.
+use mathlib.Core.Path.{_≡_, refl, sym, _∙_, ap, subst}
+use Prim.Native.Nat.{ℕ, _+_, _*_, _≤_, _<_}
+use native.Mathlib.Omega.{arith}
+use mathlib.Core.List.{List}
+use lib.ListN.{length, getD}
+use lib.Dec.{leb, eqb}
+use Rattle.table.specs.declared.Answer.{Answer}
+use Rattle.table.specs.Answers.{Result, good, then, unless, over, answer, leaves, wrongTimes, shortPage}
+use Rattle.table.specs.Plain.{tableOf}
+use Rattle.table.proofs.AnswerLaws.{answer-zero}
+use Rattle.table.proofs.Tests.{good-inj, then-good, unless-good}
+use Rattle.checker.specs.Clocks.{Clock}
+use Rattle.checker.specs.Rules.{clockAt, clocksOf}
+use Rattle.loads.specs.Loads.{load, maxTime, maxLoad, lineOf, pageOf, lineSize, paging, pageAnswer, pageAfter}
+use Rattle.loads.specs.Shown.{Shown, LoadPage}
+use Rattle.loads.proofs.Rounding.{rounded-nearest, one-nearest, load-some, load-fits}
+use Rattle.loads.proofs.Keys.{by-period}
+use Rattle.loads.proofs.Orders.{one-order}
+use Rattle.loads.proofs.Pages.{accepted, lines, ordered, load-bounds, widths, total-bounds, last, page-size}
+
+-- a page that was made is that of the clocks that the check gives
+page-made : (m : ℕ) (words times : List ℕ) (room : ℕ) (page : List ℕ) → paging m words times room ≡ good page
+    → (ks : List Clock) × (then (tableOf m words) clocksOf ≡ good ks) × (pageOf ks times ≡ page)
+unfolding paging
+page-made m words times room page e =
+    let x =
+    then-good (then (tableOf m words) clocksOf)
+    (λ ks. unless (eqb (length times) m) wrongTimes 0 (unless (leb (lineSize * (m + 1)) room) shortPage 0 (good (pageOf ks times)))) page e in
+    let y = unless-good (eqb (length times) m) wrongTimes 0 (unless (leb (lineSize * (m + 1)) room) shortPage 0 (good (pageOf (x .0) times))) page (x .2) in
+    let z = unless-good (leb (lineSize * (m + 1)) room) shortPage 0 (good (pageOf (x .0) times)) page (y .1) in
+    (x .0, x .1, good-inj (z .1))
+
+module _ (m : ℕ) (words times : List ℕ) (ks : List Clock) (e : then (tableOf m words) clocksOf ≡ good ks) (t : (f : ℕ) → getD times f 0 ≤ maxTime) where
+  positive : (f : ℕ) → f < m → 1 ≤ clockAt ks f .period
+  positive f l = accepted m words times ks e .2 f l .positive
+
+  loads : (f : ℕ) → f < m → lineOf ks times f .load ≤ maxLoad
+  loads f l =
+      let s = load-some (getD times f 0) (clockAt ks f .period) (λ (z : clockAt ks f .period ≡ 0). omega (arith, positive f l)) in
+      omega (arith, load-fits (getD times f 0) (clockAt ks f .period) (t f), s)
+
+  page-shown : Shown ks times (pageOf ks times)
+  page-shown =
+      record {
+        lines = lines m words times ks e;
+        ordered = ordered m words times ks e;
+        text = refl;
+        widths = widths m words times ks e loads;
+        last = last m words times ks e loads;
+        nearest = λ (f : ℕ). λ (l : f < length ks). rounded-nearest (1000 * getD times f 0) (clockAt ks f .period) (positive f (omega (arith, accepted m words times ks e .0)));
+        load-bound = load-bounds m words times ks e loads;
+        total-bound = total-bounds m words times ks e loads;
+      }
+
+pub load-page : LoadPage
+load-page =
+    record {
+      shown = λ m words times old new r a s t z.
+          let x = answer-zero length (paging m words times (length old)) (sym (ap (λ (w : Answer). w .number) a) ∙ z) in
+          let p = page-made m words times (length old) (x .0) (x .1) in
+          let e : paging m words times (length old) ≡ good (pageOf (p .0) times) = x .1 ∙ ap good (sym (p .2)) in (
+            p .0,
+            pageOf (p .0) times,
+            p .1,
+            s ∙ ap (λ (w : Result (List ℕ)). leaves (λ bytes. bytes) w old) e,
+            ap (λ (w : Answer). w .count) (a ∙ ap (answer length) e),
+            page-size m words times (p .0) (p .1) (loads m words times (p .0) (p .1) t),
+            page-shown m words times (p .0) (p .1) t,
+          );
+      one-order = one-order;
+      by-period = by-period;
+      one-nearest = one-nearest;
+    }
