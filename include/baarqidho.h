@@ -52,6 +52,10 @@ extern "C" {
 /* The bytes that a text buffer needs before any listing is made. */
 #define BAARQIDHO_LISTING_MAX 1926
 
+/* The bytes of a load page's line, its line feed too, and of the longest page. */
+#define BAARQIDHO_PAGE_LINE 26
+#define BAARQIDHO_PAGE_MAX 1690
+
 /* The numbers of the answers. */
 enum baarqidho_number {
     BAARQIDHO_OK = 0,
@@ -69,7 +73,9 @@ enum baarqidho_number {
     BAARQIDHO_BAD_LOG_LENGTH = 32,     /* log length not ticks x inputs */
     BAARQIDHO_TRACE_TOO_SHORT = 33,    /* mark or value trace below ticks x flows */
     BAARQIDHO_CLASH = 34,              /* operands do not fit together; names tick and flow */
-    BAARQIDHO_WINDOW_TOO_SHORT = 35    /* marks or values below 8,192 x flows, or tallies below 2 x flows */
+    BAARQIDHO_WINDOW_TOO_SHORT = 35,   /* marks or values below 8,192 x flows, or tallies below 2 x flows */
+    BAARQIDHO_BAD_TIMES_LENGTH = 36,   /* worst times not one a flow */
+    BAARQIDHO_PAGE_TOO_SHORT = 37      /* page below 26 x (flows + 1) bytes */
 };
 
 /*
@@ -176,6 +182,26 @@ uint32_t baarqidho_long_run(uint32_t plan_count, const uint32_t *words, size_t w
 uint32_t baarqidho_listing(const uint8_t *packed, size_t packed_len,
                            uint8_t *text, size_t text_len,
                            uint32_t *flow, uint32_t *tick, uint32_t *count);
+
+/*
+ * Checks a table and writes what each flow costs as text, the load page. `times` has one worst time a flow, in
+ * thousandths of a tick. Each flow has a line: flow in 2 characters, period in 5, phase in 5, how many conditions in 1
+ * and load in 8, each right-aligned, one space between. The load is 1000 x worst time / period to the nearest whole,
+ * the half going up. Lines stand by period ascending, equal periods by flow. The last line is `total` and the sum of
+ * the loads as they are printed, right-aligned in 20. Every line has 25 characters and a line feed; no zero byte
+ * follows.
+ *
+ * Success: count is the length of the page, BAARQIDHO_PAGE_LINE x (plan_count + 1); exactly that many bytes are
+ * written, later ones are left as they were. Refusals, in this order, each of which leaves all of `page` as it was:
+ *   11, then row by row 13, 14, 15, as in baarqidho_write
+ *   row by row 23, 21, 22, then 21 of a register's source, as in baarqidho_check
+ *   36  times_len is not plan_count
+ *   37  `page` has fewer bytes than the page needs (BAARQIDHO_PAGE_MAX is enough for every table)
+ */
+uint32_t baarqidho_load_page(uint32_t plan_count, const uint32_t *words, size_t words_len,
+                             const uint16_t *times, size_t times_len,
+                             uint8_t *page, size_t page_len,
+                             uint32_t *flow, uint32_t *tick, uint32_t *count);
 
 #ifdef __cplusplus
 }

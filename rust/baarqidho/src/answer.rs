@@ -52,6 +52,8 @@ impl Answer {
             33 => Refusal::TraceTooShort,
             34 => Refusal::Clash { tick, flow },
             35 => Refusal::WindowTooShort,
+            36 => Refusal::BadTimesLength,
+            37 => Refusal::PageTooShort,
             _ => Refusal::Other { number },
         })
     }
@@ -119,6 +121,10 @@ pub enum Refusal {
     /// 35: the marks or the values of a long run have less than [`WINDOW_TICKS`](crate::WINDOW_TICKS) cells a flow, or
     /// the tallies less than [`TALLY_WORDS`](crate::TALLY_WORDS) words a flow.
     WindowTooShort,
+    /// 36: the worst times of a load page are not one a flow.
+    BadTimesLength,
+    /// 37: the page has less than [`PAGE_LINE`](crate::PAGE_LINE) bytes for each flow and the total.
+    PageTooShort,
     /// A number that the interface does not name.
     Other {
         /// That number.
@@ -145,6 +151,8 @@ impl Refusal {
             Refusal::TraceTooShort => 33,
             Refusal::Clash { .. } => 34,
             Refusal::WindowTooShort => 35,
+            Refusal::BadTimesLength => 36,
+            Refusal::PageTooShort => 37,
             Refusal::Other { number } => number,
         }
     }
@@ -167,6 +175,8 @@ impl Refusal {
             Refusal::TraceTooShort => "a trace has less than one cell per tick and flow",
             Refusal::Clash { .. } => "its operands do not fit together: clash",
             Refusal::WindowTooShort => "marks or values below a window, or tallies below two words a flow",
+            Refusal::BadTimesLength => "the worst times are not one a flow",
+            Refusal::PageTooShort => "the page has less than a line for each flow and the total",
             Refusal::Other { .. } => "a number that the interface does not name",
         }
     }

@@ -79,6 +79,19 @@ extern "C" {
         tick: *mut u32,
         count: *mut u32,
     ) -> u32;
+
+    fn baarqidho_load_page(
+        plan_count: u32,
+        words: *const u32,
+        words_len: usize,
+        times: *const u16,
+        times_len: usize,
+        page: *mut u8,
+        page_len: usize,
+        flow: *mut u32,
+        tick: *mut u32,
+        count: *mut u32,
+    ) -> u32;
 }
 
 /// Makes a call that returns its number and puts flow, tick and count through the three pointers.
@@ -276,5 +289,43 @@ pub fn listing(packed: &[u8], text: &mut [u8]) -> Answer {
     answer(|flow, tick, count| {
         // SAFETY: pointers and lengths are those of live slices, `text` lent to this call alone.
         unsafe { baarqidho_listing(packed.as_ptr(), packed.len(), text.as_mut_ptr(), text.len(), flow, tick, count) }
+    })
+}
+
+/// Checks a plain table and writes what each flow costs as text, from one worst time a flow in thousandths of a tick:
+/// a line for each flow by period, equal periods by flow, and a last one with the sum of the printed loads, each of
+/// [`PAGE_LINE`](crate::PAGE_LINE) bytes. A load is 1000 times the worst time divided by the period, to the nearest
+/// whole, the half going up.
+///
+/// Success gives the count of bytes and writes exactly those. Refusals, none of which touches `page`: 11, 13, 14, 15,
+/// those of the check (23, 21 and 22), 36 where `times` is not one a flow, and 37 where `page` is too short.
+/// [`PAGE_MAX`](crate::PAGE_MAX) bytes are enough for every table.
+///
+/// ```
+/// use baarqidho::{load_page, PAGE_LINE};
+///
+/// // Flow, period, phase, how many conditions, and load: 187.5 goes up.
+/// let mut page = [b'.'; 2 * PAGE_LINE + 1];
+/// let answer = load_page(1, &[0, 16, 5, 0], &[3], &mut page);
+/// assert_eq!((answer.number, answer.count), (0, 52));
+/// assert_eq!(&page, b" 0    16     5 0      188\ntotal                 188\n.");
+/// ```
+pub fn load_page(plan_count: u32, words: &[u32], times: &[u16], page: &mut [u8]) -> Answer {
+    answer(|flow, tick, count| {
+        // SAFETY: pointers and lengths are those of live slices, `page` lent to this call alone.
+        unsafe {
+            baarqidho_load_page(
+                plan_count,
+                words.as_ptr(),
+                words.len(),
+                times.as_ptr(),
+                times.len(),
+                page.as_mut_ptr(),
+                page.len(),
+                flow,
+                tick,
+                count,
+            )
+        }
     })
 }

@@ -2,12 +2,13 @@
 //!
 //! A plan is a table of 1 to 64 flows, each defined by one row. The library reads and writes the packed form of a
 //! table, gives each flow its clock (the check), replays an input log into a trace (the run) or, over millions of
-//! ticks, into a window and tallies (the long run), and lists the clocks as text.
+//! ticks, into a window and tallies (the long run), lists the clocks as text, and prints what each flow costs (the load
+//! page).
 //!
-//! There are two layers. [`read()`], [`write()`], [`check()`], [`run()`], [`long_run()`] and [`listing()`] are the
-//! library's calls over slices that the caller lends; each takes any arguments and returns an [`Answer`]. [`Plan`] owns
-//! its words, is made of [`Row`]s, words or packed bytes, and returns [`Refusal`]s as errors; that of a run is a
-//! [`RunError`], which has the trace up to a clash.
+//! There are two layers. [`read()`], [`write()`], [`check()`], [`run()`], [`long_run()`], [`listing()`] and
+//! [`load_page()`] are the library's calls over slices that the caller lends; each takes any arguments and returns an
+//! [`Answer`]. [`Plan`] owns its words, is made of [`Row`]s, words or packed bytes, and returns [`Refusal`]s as errors;
+//! that of a run is a [`RunError`], which has the trace up to a clash.
 //!
 //! ```
 //! use baarqidho::{Plan, Row, RunError};
@@ -40,7 +41,7 @@ mod trace;
 
 pub use answer::{Answer, Refusal};
 pub use clock::{Clock, Condition};
-pub use ffi::{check, listing, long_run, read, run, write};
+pub use ffi::{check, listing, load_page, long_run, read, run, write};
 pub use long::LongRun;
 pub use plan::{list, Plan};
 pub use row::Row;
@@ -74,6 +75,12 @@ pub const TALLY_WORDS: usize = 2;
 
 /// The bytes of the longest packed table: a count, and [`MAX_FLOWS`] rows of 61 bits.
 pub const PACKED_MAX: usize = 1 + (MAX_FLOWS * 61).div_ceil(8);
+
+/// The bytes of a load page's line, its line feed too.
+pub const PAGE_LINE: usize = 26;
+
+/// The bytes of the longest load page: a line for each of [`MAX_FLOWS`] flows, and one for the total.
+pub const PAGE_MAX: usize = PAGE_LINE * (MAX_FLOWS + 1);
 
 /// The repository's README, whose example is a test.
 #[cfg(doctest)]

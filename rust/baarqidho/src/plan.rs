@@ -1,7 +1,8 @@
 //! A plan that owns its words, and the calls over it.
 
-use crate::{check, listing, long_run, read, run, write, Clash, Clock, LongRun, Refusal, Row, RunError, Trace};
-use crate::{CLOCK_WORDS, LISTING_MAX, MAX_FLOWS, MAX_LONG_TICKS, MAX_TICKS, PACKED_MAX, ROW_WORDS};
+use crate::{check, listing, load_page, long_run, read, run, write};
+use crate::{Clash, Clock, LongRun, Refusal, Row, RunError, Trace};
+use crate::{CLOCK_WORDS, LISTING_MAX, MAX_FLOWS, MAX_LONG_TICKS, MAX_TICKS, PACKED_MAX, PAGE_MAX, ROW_WORDS};
 use crate::{TALLY_WORDS, WINDOW_TICKS};
 
 /// A plan in plain form: [`ROW_WORDS`] words a flow. It may be any table; the calls say what is wrong with it.
@@ -154,6 +155,36 @@ impl Plan {
         Ok(LongRun::new(answer.result()?, marks, values, tallies))
     }
 
+    /// Checks it, and prints what each flow costs, from one worst time a flow in thousandths of a tick. A line has
+    /// flow, period, phase, how many conditions, and load: 1000 times the worst time divided by the period, to the
+    /// nearest whole, the half going up. Lines stand by period, equal periods by flow; the last one has the sum of the
+    /// loads as they are printed.
+    ///
+    /// ```
+    /// use baarqidho::{Plan, Row};
+    ///
+    /// // A command every 16 ticks, a reading every 4, and those readings alone that are not zero.
+    /// let rows = [Row::Input { period: 16, phase: 8 }, Row::Input { period: 4, phase: 0 }, Row::When { a: 1, c: 1 }];
+    /// let page = Plan::from_rows(rows).load_page(&[1, 200, 65_535])?;
+    /// let lines = [
+    ///     " 1     4     0 0    50000\n",
+    ///     " 2     4     0 1 16383750\n",
+    ///     " 0    16     8 0       63\n",
+    ///     "total            16433813\n",
+    /// ];
+    /// assert_eq!(page, lines.concat());
+    /// # Ok::<(), baarqidho::Refusal>(())
+    /// ```
+    ///
+    /// # Errors
+    ///
+    /// The refusal of [`load_page()`]: 11, 13, 14, 15, 21, 22, 23 or 36.
+    pub fn load_page(&self, times: &[u16]) -> Result<String, Refusal> {
+        let mut page = vec![0; PAGE_MAX];
+        let bytes = load_page(self.count(), &self.words, times, &mut page).result()?;
+        Ok(text(page, bytes))
+    }
+
     /// How many cells a clash has before it. That of a register is found after all flows of its tick.
     fn cells_before(&self, tick: u32, flow: u32) -> usize {
         let (tick, flow) = (tick as usize, flow as usize);
@@ -184,8 +215,13 @@ impl FromIterator<Row> for Plan {
 /// assert_eq!(baarqidho::list(&[]), "no 12 0\n");
 /// ```
 pub fn list(packed: &[u8]) -> String {
-    let mut text = vec![0; LISTING_MAX];
-    let answer = listing(packed, &mut text);
-    text.truncate(answer.count as usize);
-    text.into_iter().map(char::from).collect()
+    let mut lines = vec![0; LISTING_MAX];
+    let answer = listing(packed, &mut lines);
+    text(lines, answer.count as usize)
+}
+
+/// The first bytes, so many, as text.
+fn text(mut bytes: Vec<u8>, length: usize) -> String {
+    bytes.truncate(length);
+    bytes.into_iter().map(char::from).collect()
 }

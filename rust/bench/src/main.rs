@@ -1,7 +1,7 @@
 //! The proved library against Rust, in one process and on the same input. The run is measured against two others: the
 //! same algorithm in safe Rust (`peer::mirror`), and a quick run with rows made ready beforehand (`peer::run`). The
-//! long run is measured against the long runs of both, and against the library's run of the same ticks. Check, write
-//! and read are measured against the quick implementation.
+//! long run is measured against the long runs of both, and against the library's run of the same ticks. Check, write,
+//! read and load page are measured against the quick implementation.
 //!
 //!     cargo run --release -p bench
 //!
@@ -67,7 +67,7 @@ fn report() {
     let growth = [65_535, 524_287, MOST_LONG_TICKS].map(|ticks| runs::run(&LONG, &mixed(4), ticks));
     runs::linear("64 times the ticks", &growth);
 
-    tables::heading("Check, write and read, a call");
+    tables::heading("Check, write, read and load page, a call");
     for flows in [1, 4, 16, 64] {
         tables::table(&mixed(flows));
         tables::table(&sums(flows));

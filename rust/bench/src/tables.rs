@@ -1,4 +1,4 @@
-//! Check, write and read: library and quick implementation.
+//! Check, write, read and load page: library and quick implementation.
 
 use std::hint::black_box;
 
@@ -28,7 +28,7 @@ fn many(count: u32, mut call: impl FnMut() -> u32) {
     }
 }
 
-/// Measures check, write and read of one plan; both give the same clocks, bytes and words.
+/// Measures check, write, read and load page of one plan; both give the same clocks, bytes, words and text.
 pub fn table(plan: &Plan) {
     let (count, words) = (plan.flows() as u32, &plan.words[..]);
 
@@ -58,4 +58,14 @@ pub fn table(plan: &Plan) {
     assert_eq!(plain, quick_plain);
     assert_eq!(plain[..words.len()], *words);
     line("read", plan, &measured);
+
+    let times = &plan.times()[..];
+    let (mut page, mut quick_page) = ([0; baarqidho::PAGE_MAX], [0; baarqidho::PAGE_MAX]);
+    let bytes = baarqidho::load_page(count, words, times, &mut page).count;
+    let measured = by_turns(|which| match which {
+        0 => many(bytes, || baarqidho::load_page(count, black_box(words), times, &mut page).count),
+        _ => many(bytes, || peer::load_page(count, black_box(words), times, &mut quick_page).count),
+    });
+    assert_eq!(page, quick_page);
+    line("load page", plan, &measured);
 }

@@ -1,4 +1,4 @@
-//! Bench plans, quick: read, write, check, run, long run and listing with constant work a cell and no heap.
+//! Bench plans, quick: read, write, check, run, long run, listing and load page with constant work a cell and no heap.
 //!
 //! The run carries between ticks only what each kind of row needs, so that no cell looks through the trace again.
 //! It is what the proved library is measured against, with the runs of [`mirror`] beside it.
@@ -7,6 +7,7 @@ mod check;
 mod listing;
 pub mod mirror;
 mod packed;
+mod page;
 mod plan;
 mod run;
 mod steps;
@@ -14,6 +15,7 @@ mod steps;
 pub use check::check;
 pub use listing::listing;
 pub use packed::{read, write};
+pub use page::load_page;
 pub use run::{long_run, run};
 
 include!("../../listing_max.rs");

@@ -1,4 +1,5 @@
-//! Bench plans as the paper words them: read, write, check, run, long run and listing, each rule one function.
+//! Bench plans as the paper words them: read, write, check, run, long run, listing and load page, each rule one
+//! function.
 //!
 //! Nothing here is quick. Packed tables are read and written bit by bit, and the run keeps no state: it looks
 //! through the history of the trace for everything it needs. It is what the other implementations are held
@@ -11,6 +12,7 @@ mod listing;
 mod long;
 mod operators;
 mod packed;
+mod page;
 mod rows;
 mod run;
 
@@ -18,6 +20,7 @@ pub use check::check;
 pub use listing::listing;
 pub use long::long_run;
 pub use packed::{read, write};
+pub use page::load_page;
 pub use run::run;
 
 include!("../../listing_max.rs");

@@ -6,7 +6,7 @@
  * reply is number, flow, tick and count, then the slices written into, as they are afterwards. All in the machine's
  * order of bytes.
  *
- * `declared.h` is made from `baarqidho.h` by the test: READ_DECLARED and the five others are the calls with the
+ * `declared.h` is made from `baarqidho.h` by the test: READ_DECLARED and the six others are the calls with the
  * header's own parameter names for arguments. A name that stands in another's place there is a wrong argument here.
  */
 #include <stdio.h>
@@ -127,6 +127,16 @@ static void answer_listing(void)
     GIVE(text);
 }
 
+static void answer_load_page(void)
+{
+    uint32_t plan_count = take_number();
+    TAKE(uint32_t, words);
+    TAKE(uint16_t, times);
+    TAKE(uint8_t, page);
+    ANSWER(LOAD_PAGE_DECLARED);
+    GIVE(page);
+}
+
 int main(void)
 {
     int letter;
@@ -139,6 +149,7 @@ int main(void)
         case 'x': answer_run(); break;
         case 'X': answer_long_run(); break;
         case 'l': answer_listing(); break;
+        case 'p': answer_load_page(); break;
         default: return 1;
         }
         fflush(stdout);

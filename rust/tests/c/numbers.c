@@ -303,6 +303,60 @@ static void all_of_listing(void)
     refuses(BAARQIDHO_OUTPUT_TOO_SHORT, 0);
 }
 
+static void pages(const char *name, const uint32_t *of, size_t words_len, const uint16_t *times, size_t times_len,
+                  size_t page_len)
+{
+    begin(name);
+    number = baarqidho_load_page((uint32_t)(words_len / BAARQIDHO_ROW_WORDS), of, words_len, times, times_len,
+                                 bytes, page_len, &flow, &tick, &count);
+}
+
+static void all_of_load_page(void)
+{
+    /* Input (16, 3), the constant 7 at (4, 0), and the constant where it is not 0. */
+    static const uint32_t costly[] = {0, 16, 3, 0, 1, 7, 4, 0, 13, 1, 1, 0};
+    static const uint16_t times[] = {1, 65535, 9, 8};
+    static const char page[] = " 1     4     0 0 16383750\n"
+                               " 2     4     0 1     2250\n"
+                               " 0    16     3 0       63\n"
+                               "total            16386063\n";
+    static const char total[] = "total          4194240000\n";
+    uint32_t busiest[BAARQIDHO_MAX_FLOWS * BAARQIDHO_ROW_WORDS];
+    uint16_t greatest[BAARQIDHO_MAX_FLOWS];
+    size_t row;
+
+    pages("load page", costly, LENGTH(costly), times, 3, 4 * BAARQIDHO_PAGE_LINE);
+    answers(BAARQIDHO_OK, 0, 0, sizeof page - 1);
+    wrote((const uint8_t *)page, sizeof page - 1, NULL, 0);
+    pages("load page, more room than it needs", costly, LENGTH(costly), times, 3, BAARQIDHO_PAGE_MAX);
+    answers(BAARQIDHO_OK, 0, 0, 4 * BAARQIDHO_PAGE_LINE);
+    wrote((const uint8_t *)page, sizeof page - 1, NULL, 0);
+    pages("load page, too few times", costly, LENGTH(costly), times, 2, BAARQIDHO_PAGE_MAX);
+    refuses(BAARQIDHO_BAD_TIMES_LENGTH, 0);
+    pages("load page, too many times", costly, LENGTH(costly), times, 4, 0);
+    refuses(BAARQIDHO_BAD_TIMES_LENGTH, 0);
+    pages("load page into too little", costly, LENGTH(costly), times, 3, 4 * BAARQIDHO_PAGE_LINE - 1);
+    refuses(BAARQIDHO_PAGE_TOO_SHORT, 0);
+    pages("load page, no words", costly, 0, times, 3, BAARQIDHO_PAGE_MAX);
+    refuses(BAARQIDHO_BAD_COUNT, 0);
+    pages("load page, clocks differ", differing, LENGTH(differing), times, 3, BAARQIDHO_PAGE_MAX);
+    refuses(BAARQIDHO_CLOCKS_DIFFER, 2);
+    pages("load page, period 4158", beyond, LENGTH(beyond), times, 3, BAARQIDHO_PAGE_MAX);
+    refuses(BAARQIDHO_BEYOND_LIMITS, 3);
+    pages("load page, tail of a sampled flow", sampled, LENGTH(sampled), times, 4, 0);
+    refuses(BAARQIDHO_NOT_PLAIN, 4);
+
+    for (row = 0; row < BAARQIDHO_MAX_FLOWS; row++) {
+        busiest[row * BAARQIDHO_ROW_WORDS] = busiest[row * BAARQIDHO_ROW_WORDS + 2] = 1;
+        busiest[row * BAARQIDHO_ROW_WORDS + 1] = busiest[row * BAARQIDHO_ROW_WORDS + 3] = 0;
+        greatest[row] = 65535;
+    }
+    pages("load page, the longest", busiest, LENGTH(busiest), greatest, LENGTH(greatest), BAARQIDHO_PAGE_MAX);
+    answers(BAARQIDHO_OK, 0, 0, BAARQIDHO_PAGE_MAX);
+    for (row = 0; row < BAARQIDHO_PAGE_LINE; row++)
+        same("the total", bytes[BAARQIDHO_MAX_FLOWS * BAARQIDHO_PAGE_LINE + row], (uint8_t)total[row]);
+}
+
 int main(void)
 {
     all_of_read();
@@ -311,5 +365,6 @@ int main(void)
     all_of_run();
     all_of_long_run();
     all_of_listing();
+    all_of_load_page();
     return is_wrong;
 }

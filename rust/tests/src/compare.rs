@@ -13,7 +13,7 @@ const GUARD: usize = 8;
 pub struct Outcome {
     /// Number, flow, tick and count.
     pub parts: Parts,
-    /// The buffer of bytes: packed, marks or text.
+    /// The buffer of bytes: packed, marks, text or page.
     pub bytes: Vec<u8>,
     /// The buffer of words: plain words, clocks or values.
     pub words: Vec<u32>,
@@ -150,6 +150,22 @@ pub fn check(of: &[&Implementation], plan: &Plan, clocks_len: usize) -> Outcome 
 pub fn listing(of: &[&Implementation], packed: &[u8], text_len: usize) -> Outcome {
     let context = || format!("listing of {packed:?} into {text_len} bytes");
     compare(of, lengths(text_len, 0), context, |of, lent| (of.listing)(packed, lent.bytes))
+}
+
+/// The bytes that the load page of so many flows has: 26 for each of them, and for the total.
+pub fn page_bytes(flows: usize) -> usize {
+    26 * (flows + 1)
+}
+
+/// Writes the load page of a plan into a buffer of that many bytes.
+pub fn load_page(of: &[&Implementation], plan: &Plan, times: &[u16], page_len: usize) -> Outcome {
+    let context = || format!("load page of {plan:?}, times {times:?}, into {page_len} bytes");
+    compare(of, lengths(page_len, 0), context, |of, lent| (of.load_page)(plan.count, &plan.words, times, lent.bytes))
+}
+
+/// Writes the load page of a plan into a buffer of exactly the bytes needed.
+pub fn load_page_exactly(of: &[&Implementation], plan: &Plan, times: &[u16]) -> Outcome {
+    load_page(of, plan, times, page_bytes(plan.words.len() / 4))
 }
 
 /// A run in words, for messages.

@@ -3,7 +3,7 @@
 /// Number, flow, tick and count of an answer.
 pub type Parts = (u32, u32, u32, u32);
 
-/// An implementation of the six calls.
+/// An implementation of the seven calls.
 #[derive(Debug)]
 pub struct Implementation {
     /// Its name, for messages.
@@ -22,6 +22,8 @@ pub struct Implementation {
     pub long_run: fn(u32, &[u32], &[u32], u32, &mut [u8], &mut [u32], &mut [u32]) -> Parts,
     /// Packed bytes to text.
     pub listing: fn(&[u8], &mut [u8]) -> Parts,
+    /// Count, words and worst times to a load page.
+    pub load_page: fn(u32, &[u32], &[u16], &mut [u8]) -> Parts,
 }
 
 macro_rules! implementation {
@@ -36,6 +38,7 @@ macro_rules! implementation {
                 parts!($krate::long_run(count, words, log, ticks, marks, values, tallies))
             },
             listing: |packed, text| parts!($krate::listing(packed, text)),
+            load_page: |count, words, times, page| parts!($krate::load_page(count, words, times, page)),
         }
     };
 }

@@ -91,6 +91,21 @@ impl Rng {
         (0..words).map(|_| if truths { self.word() >> 31 } else { self.value() }).collect()
     }
 
+    /// A worst time: often 0 or the greatest, sometimes small, sometimes any.
+    pub fn time(&mut self) -> u16 {
+        match self.below(8) {
+            0 => 0,
+            1 => u16::MAX,
+            2 | 3 => self.range(1, 99) as u16,
+            _ => self.word() as u16,
+        }
+    }
+
+    /// That many worst times.
+    pub fn times(&mut self, flows: usize) -> Vec<u16> {
+        (0..flows).map(|_| self.time()).collect()
+    }
+
     /// A length that is mostly the one needed, else close to it or far off.
     pub fn around(&mut self, needed: usize) -> usize {
         match self.below(20) {

@@ -111,6 +111,12 @@ impl Request {
         words.iter().copied().fold(request, Request::number)
     }
 
+    fn times(self, times: &[u16]) -> Self {
+        let mut request = self.number(times.len() as u32);
+        request.0.extend(times.iter().flat_map(|time| time.to_ne_bytes()));
+        request
+    }
+
     /// Makes the call, which writes into these bytes and these slices of words.
     fn answer<const N: usize>(self, bytes: &mut [u8], words: [&mut [u32]; N]) -> Parts {
         static BRIDGE: OnceLock<Mutex<Bridge>> = OnceLock::new();
@@ -139,4 +145,7 @@ pub static C: Implementation = Implementation {
         plan.bytes(marks).words(values).words(tallies).answer(marks, [values, tallies])
     },
     listing: |packed, text| Request::new(b'l').bytes(packed).bytes(text).answer(text, []),
+    load_page: |count, words, times, page| {
+        Request::new(b'p').number(count).words(words).times(times).bytes(page).answer(page, [])
+    },
 };

@@ -1,4 +1,4 @@
-//! The C header: its constants and numbers, its six calls, and its example.
+//! The C header: its constants and numbers, its seven calls, and its example.
 
 use std::io::Write;
 use std::path::Path;
@@ -23,6 +23,8 @@ fn constant(name: &str) -> usize {
 fn constants_agree() {
     assert_eq!(constant("BAARQIDHO_LISTING_MAX"), baarqidho::LISTING_MAX);
     assert_eq!(constant("BAARQIDHO_PACKED_MAX"), baarqidho::PACKED_MAX);
+    assert_eq!(constant("BAARQIDHO_PAGE_LINE"), baarqidho::PAGE_LINE);
+    assert_eq!(constant("BAARQIDHO_PAGE_MAX"), baarqidho::PAGE_MAX);
     assert_eq!(constant("BAARQIDHO_MAX_FLOWS"), baarqidho::MAX_FLOWS);
     assert_eq!(constant("BAARQIDHO_MAX_TICKS"), baarqidho::MAX_TICKS as usize);
     assert_eq!(constant("BAARQIDHO_MAX_LONG_TICKS"), baarqidho::MAX_LONG_TICKS as usize);
@@ -38,7 +40,7 @@ fn constants_agree() {
 fn names_of_parameters() {
     let calls = declarations();
     let names: Vec<&str> = calls.iter().map(|call| &call.0[..]).collect();
-    assert_eq!(names, ["read", "write", "check", "run", "long_run", "listing"]);
+    assert_eq!(names, ["read", "write", "check", "run", "long_run", "listing", "load_page"]);
     for (call, names) in calls {
         assert!(names.ends_with(&["flow", "tick", "count"].map(String::from)), "{call}: {names:?}");
         for (slice, length) in names.iter().zip(&names[1..]).filter(|pair| pair.1.ends_with("_len")) {
@@ -77,7 +79,7 @@ fn numbers_from_cpp() {
     printed(&compiled(&["c++", "-x", "c++", "-std=c++11"], "rust/tests/c/numbers.c"));
 }
 
-/// All six calls on random plans, faults and damaged bytes: C has every part and every cell that Rust has.
+/// All seven calls on random plans, faults and damaged bytes: C has every part and every cell that Rust has.
 #[test]
 fn calls_from_c() {
     mixture(Rng::new(81), &[&LIBRARY, &C], rounds(10_000));

@@ -1,6 +1,7 @@
 //! Every limit, and one past it.
 
-use tests::compare::{check, listing, long_run, read, run, run_exactly, write, written_up_to, Lengths, Outcome};
+use tests::compare::{check, listing, load_page, long_run, read, run, run_exactly, write, written_up_to};
+use tests::compare::{Lengths, Outcome};
 use tests::implementation::{Parts, ALL, QUICK};
 use tests::rng::Rng;
 use tests::{Plan, LISTING_MAX};
@@ -10,18 +11,26 @@ fn without_buffers(plan: &Plan) -> Outcome {
     long_run(&ALL, plan, &[], 0, Lengths::default())
 }
 
-/// What the check answers. A long run hands on its refusal.
+/// A load page without times or room: refused by 36 where nothing else is wrong.
+fn without_times(plan: &Plan) -> Outcome {
+    load_page(&ALL, plan, &[], 0)
+}
+
+/// What the check answers. A long run and a load page hand on its refusal.
 fn checked(rows: &[[u32; 4]]) -> Parts {
     let plan = Plan::of(rows);
     let parts = check(&ALL, &plan, 7 * rows.len()).parts;
-    assert_eq!(without_buffers(&plan).parts, if parts.0 == 0 { (35, 0, 0, 0) } else { parts }, "{rows:?}");
+    for (outcome, number) in [(without_buffers(&plan), 35), (without_times(&plan), 36)] {
+        assert_eq!(outcome.parts, if parts.0 == 0 { (number, 0, 0, 0) } else { parts }, "{rows:?}");
+    }
     parts
 }
 
-/// Write, check, run and long run refuse a plain table alike, by number and row, and touch nothing.
+/// Write, check, run, long run and load page refuse a plain table alike, by number and row, and touch nothing.
 fn refused_plan(plan: &Plan, number: u32, row: u32) {
     let run = run(&ALL, plan, &[1, 2], 2, (9, 8));
-    for outcome in [write(&ALL, plan, 489), check(&ALL, plan, 489), run, without_buffers(plan)] {
+    let page = load_page(&ALL, plan, &[1, 2], 1_690);
+    for outcome in [write(&ALL, plan, 489), check(&ALL, plan, 489), run, without_buffers(plan), page] {
         assert_eq!(outcome.parts, (number, row, 0, 0), "{plan:?}");
         assert!(outcome.is_untouched(), "{plan:?}");
     }

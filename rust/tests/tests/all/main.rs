@@ -10,6 +10,8 @@ mod limits;
 mod long;
 mod mirror;
 mod packed;
+mod page;
+mod pages;
 mod paper;
 mod program;
 mod readme;

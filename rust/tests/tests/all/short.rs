@@ -1,6 +1,6 @@
 //! Many plans with short runs: all calls of all implementations, every cell compared.
 
-use tests::compare::{check, listing, long_run, read, run, window, write, Lengths};
+use tests::compare::{check, listing, load_page, long_run, page_bytes, read, run, window, write, Lengths};
 use tests::faults::{any_rows, disturb, plant};
 use tests::generate::{accepted, Clock, Shape};
 use tests::implementation::{Implementation, ALL};
@@ -30,6 +30,7 @@ pub fn every_call(rng: &mut Rng, of: &[&Implementation], plan: &Plan, tally: &mu
 
     short_run(rng, of, plan, tally);
     short_long_run(rng, of, plan, tally);
+    page(rng, of, plan, tally);
 
     let written = write(of, plan, 520);
     tally.add("write", written.parts.0);
@@ -79,6 +80,16 @@ fn short_long_run(rng: &mut Rng, of: &[&Implementation], plan: &Plan, tally: &mu
     };
     let outcome = long_run(of, plan, &log, ticks, lengths);
     tally.add("long run", outcome.parts.0);
+    assert!(outcome.parts.0 == 0 || outcome.is_untouched());
+}
+
+/// A load page, its times and its room now and then of the wrong length.
+fn page(rng: &mut Rng, of: &[&Implementation], plan: &Plan, tally: &mut Tally) {
+    let flows = plan.words.len() / 4;
+    let times_len = rng.around(flows);
+    let times = rng.times(times_len);
+    let outcome = load_page(of, plan, &times, rng.around(page_bytes(flows)));
+    tally.add("load page", outcome.parts.0);
     assert!(outcome.parts.0 == 0 || outcome.is_untouched());
 }
 

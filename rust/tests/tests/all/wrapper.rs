@@ -3,7 +3,7 @@
 use std::error::Error;
 
 use baarqidho::{list, Answer, Clash, LongRun, Plan, Refusal, Row, RunError};
-use tests::compare::{long_run_exactly, run_exactly, written_up_to, Outcome};
+use tests::compare::{load_page_exactly, long_run_exactly, run_exactly, written_up_to, Outcome};
 use tests::faults::any_rows;
 use tests::implementation::LIBRARY;
 use tests::rng::Rng;
@@ -219,6 +219,61 @@ fn long_runs_of_random_plans() {
 }
 
 #[test]
+fn load_pages() {
+    let page = merged().load_page(&[0, 1, 2, 3, 65_535]).expect("accepted");
+    let lines = [
+        " 0     4     0 0        0\n",
+        " 1     4     0 0      250\n",
+        " 2     4     0 1      500\n",
+        " 3     4     0 1      750\n",
+        " 4     4     0 0 16383750\n",
+        "total            16385250\n",
+    ];
+    assert_eq!(page, lines.concat());
+    let all = Plan::new([1, 8, 4095, 0].repeat(64)).load_page(&[0; 64]).expect("accepted");
+    assert_eq!((all.len(), all.lines().count()), (baarqidho::PAGE_MAX, 65));
+}
+
+#[test]
+fn errors_of_a_load_page() {
+    for times in [&[][..], &[1; 4], &[1; 6], &[1; 65]] {
+        assert_eq!(merged().load_page(times), Err(Refusal::BadTimesLength));
+    }
+    assert_eq!(Plan::new([0; 4 * 65]).load_page(&[1; 65]), Err(Refusal::BadCount));
+    assert_eq!(Plan::new([]).load_page(&[]), Err(Refusal::BadCount));
+    assert_eq!(Plan::new([0, 1, 0]).load_page(&[1]), Err(Refusal::BadCount));
+    let differing = Plan::new([0, 10, 0, 0, 0, 20, 0, 0, 2, 0, 1, 0]);
+    assert_eq!(differing.load_page(&[]), Err(Refusal::ClocksDiffer { flow: 2 }));
+    let short = baarqidho::load_page(1, &[1, 5, 1, 0], &[1], &mut [0; 51]);
+    assert_eq!(short.result(), Err(Refusal::PageTooShort));
+    let text = "the page has less than a line for each flow and the total (37)";
+    assert_eq!(Refusal::PageTooShort.to_string(), text);
+    assert_eq!(Refusal::BadTimesLength.to_string(), "the worst times are not one a flow (36)");
+}
+
+#[test]
+fn load_pages_of_random_plans() {
+    let mut rng = Rng::new(97);
+    let (mut printed, plans) = (0, rounds(5_000));
+    for round in 0..plans {
+        let mut plan = if round % 2 == 0 { any_rows(&mut rng) } else { faulty(&mut rng) };
+        plan.count = plan.words.len() as u32 / 4;
+        let times_len = rng.around(plan.count as usize);
+        let times = rng.times(times_len);
+        let outcome = load_page_exactly(&[&LIBRARY], &plan, &times);
+        let (number, flow, tick, count) = outcome.parts;
+        match Plan::new(&plan.words[..]).load_page(&times) {
+            Ok(page) => {
+                assert_eq!((number, page.as_bytes()), (0, &outcome.bytes[..count as usize]));
+                printed += 1;
+            }
+            Err(refusal) => assert_eq!(Err(refusal), Answer { number, flow, tick, count }.result(), "{plan:?}"),
+        }
+    }
+    assert!(printed > plans / 10, "{printed}");
+}
+
+#[test]
 fn errors_of_a_run() {
     let plan = Plan::new([0, 10, 0, 0, 0, 20, 0, 0, 2, 0, 1, 0]);
     let error = plan.run(&[0; 22], 11).expect_err("a clash");
@@ -237,7 +292,7 @@ fn errors_of_a_run() {
 #[test]
 fn numbers_and_refusals() {
     let mut meanings = Vec::new();
-    for number in (10..=16).chain(21..=23).chain(31..=35) {
+    for number in (10..=16).chain(21..=23).chain(31..=37) {
         let refusal = Answer { number, flow: 3, tick: 5, count: 0 }.result().expect_err("a refusal");
         assert_eq!(refusal.number(), number);
         assert!(!matches!(refusal, Refusal::Other { .. }));

@@ -1,0 +1,181 @@
+//! The load page: by hand, at every edge, and refused in the right order.
+
+use tests::compare::{load_page, load_page_exactly, page_bytes, pattern_byte};
+use tests::implementation::{Parts, ALL};
+use tests::Plan;
+
+/// The load page of rows and worst times has exactly these lines, which are worked out by hand.
+fn prints(rows: &[[u32; 4]], times: &[u16], lines: &[&str]) {
+    let page: String = lines.iter().map(|line| format!("{line}\n")).collect();
+    let outcome = load_page_exactly(&ALL, &Plan::of(rows), times);
+    assert_eq!(outcome.parts, (0, 0, 0, page.len() as u32), "{rows:?}");
+    assert_eq!(String::from_utf8_lossy(&outcome.bytes[..page.len()]), page, "{rows:?}");
+}
+
+/// The constant 7 at a clock.
+fn at(period: u32, phase: u32) -> [u32; 4] {
+    [1, 7, period, phase]
+}
+
+/// One flow: its load, and a total that is the same.
+#[test]
+fn loads() {
+    for (worst, period, load) in [
+        // 62.5, 187.5 and 312.5, and the same of a longer period; 0.5.
+        (1, 16, 63),
+        (3, 16, 188),
+        (5, 16, 313),
+        (2, 32, 63),
+        (255, 4080, 63),
+        (1, 2000, 1),
+        // 31.25, 93.75 and 0.25.
+        (1, 32, 31),
+        (3, 32, 94),
+        (1, 4000, 0),
+        // 333 and a third, 666 and two thirds.
+        (1, 3, 333),
+        (2, 3, 667),
+        // 2000 / 4095 and 3000 / 4095; 16003.66.
+        (2, 4095, 0),
+        (3, 4095, 1),
+        (65_535, 4095, 16_004),
+        // Nothing to round.
+        (0, 1, 0),
+        (0, 4095, 0),
+        (1, 1, 1_000),
+        (1, 1000, 1),
+        (65_535, 1, 65_535_000),
+        (65_535, 2, 32_767_500),
+    ] {
+        let lines = [format!(" 0 {period:>5}     0 0 {load:>8}"), format!("total{load:>20}")];
+        prints(&[at(period, 0)], &[worst], &[&lines[0], &lines[1]]);
+    }
+}
+
+/// The README's worked example; all columns at their widest; and 0 to 4 conditions.
+#[test]
+fn by_hand() {
+    let rows = [[0, 2, 0, 0], [9, 0, 2, 0], [7, 20, 1, 1], [4, 2, 1, 0], [13, 1, 3, 0]];
+    let lines = [
+        " 0     2     0 0   125000",
+        " 1     4     0 0     2500",
+        " 2     4     0 0      250",
+        " 3     4     0 0      500",
+        " 4     4     0 1 16383750",
+        "total            16512000",
+    ];
+    prints(&rows, &[250, 10, 1, 2, 65_535], &lines);
+    let rows = [[0, 4095, 4095, 0], [13, 0, 0, 0], [14, 1, 1, 0], [13, 2, 2, 0], [14, 3, 3, 0], at(1, 4095)];
+    let lines = [
+        " 5     1  4095 0 65535000",
+        " 0  4095  4095 0    16004",
+        " 1  4095  4095 1        0",
+        " 2  4095  4095 2        0",
+        " 3  4095  4095 3        0",
+        " 4  4095  4095 4    16003",
+        "total            65567007",
+    ];
+    prints(&rows, &[65_535, 0, 1, 2, 65_534, 65_535], &lines);
+}
+
+/// By period as a number, equal periods by flow; a phase, a load or conditions do not move a line.
+#[test]
+fn order_of_lines() {
+    let rows = [at(100, 0), at(9, 5), at(10, 0), at(9, 4), at(1000, 0), at(9, 4), at(100, 7), [13, 3, 3, 0], at(9, 0)];
+    let lines = [
+        " 1     9     5 0      111",
+        " 3     9     4 0    11111",
+        " 5     9     4 0        0",
+        " 7     9     4 1     1000",
+        " 8     9     0 0      222",
+        " 2    10     0 0      300",
+        " 0   100     0 0       10",
+        " 6   100     7 0       70",
+        " 4  1000     0 0        8",
+        "total               12832",
+    ];
+    prints(&rows, &[1, 1, 3, 100, 8, 0, 7, 9, 2], &lines);
+}
+
+/// The sum is that of the printed loads: 63 and 63 where 62.5 and 62.5 are 125, three times 333 where thirds are 1000.
+#[test]
+fn totals_of_printed_loads() {
+    let line = " 0    16     0 0       63";
+    prints(&[at(16, 0); 2], &[1; 2], &[line, " 1    16     0 0       63", "total                 126"]);
+    let thirds = [0, 1, 2].map(|flow| format!(" {flow}     3     0 0      333"));
+    prints(&[at(3, 0); 3], &[1; 3], &[&thirds[0], &thirds[1], &thirds[2], "total                 999"]);
+    let none = [0, 1, 2, 3].map(|flow| format!(" {flow}  4001     0 0        0"));
+    let lines = [&none[0], &none[1], &none[2], &none[3], "total                   0"];
+    prints(&[at(4001, 0); 4], &[2; 4], &lines);
+}
+
+/// 64 flows, forwards and backwards, and the greatest total there is.
+#[test]
+fn the_longest_page() {
+    let mut lines: Vec<String> = (0..64).map(|flow| format!("{flow:>2}     1     0 0 65535000")).collect();
+    lines.push("total          4194240000".to_string());
+    prints(&[at(1, 0); 64], &[65_535; 64], &lines.iter().map(String::as_str).collect::<Vec<_>>());
+
+    let rows: Vec<[u32; 4]> = (0..64).map(|flow| at(64 - flow, 4095 - flow)).collect();
+    let of_flow = |flow: u32| format!("{flow:>2} {:>5} {:>5} 0     1000", 64 - flow, 4095 - flow);
+    let mut lines: Vec<String> = (0..64).rev().map(of_flow).collect();
+    lines.push("total               64000".to_string());
+    let times: Vec<u16> = (1..=64).rev().collect();
+    prints(&rows, &times, &lines.iter().map(String::as_str).collect::<Vec<_>>());
+}
+
+/// Times and room one short, exact and one long. Bytes behind the page stay as they were.
+#[test]
+fn lengths() {
+    for flows in [1, 2, 9, 63, 64] {
+        let plan = Plan::of(&vec![at(5, 0); flows]);
+        let bytes = page_bytes(flows);
+        for times_len in [0, flows - 1, flows, flows + 1, 2 * flows] {
+            for page_len in [0, 1, 26, bytes - 26, bytes - 1, bytes, bytes + 1, bytes + 26, 2_000] {
+                let outcome = load_page(&ALL, &plan, &vec![9; times_len], page_len);
+                let written = if times_len != flows {
+                    assert_eq!(outcome.parts, (36, 0, 0, 0), "{flows} flows, {times_len} times, {page_len} bytes");
+                    0
+                } else if page_len < bytes {
+                    assert_eq!(outcome.parts, (37, 0, 0, 0), "{flows} flows, {page_len} bytes");
+                    0
+                } else {
+                    assert_eq!(outcome.parts, (0, 0, 0, bytes as u32), "{flows} flows, {page_len} bytes");
+                    bytes
+                };
+                assert!(outcome.bytes[..written].iter().all(u8::is_ascii), "{flows} flows");
+                let untouched = |place: usize| outcome.bytes[place] == pattern_byte(place);
+                assert!((written..outcome.bytes.len()).all(untouched), "{flows} flows, {page_len} bytes");
+            }
+        }
+    }
+}
+
+/// Of two causes the earlier one is told: the table's, the check's, the times, the room. Nothing is written.
+#[test]
+fn order_of_refusals() {
+    let input = [0, 1, 0, 0];
+    let differ = [input, [0, 2, 0, 0], [2, 0, 1, 0]];
+    let refused = |rows: &[[u32; 4]], times: usize, page_len: usize, parts: Parts| {
+        let outcome = load_page(&ALL, &Plan::of(rows), &vec![1; times], page_len);
+        assert_eq!(outcome.parts, parts, "{rows:?}, {times} times, {page_len} bytes");
+        assert!(outcome.is_untouched(), "{rows:?}");
+    };
+    // Both right, one of them wrong, and both.
+    for (times, page_len) in [(3, 200), (3, 103), (2, 200), (4, 200), (0, 0), (65, 0)] {
+        refused(&[&differ[..], &[[16, 0, 0, 0]]].concat(), times, page_len, (13, 3, 0, 0));
+        refused(&[&differ[..], &[[9, 0, 64, 0]]].concat(), times, page_len, (14, 3, 0, 0));
+        refused(&[&differ[..], &[[12, 3, 0, 0]]].concat(), times, page_len, (15, 3, 0, 0));
+        refused(&[], times, page_len, (11, 0, 0, 0));
+        refused(&[input; 65], times, page_len, (11, 0, 0, 0));
+        refused(&differ, times, page_len, (21, 2, 0, 0));
+        refused(&[input, [10, 0, 4095, 0], [10, 1, 1, 0]], times, page_len, (22, 2, 0, 0));
+        refused(&[input, [13, 0, 0, 0], [12, 1, 0, 0]], times, page_len, (23, 2, 0, 0));
+        refused(&[input, [0, 2, 0, 0], [7, 5, 0, 1]], times, page_len, (21, 2, 0, 0));
+    }
+    for (times, page_len, number) in
+        [(0, 200, 36), (2, 200, 36), (4, 200, 36), (0, 0, 36), (2, 103, 36), (4, 103, 36), (3, 103, 37), (3, 0, 37)]
+    {
+        refused(&[input; 3], times, page_len, (number, 0, 0, 0));
+    }
+}

@@ -1,0 +1,173 @@
+//! Load pages of random plans, a million of them, and of every period and worst time.
+
+use tests::compare::{check, load_page, load_page_exactly, page_bytes, pattern_byte, Outcome};
+use tests::generate::{accepted, Clock, Shape};
+use tests::implementation::{ALL, LIBRARY};
+use tests::rng::Rng;
+use tests::{rounds, Plan};
+
+/// How far twice the load is from an odd number, in parts of the period: none where the load is at a half.
+fn from_half(worst: u16, period: u32) -> u32 {
+    (2_000 * u32::from(worst) % (2 * period)).abs_diff(period)
+}
+
+/// Whether some flow with its worst time passes a test.
+fn some(clocks: &[Clock], times: &[u16], test: impl Fn(&Clock, u16) -> bool) -> bool {
+    clocks.iter().zip(times).any(|(clock, &worst)| test(clock, worst))
+}
+
+/// Whether some flow and a later one pass a test.
+fn some_pair(clocks: &[Clock], test: impl Fn(&Clock, &Clock) -> bool) -> bool {
+    (1..clocks.len()).any(|later| clocks[..later].iter().any(|clock| test(clock, &clocks[later])))
+}
+
+/// A page of some sort, by its clocks and times.
+type Sort = (&'static str, fn(&[Clock], &[u16]) -> bool);
+
+/// The sorts that have to occur, each at least once in a hundred pages.
+static SORTS: [Sort; 15] = [
+    ("one flow", |clocks, _| clocks.len() == 1),
+    ("64 flows", |clocks, _| clocks.len() == 64),
+    ("a later flow that comes first", |clocks, _| some_pair(clocks, |clock, later| later.period < clock.period)),
+    ("equal periods", |clocks, _| some_pair(clocks, |clock, later| later.period == clock.period)),
+    ("equal periods and a lesser phase", |clocks, _| {
+        some_pair(clocks, |clock, later| later.period == clock.period && later.phase < clock.phase)
+    }),
+    ("a half", |clocks, times| some(clocks, times, |clock, worst| from_half(worst, clock.period) == 0)),
+    ("a hundredth from a half, or less", |clocks, times| {
+        some(clocks, times, |clock, worst| (1..=clock.period / 50).contains(&from_half(worst, clock.period)))
+    }),
+    ("period 1 and time 65,535", |clocks, times| {
+        some(clocks, times, |clock, worst| (clock.period, worst) == (1, 65_535))
+    }),
+    ("period 4095", |clocks, _| clocks.iter().any(|clock| clock.period == 4095)),
+    ("time 0", |_, times| times.contains(&0)),
+    ("1 condition", |clocks, _| clocks.iter().any(|clock| clock.conditions.len() == 1)),
+    ("2 conditions", |clocks, _| clocks.iter().any(|clock| clock.conditions.len() == 2)),
+    ("3 conditions", |clocks, _| clocks.iter().any(|clock| clock.conditions.len() == 3)),
+    ("4 conditions", |clocks, _| clocks.iter().any(|clock| clock.conditions.len() == 4)),
+    ("another total than that of the loads before rounding", |clocks, times| {
+        let exact = |(clock, &worst): (&Clock, &u16)| 1_000.0 * f64::from(worst) / f64::from(clock.period);
+        let loads: Vec<f64> = clocks.iter().zip(times).map(exact).collect();
+        let printed: f64 = loads.iter().map(|load| load.round()).sum();
+        (printed - loads.iter().sum::<f64>()).abs() > 0.6
+    }),
+];
+
+/// A shape for pages: one flow, few, and all 64; short clocks and long ones.
+fn shape(rng: &mut Rng) -> Shape {
+    let flows = match rng.below(20) {
+        0 => 1,
+        1 => 64,
+        2 => 17 + rng.below(47),
+        _ => 2 + rng.below(12),
+    };
+    Shape { flows, scale: rng.pick(&[1, 4, 12, 100, 4095, 4095]), sampling: rng.percent(70) }
+}
+
+/// Rows more that each sample the flow before, as long as there may be a condition and a flow more.
+fn sample(plan: &mut Plan, clocks: &mut Vec<Clock>) {
+    while let Some(last) = clocks.last().filter(|last| last.conditions.len() < 4 && clocks.len() < 64) {
+        let before = plan.count - 1;
+        let mut clock = last.clone();
+        clock.conditions.push(2 * before + 1);
+        clocks.push(clock);
+        plan.words.extend([13, before, before, 0]);
+        plan.count += 1;
+    }
+}
+
+/// A worst time for a period: any, or an odd number of its sixteenths where it has them, whose load is at a half.
+fn time(rng: &mut Rng, period: u32) -> u16 {
+    match period % 16 {
+        0 if rng.percent(40) => (period / 16 * (2 * rng.range(0, 128) + 1)) as u16,
+        _ => rng.time(),
+    }
+}
+
+/// Many pages of each plan, each with worst times of its own.
+fn random_pages(seed: u64, pages: usize) {
+    const OF_A_PLAN: usize = 20;
+    let mut rng = Rng::new(seed);
+    let mut seen = [0; SORTS.len()];
+    let plans = rounds(pages / OF_A_PLAN);
+    for round in 0..plans {
+        let shape = shape(&mut rng);
+        let (mut plan, mut clocks) = accepted(&mut rng, shape);
+        if round % 10 == 0 {
+            sample(&mut plan, &mut clocks);
+        }
+        let words: Vec<u32> = clocks.iter().flat_map(Clock::words).collect();
+        assert_eq!(check(&[&LIBRARY], &plan, words.len()).words[..words.len()], words, "{plan:?}");
+        let bytes = page_bytes(clocks.len());
+        for _ in 0..OF_A_PLAN {
+            let times: Vec<u16> = clocks.iter().map(|clock| time(&mut rng, clock.period)).collect();
+            let outcome = load_page(&ALL, &plan, &times, bytes + rng.pick(&[0, 0, 1, 26]));
+            assert_eq!(outcome.parts, (0, 0, 0, bytes as u32), "{plan:?}");
+            assert!((bytes..outcome.bytes.len()).all(|place| outcome.bytes[place] == pattern_byte(place)), "{plan:?}");
+            for (seen, (_, is)) in seen.iter_mut().zip(&SORTS) {
+                *seen += usize::from(is(&clocks, &times));
+            }
+        }
+    }
+    for (seen, (sort, _)) in seen.iter().zip(&SORTS) {
+        assert!(*seen >= plans * OF_A_PLAN / 100, "{sort}: {seen} of {} pages", plans * OF_A_PLAN);
+    }
+}
+
+#[test]
+fn random_pages_first() {
+    random_pages(111, 500_000);
+}
+
+#[test]
+fn random_pages_second() {
+    random_pages(112, 500_000);
+}
+
+/// What a page of 64 flows prints for flow, period and load, line by line, and its total.
+fn printed(outcome: &Outcome) -> (Vec<[u64; 3]>, u64) {
+    let number = |text: &[u8]| String::from_utf8_lossy(text).trim().parse().expect("a number");
+    let (lines, _) = outcome.bytes.as_chunks::<26>();
+    let line = |line: &[u8; 26]| [&line[..2], &line[3..8], &line[17..25]].map(number);
+    (lines[..64].iter().map(line).collect(), number(&lines[64][5..]))
+}
+
+/// 64 flows of these periods and worst times: each load is the nearest whole, the half going up, the lines are in
+/// order, and the total is the sum of the loads.
+fn loads_are_nearest(periods: &[u32; 64], times: &[u16; 64]) {
+    let rows = periods.map(|period| [1, 7, period, 0]);
+    let (lines, total) = printed(&load_page_exactly(&ALL, &Plan::of(&rows), times));
+    for &[flow, period, load] in &lines {
+        let (twice, worst) = (2 * load * period, u64::from(times[flow as usize]));
+        assert_eq!(period, u64::from(periods[flow as usize]));
+        assert!(twice <= 2_000 * worst + period && 2_000 * worst < twice + period, "{worst} over {period}: {load}");
+    }
+    assert!(lines.is_sorted_by_key(|&[flow, period, _]| (period, flow)), "{periods:?}");
+    assert_eq!(lines.iter().map(|[_, _, load]| load).sum::<u64>(), total);
+}
+
+/// Every period there is, with times at the edges, any, and at halves.
+#[test]
+fn every_period() {
+    let mut rng = Rng::new(113);
+    for first in (1..=4095).step_by(64) {
+        let periods = std::array::from_fn(|place| (first + place as u32).min(4095));
+        for worst in [0, 1, 2, 3, 65_534, 65_535] {
+            loads_are_nearest(&periods, &[worst; 64]);
+        }
+        for _ in 0..rounds(20) {
+            loads_are_nearest(&periods, &periods.map(|period| time(&mut rng, period)));
+        }
+    }
+}
+
+/// Every worst time there is, over periods with and without halves.
+#[test]
+fn every_time() {
+    for period in [1, 2, 3, 7, 16, 80, 625, 1000, 2000, 2048, 4000, 4080, 4095] {
+        for first in (0..=65_535).step_by(64) {
+            loads_are_nearest(&[period; 64], &std::array::from_fn(|place| first + place as u16));
+        }
+    }
+}
