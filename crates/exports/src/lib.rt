@@ -7,6 +7,7 @@ ghost use Rattle.checker.specs.Answers.{checkAnswer, clocksAfter};
 ghost use Rattle.semantics.specs.Answers.{runAnswer, marksAfter, valuesAfter};
 ghost use Rattle.runner.specs.Long.{longRunning, longAnswer, LongLeft};
 ghost use Rattle.lister.specs.Listing.{listingAnswer, textAfter};
+ghost use Rattle.loads.specs.Loads.{pageAnswer, pageAfter};
 ghost use Rattle.exports.specs.Parts.{Given};
 use table::Answer;
 
@@ -137,5 +138,24 @@ pub extern "C" fn baarqidho_listing(
     ensures stored { λ r. ⌜ now (text .exit) ≡ textAfter (now (packed .entry)) (now (text .entry)) ⌝ }
 {
     let answer = lister::parts(lister::listing(packed, text));
+    give(answer, flow, tick, count)
+}
+
+// Writes the load page of a table in plain form, from one worst time a flow: the count of bytes.
+#[no_mangle]
+pub extern "C" fn baarqidho_load_page(
+    flows: u32,
+    words: &[u32],
+    times: &[u16],
+    page: &mut [u8],
+    flow: &mut u32,
+    tick: &mut u32,
+    count: &mut u32,
+) -> u32
+    ensures answered { λ r. ⌜ Given (pageAnswer flows (now (words .entry)) (now (times .entry)) (length (now (page .entry))))
+        r (now (flow .exit)) (now (tick .exit)) (now (count .exit)) ⌝ }
+    ensures stored { λ r. ⌜ now (page .exit) ≡ pageAfter flows (now (words .entry)) (now (times .entry)) (now (page .entry)) ⌝ }
+{
+    let answer = loads::page(flows, words, times, page);
     give(answer, flow, tick, count)
 }
