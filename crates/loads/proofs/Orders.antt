@@ -8,7 +8,7 @@ use lib.ListN.{length}
 use lib.Dec.{ltb}
 use borrow.Author.Tests.{ltb-true, ltb-false}
 use Rattle.table.specs.Rows.{maxFlows}
-use Rattle.loads.specs.Loads.{Line, linesFrom, key, insert, sorted, Among, here, there, Ascending, Ordered, total}
+use Rattle.loads.specs.Loads.{Line, load, linesFrom, key, insert, sorted, Among, here, there, Ascending, Ordered, total}
 use Rattle.loads.proofs.Keys.{key-flow}
 
 pub nowhere : {l : Line} {A : Type 0} → Among l [] → A
@@ -59,12 +59,12 @@ insert-length l (h ∷ ls) = go (ltb (key l) (key h)) (insert-length l ls)
     go true r = refl
     go false r = ap suc r
 
-insert-total : (l : Line) (ls : List Line) → total (insert l ls) ≡ l .load + total ls
+insert-total : (l : Line) (ls : List Line) → total (insert l ls) ≡ load l + total ls
 unfolding insert total
 insert-total l [] = refl
 insert-total l (h ∷ ls) = go (ltb (key l) (key h)) (insert-total l ls)
   where
-    go : (b : Bool) → total (insert l ls) ≡ l .load + total ls → total (cond b (l ∷ h ∷ ls) (h ∷ insert l ls)) ≡ l .load + (h .load + total ls)
+    go : (b : Bool) → total (insert l ls) ≡ load l + total ls → total (cond b (l ∷ h ∷ ls) (h ∷ insert l ls)) ≡ load l + (load h + total ls)
     go true r = refl
     go false r = omega (arith, r)
 
@@ -94,7 +94,7 @@ Distinct (l ∷ ls) = Apart l ls × Distinct ls
 pub sorted-total : (ls : List Line) → total (sorted ls) ≡ total ls
 unfolding sorted total
 sorted-total [] = refl
-sorted-total (l ∷ ls) = insert-total l (sorted ls) ∙ ap (λ (n : ℕ). l .load + n) (sorted-total ls)
+sorted-total (l ∷ ls) = insert-total l (sorted ls) ∙ ap (λ (n : ℕ). load l + n) (sorted-total ls)
 
 sorted-ordered : (ls : List Line) → Distinct ls → Ordered ls (sorted ls)
 unfolding sorted

@@ -22,8 +22,7 @@ use Rattle.checker.proofs.CheckLaws.{AllSane}
 use Rattle.checker.proofs.WordLaws.{word-at}
 use Rattle.checker.proofs.Bounds.{accepted-sane, check-whole}
 use Rattle.loads.specs.Loads.{load, maxLoad, Line, lineOf, linesFrom, sorted, Among, Ordered, lineText, total, totalText, pageText, pageOf, lineSize, paging, pageAnswer, pageAfter}
-use Rattle.loads.specs.Private.Words.{loadIn, lineIn, linesIn, Loaded}
-use Rattle.loads.proofs.Rounding.{load-some}
+use Rattle.loads.specs.Private.Words.{lineIn, linesIn, Loaded}
 use Rattle.loads.proofs.Orders.{lines-length, of-lines, in-order, sorted-total}
 use Rattle.loads.proofs.Sums.{lines-same, total-bound}
 use Rattle.loads.proofs.Widths.{line-length, in-columns, total-length, page-length}
@@ -45,9 +44,9 @@ module _ (m : ℕ) (words times : List ℕ) (ks : List Clock) (e : then (tableOf
       let x = of-lines (lineOf ks times) (length ks) 0 l (ordered .only l i) in
       (x .0, omega (arith, x .2, accepted .0), x .3)
 
-  module _ (loads : (f : ℕ) → f < m → lineOf ks times f .load ≤ maxLoad) where
-    pub load-bounds : (l : Line) → Among l lines → l .load ≤ maxLoad
-    load-bounds l i = let x = of-flows l i in omega (arith, loads (x .0) (x .1), ap (λ (y : Line). y .load) (x .2))
+  module _ (loads : (f : ℕ) → f < m → load (lineOf ks times f) ≤ maxLoad) where
+    pub load-bounds : (l : Line) → Among l lines → load l ≤ maxLoad
+    load-bounds l i = let x = of-flows l i in omega (arith, loads (x .0) (x .1), ap load (x .2))
 
     pub widths : (l : Line) → Among l lines → length (lineText l) ≡ lineSize
     widths l i =
@@ -136,9 +135,6 @@ module _ (m : ℕ) (words times zeros clocks : List ℕ) (found : Answer) (room 
         let p : getD clocks (clockSize * f) 0 ≡ clockAt ks f .period = ap (λ (i : ℕ). getD clocks i 0) (sym (add-zero (clockSize * f))) ∙ word f 0 l (omega arith) in
         let q : getD clocks (clockSize * f + 1) 0 ≡ clockAt ks f .phase = word f 1 l (omega arith) in
         let n : getD clocks (clockSize * f + 2) 0 ≡ length (clockAt ks f .conditions) = word f 2 l (omega arith) in
-        let s = accepted m words times ks clocked .2 f l in
-        let c : loadIn (getD times f 0) (getD clocks (clockSize * f) 0) ≡ load (getD times f 0) (clockAt ks f .period) =
-        ap (loadIn (getD times f 0)) p ∙ sym (load-some (getD times f 0) (clockAt ks f .period) (λ (z : clockAt ks f .period ≡ 0). omega (arith, s .positive))) in
         cc
 
     same-lines : linesIn clocks times m ≡ linesFrom (lineOf ks times) (length ks) 0
@@ -150,7 +146,7 @@ module _ (m : ℕ) (words times zeros clocks : List ℕ) (found : Answer) (room 
         → Wrote 0 (pageText (sorted (linesIn clocks times m))) old size new
         → (size ≡ lineSize * (m + 1)) × (success size ≡ pageAnswer m words times (length old)) × (new ≡ pageAfter m words times old)
     done {old} {new} {size} t h b w =
-        let loads : (f : ℕ) → f < m → lineOf ks times f .load ≤ maxLoad = λ (f : ℕ). λ (l : f < m). subst (λ (y : Line). y .load ≤ maxLoad) (line f l) (b .each f l) in
+        let loads : (f : ℕ) → f < m → load (lineOf ks times f) ≤ maxLoad = λ (f : ℕ). λ (l : f < m). subst (λ (y : Line). load y ≤ maxLoad) (line f l) (b .each f l) in
         let bytes : List ℕ = pageOf ks times in
         let n : length bytes ≡ lineSize * (m + 1) = page-size m words times ks clocked loads in
         let same : pageText (sorted (linesIn clocks times m)) ≡ bytes = ap (λ (ls : List Line). pageText (sorted ls)) same-lines in

@@ -12,9 +12,9 @@ use Rattle.table.proofs.AnswerLaws.{answer-zero}
 use Rattle.table.proofs.Tests.{good-inj, then-good, unless-good}
 use Rattle.checker.specs.Clocks.{Clock}
 use Rattle.checker.specs.Rules.{clockAt, clocksOf}
-use Rattle.loads.specs.Loads.{load, maxTime, maxLoad, lineOf, pageOf, lineSize, paging, pageAnswer, pageAfter}
+use Rattle.loads.specs.Loads.{maxTime, maxLoad, load, lineOf, pageOf, lineSize, paging, pageAnswer, pageAfter}
 use Rattle.loads.specs.Shown.{Shown, LoadPage}
-use Rattle.loads.proofs.Rounding.{rounded-nearest, one-nearest, load-some, load-fits}
+use Rattle.loads.proofs.Rounding.{rounded-nearest, one-nearest, rounded-bound}
 use Rattle.loads.proofs.Keys.{by-period}
 use Rattle.loads.proofs.Orders.{one-order}
 use Rattle.loads.proofs.Pages.{accepted, lines, ordered, load-bounds, widths, total-bounds, last, page-size}
@@ -35,10 +35,8 @@ module _ (m : ℕ) (words times : List ℕ) (ks : List Clock) (e : then (tableOf
   positive : (f : ℕ) → f < m → 1 ≤ clockAt ks f .period
   positive f l = accepted m words times ks e .2 f l .positive
 
-  loads : (f : ℕ) → f < m → lineOf ks times f .load ≤ maxLoad
-  loads f l =
-      let s = load-some (getD times f 0) (clockAt ks f .period) (λ (z : clockAt ks f .period ≡ 0). omega (arith, positive f l)) in
-      omega (arith, load-fits (getD times f 0) (clockAt ks f .period) (t f), s)
+  loads : (f : ℕ) → f < m → load (lineOf ks times f) ≤ maxLoad
+  loads f l = omega (arith, rounded-bound (1000 * getD times f 0) (clockAt ks f .period), t f)
 
   page-shown : Shown ks times (pageOf ks times)
   page-shown =

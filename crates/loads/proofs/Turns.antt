@@ -8,8 +8,8 @@ use Rattle.text.specs.Text.{lineFeed, right, Wrote}
 use Rattle.text.proofs.Writing.{Left, begin, and-then, finish}
 use Rattle.table.specs.Rows.{maxFlows}
 use Rattle.checker.specs.Answers.{clockSize}
-use Rattle.loads.specs.Loads.{Line, linesFrom, key, sorted, Among, here, there, Ascending, Ordered, field, lineText, linesText}
-use Rattle.loads.specs.Private.Words.{lineWith, lineIn, linesIn, keyIn, noKey, Least}
+use Rattle.loads.specs.Loads.{Line, load, linesFrom, key, sorted, Among, here, there, Ascending, Ordered, field, lineText, linesText}
+use Rattle.loads.specs.Private.Words.{lineIn, linesIn, keyIn, noKey, Least}
 use Rattle.loads.proofs.Keys.{key-flow}
 use Rattle.loads.proofs.Orders.{lines-length, of-lines, in-lines, in-order, ascending-above}
 
@@ -21,11 +21,12 @@ lines-cons : (l : Line) (ls : List Line) → linesText (l ∷ ls) ≡ lineText l
 unfolding linesText
 lines-cons l ls = refl
 
--- a flow's line by the words that were read
-pub line-by : {p q n : ℕ} (ws : List ℕ) (f cost : ℕ) → p ≡ getD ws (clockSize * f) 0 → q ≡ getD ws (clockSize * f + 1) 0 → n ≡ getD ws (clockSize * f + 2) 0
-    → lineText (lineWith ws f cost) ≡ field 2 f ++ (field 5 p ++ (field 5 q ++ (field 1 n ++ (right 8 cost ++ (lineFeed ∷ [])))))
+-- a flow's line by what was read
+pub line-by : {p q n c : ℕ} (ws times : List ℕ) (f : ℕ) → p ≡ getD ws (clockSize * f) 0 → q ≡ getD ws (clockSize * f + 1) 0 → n ≡ getD ws (clockSize * f + 2) 0
+    → c ≡ load (lineIn ws times f)
+    → lineText (lineIn ws times f) ≡ field 2 f ++ (field 5 p ++ (field 5 q ++ (field 1 n ++ (right 8 c ++ (lineFeed ∷ [])))))
 unfolding lineText
-line-by ws f cost x y z = rw (x, y, z)
+line-by ws times f x y z w = rw (x, y, z, w)
 
 -- Before turn i: the rest of the lines, which are those with a key from a number on, is left to write.
 pub record Turn (ws times : List ℕ) (n : ℕ) (old : List ℕ) (i from next : ℕ) (new : List ℕ) : Type 0 where
@@ -66,10 +67,10 @@ module _ (ws times : List ℕ) (n from k : ℕ) (few : n ≤ maxFlows) (l : Line
       let v : key l ≤ keyIn ws (x .0) = ascending-above (key l) (l ∷ ls) (lineIn ws times (x .0)) (omega arith, asc .1) (all (x .0) (x .1) (x .2)) in
       omega (arith, x .3, same-key)
 
-  pub first-line : (f cost : ℕ) → f ≡ k % maxFlows → cost ≡ lineIn ws times f .load → lineWith ws f cost ≡ l
-  first-line f cost e c =
+  pub first-line : (f : ℕ) → f ≡ k % maxFlows → lineIn ws times f ≡ l
+  first-line f e =
       let flow : f ≡ g = e ∙ ap (λ (z : ℕ). z % maxFlows) (first-key ∙ same-key) ∙ key-flow (lineIn ws times g) (omega arith) in
-      ap (lineWith ws f) c ∙ ap (lineIn ws times) flow ∙ sym is
+      ap (lineIn ws times) flow ∙ sym is
 
   pub rest-all : (h : ℕ) → h < n → k + 1 ≤ keyIn ws h → Among (lineIn ws times h) ls
   rest-all h p q = go (all h p (omega (arith, first-key, asc .0)))
@@ -78,11 +79,11 @@ module _ (ws times : List ℕ) (n from k : ℕ) (few : n ≤ maxFlows) (l : Line
       go (here e) = let z : keyIn ws h ≡ key l = ap key e in absurd (omega (arith, first-key))
       go (there i) = i
 
-pub turn-next : {ws times : List ℕ} {n : ℕ} {old : List ℕ} {i from next : ℕ} {new : List ℕ} {k f cost next′ : ℕ} {new′ : List ℕ}
-    → n ≤ maxFlows → i < n → Least ws n from k → f ≡ k % maxFlows → cost ≡ lineIn ws times f .load
-    → length new′ ≡ length new → Wrote next (lineText (lineWith ws f cost)) new next′ new′ → Turn ws times n old i from next new
+pub turn-next : {ws times : List ℕ} {n : ℕ} {old : List ℕ} {i from next : ℕ} {new : List ℕ} {k f next′ : ℕ} {new′ : List ℕ}
+    → n ≤ maxFlows → i < n → Least ws n from k → f ≡ k % maxFlows
+    → length new′ ≡ length new → Wrote next (lineText (lineIn ws times f)) new next′ new′ → Turn ws times n old i from next new
     → Turn ws times n old (i + 1) (k + 1) next′ new′
-turn-next {ws} {times} {n} {old} {i} {from} {next} {new} {k} {f} {cost} {next′} {new′} few l L e c s w t =
+turn-next {ws} {times} {n} {old} {i} {from} {next} {new} {k} {f} {next′} {new′} few l L e s w t =
     go (t .rest) (t .size) (t .ascending) (t .all) (t .only) (t .left)
   where
     go : (rs : List Line) → i + length rs ≡ n → Ascending from rs → ((g : ℕ) → g < n → from ≤ keyIn ws g → Among (lineIn ws times g) rs)
@@ -92,7 +93,7 @@ turn-next {ws} {times} {n} {old} {i} {from} {next} {new} {k} {f} {cost} {next′
     go (x ∷ rs) z asc all only left =
         let o = only x (here refl) in
         let first : k ≡ key x = first-key ws times n from k few x rs asc all (o .0) (o .1) (o .2) L in
-        let line : lineWith ws f cost ≡ x = first-line ws times n from k few x rs asc all (o .0) (o .1) (o .2) L f cost e c in
+        let line : lineIn ws times f ≡ x = first-line ws times n from k few x rs asc all (o .0) (o .1) (o .2) L f e in
         record {
           within = omega arith;
           same-size = s ∙ t .same-size;

@@ -11,7 +11,7 @@ use Rattle.table.specs.Rows.{maxFlows}
 use Rattle.checker.specs.Clocks.{Clock}
 use Rattle.checker.specs.Rules.{clockAt}
 use Rattle.checker.proofs.CheckLaws.{Sane}
-use Rattle.loads.specs.Loads.{maxLoad, Line, lineOf, Among, here, there, field, lineText, linesText, total, totalText, pageText, lineSize}
+use Rattle.loads.specs.Loads.{maxLoad, Line, load, lineOf, Among, here, there, field, lineText, linesText, total, totalText, pageText, lineSize}
 
 -- a number in a column of k + 1 characters
 column : (k n : ℕ) → n < 10 ^ suc k → length (right (suc k) n) ≡ suc k
@@ -26,12 +26,12 @@ pub record InColumns (l : Line) : Type 0 where
   pub period : l .period < 100000
   pub phase : l .phase < 100000
   pub conditions : l .conditions < 10
-  pub load : l .load < 100000000
+  pub load : load l < 100000000
 
 pub line-length : (l : Line) → InColumns l → length (lineText l) ≡ lineSize
 unfolding lineText
 line-length l h =
-    let e : List ℕ = right 8 (l .load) ++ (lineFeed ∷ []) in
+    let e : List ℕ = right 8 (load l) ++ (lineFeed ∷ []) in
     let d : List ℕ = field 1 (l .conditions) ++ e in
     let c : List ℕ = field 5 (l .phase) ++ d in
     let b : List ℕ = field 5 (l .period) ++ c in
@@ -41,16 +41,16 @@ line-length l h =
       length-append (field 5 (l .period)) c,
       length-append (field 5 (l .phase)) d,
       length-append (field 1 (l .conditions)) e,
-      length-append (right 8 (l .load)) (lineFeed ∷ []),
+      length-append (right 8 (load l)) (lineFeed ∷ []),
       field-length 1 (l .flow) (h .flow),
       field-length 4 (l .period) (h .period),
       field-length 4 (l .phase) (h .phase),
       field-length 0 (l .conditions) (h .conditions),
-      column 7 (l .load) (h .load),
+      column 7 (load l) (h .load),
     )
 
 -- the line of a flow whose clock is sane
-pub in-columns : (ks : List Clock) (times : List ℕ) (f : ℕ) → f < maxFlows → Sane f (clockAt ks f) → lineOf ks times f .load ≤ maxLoad → InColumns (lineOf ks times f)
+pub in-columns : (ks : List Clock) (times : List ℕ) (f : ℕ) → f < maxFlows → Sane f (clockAt ks f) → load (lineOf ks times f) ≤ maxLoad → InColumns (lineOf ks times f)
 in-columns ks times f l s h =
     record {
       flow = omega arith;

@@ -1,6 +1,6 @@
 -- The load page, byte by byte: a line for each flow in order, and the total.
 use mathlib.Core.Path.{_≡_}
-use Prim.Native.Nat.{ℕ, zero, suc, _+_, _*_, _-_, _/_, _%_, _≤_, _<_}
+use Prim.Native.Nat.{ℕ, zero, suc, _+_, _*_, _-_, _/_, _≤_, _<_}
 use mathlib.Core.Bool.{cond}
 use mathlib.Core.List.{List, [], _∷_, _++_}
 use lib.ListN.{length, getD}
@@ -21,13 +21,9 @@ pub record Nearest (x p r : ℕ) : Type 0 where
   pub below : 2 * (x - r * p) < p
   pub above : 2 * (r * p - x) ≤ p
 
--- x divided by p, to the nearest whole, the half going up
+-- x divided by p, to the nearest whole, the half going up: half of p more, and then cut
 abbrev pub rounded : ℕ → ℕ → ℕ
-rounded x p = cond (ltb (2 * (x % p)) p) (x / p) (x / p + 1)
-
--- 1000 times the worst time divided by the period
-abbrev pub load : ℕ → ℕ → ℕ
-load worst period = rounded (1000 * worst) period
+rounded x p = (2 * x + p) / (2 * p)
 
 -- the largest worst time, and the largest load
 abbrev pub maxTime : ℕ
@@ -38,15 +34,19 @@ maxLoad = 1000 * maxTime
 
 -- ---- lines
 
--- what a line shows of a flow
+-- what a flow's line is made of: its number, its clock's period, phase and count of conditions, and its worst time
 pub record Line : Type 0 where
   pub flow : ℕ
   pub period : ℕ
   pub phase : ℕ
   pub conditions : ℕ
-  pub load : ℕ
+  pub worst : ℕ
 
--- the line of flow f, by its clock and its worst time
+-- 1000 times the worst time divided by the period
+abbrev pub load : Line → ℕ
+load l = rounded (1000 * l .worst) (l .period)
+
+-- the line of flow f
 abbrev pub lineOf : List Clock → List ℕ → ℕ → Line
 lineOf ks times f =
     record {
@@ -54,7 +54,7 @@ lineOf ks times f =
       period = clockAt ks f .period;
       phase = clockAt ks f .phase;
       conditions = length (clockAt ks f .conditions);
-      load = load (getD times f 0) (clockAt ks f .period);
+      worst = getD times f 0;
     }
 
 -- the lines of n flows, from number f on
@@ -104,7 +104,7 @@ field w n = right w n ++ (space ∷ [])
 -- flow 2 wide, period 5, phase 5, count of conditions 1, load 8, one space between
 unfoldable pub lineText : Line → List ℕ
 lineText l =
-    field 2 (l .flow) ++ (field 5 (l .period) ++ (field 5 (l .phase) ++ (field 1 (l .conditions) ++ (right 8 (l .load) ++ (lineFeed ∷ [])))))
+    field 2 (l .flow) ++ (field 5 (l .period) ++ (field 5 (l .phase) ++ (field 1 (l .conditions) ++ (right 8 (load l) ++ (lineFeed ∷ [])))))
 
 unfoldable pub linesText : List Line → List ℕ
 linesText [] = []
@@ -113,7 +113,7 @@ linesText (l ∷ ls) = lineText l ++ linesText ls
 -- the sum of the printed loads
 unfoldable pub total : List Line → ℕ
 total [] = 0
-total (l ∷ ls) = l .load + total ls
+total (l ∷ ls) = load l + total ls
 
 -- `total`
 abbrev pub totalWord : List ℕ

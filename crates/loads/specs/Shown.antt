@@ -9,7 +9,7 @@ use Rattle.table.specs.Rows.{maxFlows}
 use Rattle.table.specs.Plain.{tableOf}
 use Rattle.checker.specs.Clocks.{Clock}
 use Rattle.checker.specs.Rules.{clocksOf}
-use Rattle.loads.specs.Loads.{Nearest, maxTime, maxLoad, Line, lineOf, linesFrom, key, Among, Ordered, lineText, total, totalText, pageText, lineSize, pageAnswer, pageAfter}
+use Rattle.loads.specs.Loads.{Nearest, maxTime, maxLoad, Line, load, lineOf, linesFrom, key, Among, Ordered, lineText, total, totalText, pageText, lineSize, pageAnswer, pageAfter}
 
 -- the page of a plan by its clocks and worst times
 pub record Shown (ks : List Clock) (times page : List ℕ) : Type 0 where
@@ -21,8 +21,8 @@ pub record Shown (ks : List Clock) (times page : List ℕ) : Type 0 where
   pub widths : (l : Line) → Among l lines → length (lineText l) ≡ lineSize
   pub last : length (totalText (total lines)) ≡ lineSize
   -- each load is to the nearest whole, and bounded; so is the total
-  pub nearest : (f : ℕ) → f < length ks → Nearest (1000 * getD times f 0) (lineOf ks times f .period) (lineOf ks times f .load)
-  pub load-bound : (l : Line) → Among l lines → l .load ≤ maxLoad
+  pub nearest : (f : ℕ) → f < length ks → Nearest (1000 * getD times f 0) (lineOf ks times f .period) (load (lineOf ks times f))
+  pub load-bound : (l : Line) → Among l lines → load l ≤ maxLoad
   pub total-bound : total lines ≤ maxFlows * maxLoad
 
 pub record LoadPage : Type 0 where

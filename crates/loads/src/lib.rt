@@ -6,8 +6,8 @@ ghost use lib.ListN.{length, getD};
 ghost use Rattle.text.specs.Text.{Wrote};
 ghost use Rattle.table.specs.Rows.{maxFlows};
 ghost use Rattle.checker.specs.Answers.{clockSize};
-ghost use Rattle.loads.specs.Loads.{maxLoad, sorted, field, lineText, linesText, total, totalText, pageText, pageAnswer, pageAfter};
-ghost use Rattle.loads.specs.Private.Words.{loadIn, lineWith, lineIn, linesIn, Loaded, keyIn, noKey, nearer, Least};
+ghost use Rattle.loads.specs.Loads.{rounded, maxLoad, load, sorted, field, lineText, linesText, total, totalText, pageText, pageAnswer, pageAfter};
+ghost use Rattle.loads.specs.Private.Words.{lineIn, linesIn, Loaded, keyIn, noKey, nearer, Least};
 use checker::CLOCK_SIZE;
 use checker::CLOCKS;
 use table::Answer;
@@ -25,7 +25,7 @@ const NO_KEY: u64 = 9223372036854775808;
 
 // 1000 times the worst time divided by the period, to the nearest whole, the half going up.
 fn load(worst: u16, period: u32) -> u32
-    ensures { λ r. ⌜ r ≡ loadIn worst period ⌝ }
+    ensures { λ r. ⌜ r ≡ rounded (1000 * worst) period ⌝ }
     ensures { λ r. ⌜ r ≤ maxLoad ⌝ }
 {
     if period == 0 {
@@ -48,7 +48,7 @@ fn time_at(times: &[u16], f: u32) -> u16
 // The load of flow f.
 fn load_of(clocks: &[u32], times: &[u16], f: u32) -> u32
     requires { ⌜ f < maxFlows ⌝ }
-    ensures { λ r. ⌜ r ≡ lineIn (now (clocks .entry)) (now (times .entry)) f .load ⌝ }
+    ensures { λ r. ⌜ r ≡ load (lineIn (now (clocks .entry)) (now (times .entry)) f) ⌝ }
     ensures { λ r. ⌜ r ≤ maxLoad ⌝ }
 {
     let period = word_at(clocks, CLOCK_SIZE * (f as usize));
@@ -112,15 +112,16 @@ fn put_field(text: &mut [u8], at: usize, width: usize, n: u32) -> usize
     put(text, next, b' ')
 }
 
-// Writes the line of flow f, which has this load.
-fn put_line(text: &mut [u8], at: usize, clocks: &[u32], f: u32, cost: u32) -> usize
+// Writes the line of flow f.
+fn put_line(text: &mut [u8], at: usize, clocks: &[u32], times: &[u16], f: u32) -> usize
     requires { ⌜ f < maxFlows ⌝ }
-    ensures { λ r. ⌜ Wrote at (lineText (lineWith (now (clocks .entry)) f cost)) (now (text .entry)) r (now (text .exit)) ⌝ }
+    ensures { λ r. ⌜ Wrote at (lineText (lineIn (now (clocks .entry)) (now (times .entry)) f)) (now (text .entry)) r (now (text .exit)) ⌝ }
 {
     let from = CLOCK_SIZE * (f as usize);
     let period = word_at(clocks, from);
     let phase = word_at(clocks, from + 1);
     let conditions = word_at(clocks, from + 2);
+    let cost = load_of(clocks, times, f);
     let first = put_field(text, at, 2, f);
     let second = put_field(text, first, 5, period);
     let third = put_field(text, second, 5, phase);
@@ -139,8 +140,7 @@ fn put_lines(text: &mut [u8], clocks: &[u32], times: &[u16], n: u32) -> usize
     let mut i: u32 = 0;
     while i < n {
         let k = least(clocks, n, from);
-        let f = (k % MAX_FLOWS) as u32;
-        next = put_line(text, next, clocks, f, load_of(clocks, times, f));
+        next = put_line(text, next, clocks, times, (k % MAX_FLOWS) as u32);
         from = k + 1;
         i += 1;
     }

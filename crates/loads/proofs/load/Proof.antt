@@ -1,16 +1,15 @@
 -- `loads::load` meets its contract. Assumes nothing.
-use mathlib.Core.Path.{sym, _∙_, subst}
-use Prim.Native.Nat.{ℕ, _*_, _≤_}
+use mathlib.Core.Path.{sym}
+use Prim.Native.Nat.{_*_}
 use native.Mathlib.Nat.{mod-le, div-le-self}
 use native.Mathlib.Omega.{arith}
 use borrow.Author.Needs.{needs}
-use Rattle.loads.specs.Loads.{maxLoad}
-use Rattle.loads.proofs.Rounding.{rounded-down, rounded-up, load-some, load-fits}
+use Rattle.loads.proofs.Rounding.{nearest-rounded, rounded-none, rounded-bound, down, up}
 use Rattle.loads.proofs.load.Statement.{statement}
 use Rattle.loads.proofs.load.Tie as tie
 
 returns : tie.Need-returns
-returns c = (rw (c .if1 .taken), omega arith)
+returns c = (rw (c .if1 .taken) (sym (rounded-none _)), omega arith)
 
 mul-x : tie.Need-mul-x
 mul-x c = search needs
@@ -35,15 +34,15 @@ returns-2 : tie.Need-returns-2
 returns-2 c =
     let else1 = c .before in
     let a = else1 .before .args in
-    let e = rounded-down (1000 * a .worst) (a .period) (c .if2 .taken) ∙ load-some (a .worst) (a .period) (else1 .if1 .left) in
-    (e, subst (λ (r : ℕ). r ≤ maxLoad) (sym e) (load-fits (a .worst) (a .period) (omega arith)))
+    let e = nearest-rounded (1000 * a .worst) (a .period) _ (down (1000 * a .worst) (a .period) (c .if2 .taken)) in
+    (e, omega (arith, e, rounded-bound (1000 * a .worst) (a .period)))
 
 returns-3 : tie.Need-returns-3
 returns-3 c =
     let else1 = c .before in
     let a = else1 .before .args in
-    let e = rounded-up (1000 * a .worst) (a .period) (c .if2 .left) ∙ load-some (a .worst) (a .period) (else1 .if1 .left) in
-    (e, subst (λ (r : ℕ). r ≤ maxLoad) (sym e) (load-fits (a .worst) (a .period) (omega arith)))
+    let e = nearest-rounded (1000 * a .worst) (a .period) _ (up (1000 * a .worst) (a .period) (omega (arith, else1 .if1 .left)) (c .if2 .left)) in
+    (e, omega (arith, e, rounded-bound (1000 * a .worst) (a .period)))
 
 pub load-spec : {M : Type 1} → statement M
 load-spec =

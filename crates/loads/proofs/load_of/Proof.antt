@@ -1,7 +1,8 @@
 -- `loads::load_of` meets its contract. Assumes nothing.
 use mathlib.Core.Path.{_∙_, ap₂}
+use Prim.Native.Nat.{ℕ, _*_}
 use borrow.Author.Needs.{needs}
-use Rattle.loads.specs.Private.Words.{loadIn}
+use Rattle.loads.specs.Loads.{rounded}
 use Rattle.loads.proofs.load_of.Statement.{statement}
 use Rattle.loads.proofs.load_of.Tie as tie
 
@@ -21,7 +22,7 @@ returns : tie.Need-returns
 returns c =
     let after-time-at = c .before in
     let l = c .load .ensures in
-    (l .0 ∙ ap₂ loadIn (after-time-at .time-at .ensures) (after-time-at .before .word-at .ensures), l .1)
+    (l .0 ∙ ap₂ (λ (w p : ℕ). rounded (1000 * w) p) (after-time-at .time-at .ensures) (after-time-at .before .word-at .ensures), l .1)
 
 pub load-of-spec : {M : Type 1} → statement M
 load-of-spec =

@@ -24,6 +24,9 @@ add-word-at-2 c = search needs
 word-at-requires-3 : tie.Need-word-at-requires-3
 word-at-requires-3 c κs = search needs
 
+load-of-requires : tie.Need-load-of-requires
+load-of-requires c κs = search needs
+
 put-field-requires : tie.Need-put-field-requires
 put-field-requires c κs = search needs
 
@@ -53,11 +56,13 @@ returns c =
     let third = fourth .before .before .before .before in
     let second = third .before .before .before .before in
     let first = second .before .before .before .before in
-    let conditions = first .before .before in
+    let cost = first .before .before in
+    let conditions = cost .before in
     let phase = conditions .before in
     let period = phase .before in
-    let a = period .before .before .before .args in
-    let by-words = line-by (now (a .clocks)) (a .f) (a .cost) (period .word-at .ensures) (phase .word-at2 .ensures) (conditions .word-at3 .ensures) in
+    let a = period .before .before .before .before .args in
+    let by-words =
+    line-by (now (a .clocks)) (now (a .times)) (a .f) (period .word-at .ensures) (phase .word-at2 .ensures) (conditions .word-at3 .ensures) (cost .load-of .ensures .0) in
     let last = both (fourth .put-field4 .ensures) (both (fifth .put-right .ensures) (end .put .ensures)) in
     rw by-words (both (first .put-field .ensures) (both (second .put-field2 .ensures) (both (third .put-field3 .ensures) last)))
 
@@ -71,6 +76,7 @@ put-line-spec =
     word-at-requires-2
     add-word-at-2
     word-at-requires-3
+    load-of-requires
     put-field-requires
     put-field-requires-2
     put-field-requires-3

@@ -19,17 +19,14 @@ loop-holds c = turn-begin _ _ _ _ (c .before .before .before .pre)
 least-requires : tie.Need-least-requires Inv-loop μ-loop
 least-requires c κs = search needs
 
-cast-f : tie.Need-cast-f Inv-loop μ-loop
-cast-f c = omega arith
-
-load-of-requires : tie.Need-load-of-requires Inv-loop μ-loop
-load-of-requires c κs = omega arith
+cast-put-line : tie.Need-cast-put-line Inv-loop μ-loop
+cast-put-line c = omega arith
 
 put-line-requires : tie.Need-put-line-requires Inv-loop μ-loop
 put-line-requires c κs = omega arith
 
 add-from : tie.Need-add-from Inv-loop μ-loop
-add-from c = omega (arith, c .before .before .before .before .before .least .ensures .bound)
+add-from c = omega (arith, c .before .before .before .before .least .ensures .bound)
 
 add-i : tie.Need-add-i Inv-loop μ-loop
 add-i c = search needs
@@ -40,13 +37,12 @@ loop-less c = search needs
 loop-again : tie.Need-loop-again Inv-loop μ-loop
 loop-again c =
     let after-put-line = c .before .before in
-    let after-load-of = after-put-line .before in
-    let after-least = after-load-of .before .before in
+    let after-least = after-put-line .before .before in
     let test = after-least .before in
     let at-loop = test .before in
     let start = at-loop .before .before .before .before in
     let w = after-put-line .put-line in
-    turn-next (start .pre) (test .loop-test .taken) (after-least .least .ensures) refl (after-load-of .load-of .ensures .0) (w .kept .0) (w .ensures) (at-loop .loop .inv)
+    turn-next (start .pre) (test .loop-test .taken) (after-least .least .ensures) refl (w .kept .0) (w .ensures) (at-loop .loop .inv)
 
 same-length : tie.Need-same-length Inv-loop μ-loop
 same-length c = c .before .loop .inv .same-size
@@ -62,8 +58,7 @@ put-lines-spec =
     μ-loop
     loop-holds
     least-requires
-    cast-f
-    load-of-requires
+    cast-put-line
     put-line-requires
     add-from
     add-i

@@ -2,30 +2,22 @@
 use mathlib.Core.Path.{_≡_}
 use Prim.Native.Nat.{ℕ, _+_, _*_, _≤_, _<_}
 use mathlib.Core.Bool.{cond}
-use mathlib.Core.List.{List}
+use mathlib.Core.List.{List, []}
 use lib.ListN.{getD}
-use lib.Dec.{eqb, ltb}
+use lib.Dec.{ltb}
 use Rattle.checker.specs.Answers.{clockSize}
 use Rattle.loads.specs.Loads.{load, maxLoad, Line, linesFrom, key}
 
--- a load, and 0 over a period of 0, which no clock has
-abbrev pub loadIn : ℕ → ℕ → ℕ
-loadIn worst period = cond (eqb period 0) 0 (load worst period)
-
--- flow f's line by the words of the clocks, with a load
-abbrev pub lineWith : List ℕ → ℕ → ℕ → Line
-lineWith ws f cost =
+-- flow f's line by the words of the clocks and the worst times
+abbrev pub lineIn : List ℕ → List ℕ → ℕ → Line
+lineIn ws times f =
     record {
       flow = f;
       period = getD ws (clockSize * f) 0;
       phase = getD ws (clockSize * f + 1) 0;
       conditions = getD ws (clockSize * f + 2) 0;
-      load = cost;
+      worst = getD times f 0;
     }
-
--- flow f's line by the words of the clocks and the worst times
-abbrev pub lineIn : List ℕ → List ℕ → ℕ → Line
-lineIn ws times f = lineWith ws f (loadIn (getD times f 0) (getD ws (clockSize * f) 0))
 
 -- the lines of n flows
 abbrev pub linesIn : List ℕ → List ℕ → ℕ → List Line
@@ -33,11 +25,11 @@ linesIn ws times n = linesFrom (lineIn ws times) n 0
 
 -- no load of n flows is above the largest
 pub record Loaded (ws times : List ℕ) (n : ℕ) : Type 0 where
-  pub each : (f : ℕ) → f < n → lineIn ws times f .load ≤ maxLoad
+  pub each : (f : ℕ) → f < n → load (lineIn ws times f) ≤ maxLoad
 
--- a flow's key, which has no part of the load
+-- a flow's key, whatever its worst time
 abbrev pub keyIn : List ℕ → ℕ → ℕ
-keyIn ws f = key (lineWith ws f 0)
+keyIn ws f = key (lineIn ws [] f)
 
 -- no key is as large
 abbrev pub noKey : ℕ
