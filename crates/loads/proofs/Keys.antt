@@ -1,6 +1,6 @@
 -- What the key of a line says: its flow, and by what lines stand. Assumes nothing.
 use mathlib.Core.Path.{_≡_}
-use Prim.Native.Nat.{ℕ, _*_, _%_, _≤_, _<_}
+use Prim.Native.Nat.{_%_, _≤_, _<_}
 use native.Mathlib.Omega.{arith}
 use Rattle.table.specs.Rows.{maxFlows}
 use Rattle.loads.specs.Loads.{Line, key}

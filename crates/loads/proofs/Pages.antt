@@ -1,16 +1,15 @@
 -- The page of an accepted plan, and what the call comes to in each case. Assumes nothing.
-use mathlib.Core.Path.{_≡_, refl, sym, _∙_, ap, ap₂, subst}
+use mathlib.Core.Path.{_≡_, refl, sym, _∙_, ap, subst}
 use Prim.Native.Nat.{ℕ, _+_, _*_, _≤_, _<_}
 use native.Mathlib.Nat.{add-zero, zero-add}
 use native.Mathlib.Omega.{arith}
 use mathlib.Core.List.{List, _++_}
 use lib.ListN.{length, getD, drop}
-use lib.Dec.{leb, eqb}
 use borrow.Author.Tests.{le-leb, lt-leb, eq-eqb, ne-eqb}
 use Rattle.text.specs.Text.{Wrote}
 use Rattle.text.proofs.Writing.{whole}
 use Rattle.table.specs.declared.Answer.{Answer}
-use Rattle.table.specs.Answers.{Refusal, Result, good, refused, then, refusal, success, over, answer, leaves, wrongTimes, shortPage}
+use Rattle.table.specs.Answers.{Refusal, Result, good, refused, then, refusal, success, answer, leaves, wrongTimes, shortPage}
 use Rattle.table.specs.Rows.{maxFlows}
 use Rattle.table.specs.Plain.{tableOf}
 use Rattle.table.proofs.AnswerLaws.{answer-zero, answer-other}
@@ -23,7 +22,7 @@ use Rattle.checker.proofs.WordLaws.{word-at}
 use Rattle.checker.proofs.Bounds.{accepted-sane, check-whole}
 use Rattle.loads.specs.Loads.{load, maxLoad, Line, lineOf, linesFrom, sorted, Among, Ordered, lineText, total, totalText, pageText, pageOf, lineSize, paging, pageAnswer, pageAfter}
 use Rattle.loads.specs.Private.Words.{lineIn, linesIn, Loaded}
-use Rattle.loads.proofs.Orders.{lines-length, of-lines, in-order, sorted-total}
+use Rattle.loads.proofs.Orders.{lines-length, of-lines, in-order}
 use Rattle.loads.proofs.Sums.{lines-same, total-bound}
 use Rattle.loads.proofs.Widths.{line-length, in-columns, total-length, page-length}
 
@@ -92,21 +91,26 @@ refused-page m words times old why f e = (rw e, rw e)
 
 -- ---- after the check
 
-module _ (m : ℕ) (words times zeros clocks : List ℕ) (found : Answer) (room : clockSize * maxFlows ≤ length zeros)
-    (answered : found ≡ checkAnswer m words (length zeros)) (stored : clocks ≡ clocksAfter m words zeros) where
+-- what the check answered and left, in a buffer that has room for any table
+pub record Told (m : ℕ) (words zeros clocks : List ℕ) (found : Answer) : Type 0 where
+  pub room : clockSize * maxFlows ≤ length zeros
+  pub answered : found ≡ checkAnswer m words (length zeros)
+  pub stored : clocks ≡ clocksAfter m words zeros
+
+module _ {m : ℕ} {words zeros clocks : List ℕ} {found : Answer} (T : Told m words zeros clocks found) (times : List ℕ) where
   rules : checking m words (length zeros) ≡ then (tableOf m words) clocksOf
-  rules = check-whole m words (length zeros) room
+  rules = check-whole m words (length zeros) (T .room)
 
   -- the check's refusal is handed on
   pub handed-on : (found .number ≡ 0 → ⊥) → (old : List ℕ) → (found ≡ pageAnswer m words times (length old)) × (old ≡ pageAfter m words times old)
   handed-on z old =
-      let x = answer-other length (checking m words (length zeros)) (λ q. z (ap (λ (a : Answer). a .number) answered ∙ q)) in
+      let x = answer-other length (checking m words (length zeros)) (λ q. z (ap (λ (a : Answer). a .number) (T .answered) ∙ q)) in
       let p = refused-page m words times old (x .0) (x .1) (paging-refused m words times (length old) (x .0) (x .1) (sym rules ∙ x .2)) in
-      (answered ∙ ap (answer length) (x .2) ∙ p .0, p .1)
+      (T .answered ∙ ap (answer length) (x .2) ∙ p .0, p .1)
 
   module _ (zero : found .number ≡ 0) where
     checked : (ks : List Clock) × (checking m words (length zeros) ≡ good ks)
-    checked = answer-zero length (checking m words (length zeros)) (sym (ap (λ (a : Answer). a .number) answered) ∙ zero)
+    checked = answer-zero length (checking m words (length zeros)) (sym (ap (λ (a : Answer). a .number) (T .answered)) ∙ zero)
 
     abbrev ks : List Clock
     ks = checked .0
@@ -127,7 +131,7 @@ module _ (m : ℕ) (words times zeros clocks : List ℕ) (found : Answer) (room 
     -- the lines by the words that the check left are those by the clocks
     word : (f i : ℕ) → f < m → i < clockSize → getD clocks (clockSize * f + i) 0 ≡ getD (clockWords (clockAt ks f)) i 0
     word f i l x =
-        ap (λ (w : List ℕ). getD w (clockSize * f + i) 0) (stored ∙ ap (λ (r : Result (List Clock)). leaves clocksWords r zeros) (checked .1))
+        ap (λ (w : List ℕ). getD w (clockSize * f + i) 0) (T .stored ∙ ap (λ (r : Result (List Clock)). leaves clocksWords r zeros) (checked .1))
         ∙ word-at ks (drop (length (clocksWords ks)) zeros) f i (omega (arith, accepted m words times ks clocked .0)) x
 
     line : (f : ℕ) → f < m → lineIn clocks times f ≡ lineOf ks times f

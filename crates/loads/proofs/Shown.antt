@@ -1,18 +1,18 @@
 -- What a caller finds on a page. Assumes nothing.
-use mathlib.Core.Path.{_≡_, refl, sym, _∙_, ap, subst}
+use mathlib.Core.Path.{_≡_, refl, sym, _∙_, ap}
 use Prim.Native.Nat.{ℕ, _+_, _*_, _≤_, _<_}
 use native.Mathlib.Omega.{arith}
 use mathlib.Core.List.{List}
 use lib.ListN.{length, getD}
 use lib.Dec.{leb, eqb}
 use Rattle.table.specs.declared.Answer.{Answer}
-use Rattle.table.specs.Answers.{Result, good, then, unless, over, answer, leaves, wrongTimes, shortPage}
+use Rattle.table.specs.Answers.{Result, good, then, unless, answer, leaves, wrongTimes, shortPage}
 use Rattle.table.specs.Plain.{tableOf}
 use Rattle.table.proofs.AnswerLaws.{answer-zero}
 use Rattle.table.proofs.Tests.{good-inj, then-good, unless-good}
 use Rattle.checker.specs.Clocks.{Clock}
 use Rattle.checker.specs.Rules.{clockAt, clocksOf}
-use Rattle.loads.specs.Loads.{maxTime, maxLoad, load, lineOf, pageOf, lineSize, paging, pageAnswer, pageAfter}
+use Rattle.loads.specs.Loads.{maxTime, maxLoad, load, lineOf, pageOf, lineSize, paging}
 use Rattle.loads.specs.Shown.{Shown, LoadPage}
 use Rattle.loads.proofs.Rounding.{rounded-nearest, one-nearest, rounded-bound}
 use Rattle.loads.proofs.Keys.{by-period}

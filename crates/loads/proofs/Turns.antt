@@ -1,6 +1,6 @@
 -- The lines in order, turn by turn. Assumes nothing.
 use mathlib.Core.Path.{_≡_, refl, sym, _∙_, ap, subst}
-use Prim.Native.Nat.{ℕ, zero, suc, _+_, _*_, _%_, _≤_, _<_}
+use Prim.Native.Nat.{ℕ, suc, _+_, _*_, _%_, _≤_, _<_}
 use native.Mathlib.Omega.{arith}
 use mathlib.Core.List.{List, [], _∷_, _++_}
 use lib.ListN.{length, getD}
@@ -8,8 +8,8 @@ use Rattle.text.specs.Text.{lineFeed, right, Wrote}
 use Rattle.text.proofs.Writing.{Left, begin, and-then, finish}
 use Rattle.table.specs.Rows.{maxFlows}
 use Rattle.checker.specs.Answers.{clockSize}
-use Rattle.loads.specs.Loads.{Line, load, linesFrom, key, sorted, Among, here, there, Ascending, Ordered, field, lineText, linesText}
-use Rattle.loads.specs.Private.Words.{lineIn, linesIn, keyIn, noKey, Least}
+use Rattle.loads.specs.Loads.{Line, load, key, sorted, Among, here, there, Ascending, Ordered, field, lineText, linesText}
+use Rattle.loads.specs.Private.Words.{lineIn, linesIn, keyIn, Least}
 use Rattle.loads.proofs.Keys.{key-flow}
 use Rattle.loads.proofs.Orders.{lines-length, of-lines, in-lines, in-order, ascending-above}
 

@@ -1,11 +1,9 @@
 // The load page of a plan, as text: what each flow costs, and the total.
 ghost use mathlib.Core.Path.{_≡_};
-ghost use mathlib.Core.List.{[], _∷_};
 ghost use Prim.Native.Nat.{_*_, _≤_, _<_};
 ghost use lib.ListN.{length, getD};
 ghost use Rattle.text.specs.Text.{Wrote};
 ghost use Rattle.table.specs.Rows.{maxFlows};
-ghost use Rattle.checker.specs.Answers.{clockSize};
 ghost use Rattle.loads.specs.Loads.{rounded, maxLoad, load, sorted, field, lineText, linesText, total, totalText, pageText, pageAnswer, pageAfter};
 ghost use Rattle.loads.specs.Private.Words.{lineIn, linesIn, Loaded, keyIn, noKey, nearer, Least};
 use checker::CLOCK_SIZE;

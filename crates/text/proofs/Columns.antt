@@ -1,11 +1,10 @@
 -- Numbers right-aligned in a column. Assumes nothing.
-use mathlib.Core.Path.{_≡_, sym, ap, _∙_}
-use Prim.Native.Nat.{ℕ, zero, suc, _+_, _-_, _/_, _≤_, _<_}
+use mathlib.Core.Path.{_≡_, _∙_}
+use Prim.Native.Nat.{ℕ, suc, _+_, _-_, _≤_, _<_}
 use native.Mathlib.Omega.{arith}
 use mathlib.Core.List.{List, [], _∷_, _++_}
 use lib.ListN.{length, replicate, length-append, length-replicate}
-use Rattle.text.specs.Text.{space, digit, decimal, right}
-use Rattle.text.proofs.Decimal.{decimal-more}
+use Rattle.text.specs.Text.{space, decimal, right}
 
 -- a number that fits its column fills it
 pub right-length : (w n : ℕ) → length (decimal n) ≤ w → length (right w n) ≡ w
