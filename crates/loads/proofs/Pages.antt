@@ -43,6 +43,12 @@ module _ (m : ℕ) (words times : List ℕ) (ks : List Clock) (e : then (tableOf
       let x = of-lines (lineOf ks times) (length ks) 0 l (ordered .only l i) in
       (x .0, omega (arith, x .2, accepted .0), x .3)
 
+  pub flow-bound : (l : Line) → Among l lines → l .flow < maxFlows
+  flow-bound l i = let x = of-flows l i in omega (arith, x .1, accepted .1, ap (λ (y : Line). y .flow) (x .2))
+
+  pub positive : (l : Line) → Among l lines → 1 ≤ l .period
+  positive l i = let x = of-flows l i in omega (arith, accepted .2 (x .0) (x .1) .positive, ap (λ (y : Line). y .period) (x .2))
+
   module _ (loads : (f : ℕ) → f < m → load (lineOf ks times f) ≤ maxLoad) where
     pub load-bounds : (l : Line) → Among l lines → load l ≤ maxLoad
     load-bounds l i = let x = of-flows l i in omega (arith, loads (x .0) (x .1), ap load (x .2))

@@ -1,12 +1,12 @@
 -- What a caller finds on a page. Assumes nothing.
-use mathlib.Core.Path.{_≡_, refl, sym, _∙_, ap}
+use mathlib.Core.Path.{_≡_, sym, _∙_, ap}
 use Prim.Native.Nat.{ℕ, _+_, _*_, _≤_, _<_}
 use native.Mathlib.Omega.{arith}
 use mathlib.Core.List.{List}
 use lib.ListN.{length, getD}
 use lib.Dec.{leb, eqb}
 use Rattle.table.specs.declared.Answer.{Answer}
-use Rattle.table.specs.Answers.{Result, good, then, unless, answer, leaves, wrongTimes, shortPage}
+use Rattle.table.specs.Answers.{Result, good, then, unless, over, answer, leaves, wrongTimes, shortPage}
 use Rattle.table.specs.Plain.{tableOf}
 use Rattle.table.proofs.AnswerLaws.{answer-zero}
 use Rattle.table.proofs.Tests.{good-inj, then-good, unless-good}
@@ -17,7 +17,7 @@ use Rattle.loads.specs.Shown.{Shown, LoadPage}
 use Rattle.loads.proofs.Rounding.{rounded-nearest, one-nearest, rounded-bound}
 use Rattle.loads.proofs.Keys.{by-period}
 use Rattle.loads.proofs.Orders.{one-order}
-use Rattle.loads.proofs.Pages.{accepted, lines, ordered, load-bounds, widths, total-bounds, last, page-size}
+use Rattle.loads.proofs.Pages.{lines, ordered, flow-bound, positive, load-bounds, widths, total-bounds, last, page-size}
 
 -- a page that was made is that of the clocks that the check gives
 page-made : (m : ℕ) (words times : List ℕ) (room : ℕ) (page : List ℕ) → paging m words times room ≡ good page
@@ -31,25 +31,28 @@ page-made m words times room page e =
     let z = unless-good (leb (lineSize * (m + 1)) room) shortPage 0 (good (pageOf (x .0) times)) page (y .1) in
     (x .0, x .1, good-inj (z .1))
 
-module _ (m : ℕ) (words times : List ℕ) (ks : List Clock) (e : then (tableOf m words) clocksOf ≡ good ks) (t : (f : ℕ) → getD times f 0 ≤ maxTime) where
-  positive : (f : ℕ) → f < m → 1 ≤ clockAt ks f .period
-  positive f l = accepted m words times ks e .2 f l .positive
-
-  loads : (f : ℕ) → f < m → load (lineOf ks times f) ≤ maxLoad
-  loads f l = omega (arith, rounded-bound (1000 * getD times f 0) (clockAt ks f .period), t f)
-
-  page-shown : Shown ks times (pageOf ks times)
-  page-shown =
-      record {
-        lines = lines m words times ks e;
-        ordered = ordered m words times ks e;
-        text = refl;
-        widths = widths m words times ks e loads;
-        last = last m words times ks e loads;
-        nearest = λ (f : ℕ). λ (l : f < length ks). rounded-nearest (1000 * getD times f 0) (clockAt ks f .period) (positive f (omega (arith, accepted m words times ks e .0)));
-        load-bound = load-bounds m words times ks e loads;
-        total-bound = total-bounds m words times ks e loads;
-      }
+-- what a call shows that left the page of these clocks
+page-shown : (m : ℕ) (words times old new : List ℕ) (r : Answer) (ks : List Clock) → then (tableOf m words) clocksOf ≡ good ks
+    → ((f : ℕ) → getD times f 0 ≤ maxTime) → new ≡ over (pageOf ks times) old → r .count ≡ length (pageOf ks times) → Shown m words times old new r
+page-shown m words times old new r ks e t left count =
+    record {
+      clocks = ks;
+      checked = e;
+      lines = lines m words times ks e;
+      ordered = ordered m words times ks e;
+      by-period = λ a b i j. by-period a b (flow-bound m words times ks e a i) (flow-bound m words times ks e b j);
+      nearest = λ l i. rounded-nearest (1000 * l .worst) (l .period) (positive m words times ks e l i);
+      load-bound = load-bounds m words times ks e loads;
+      total-bound = total-bounds m words times ks e loads;
+      width = widths m words times ks e loads;
+      last-width = last m words times ks e loads;
+      left = left;
+      count = count;
+      size = page-size m words times ks e loads;
+    }
+  where
+    loads : (f : ℕ) → f < m → load (lineOf ks times f) ≤ maxLoad
+    loads f l = omega (arith, rounded-bound (1000 * getD times f 0) (clockAt ks f .period), t f)
 
 pub load-page : LoadPage
 load-page =
@@ -57,16 +60,9 @@ load-page =
       shown = λ m words times old new r a s t z.
           let x = answer-zero length (paging m words times (length old)) (sym (ap (λ (w : Answer). w .number) a) ∙ z) in
           let p = page-made m words times (length old) (x .0) (x .1) in
-          let e : paging m words times (length old) ≡ good (pageOf (p .0) times) = x .1 ∙ ap good (sym (p .2)) in (
-            p .0,
-            pageOf (p .0) times,
-            p .1,
-            s ∙ ap (λ (w : Result (List ℕ)). leaves (λ bytes. bytes) w old) e,
-            ap (λ (w : Answer). w .count) (a ∙ ap (answer length) e),
-            page-size m words times (p .0) (p .1) (loads m words times (p .0) (p .1) t),
-            page-shown m words times (p .0) (p .1) t,
-          );
+          let e : paging m words times (length old) ≡ good (pageOf (p .0) times) = x .1 ∙ ap good (sym (p .2)) in
+          page-shown m words times old new r (p .0) (p .1) t (s ∙ ap (λ (w : Result (List ℕ)). leaves (λ bytes. bytes) w old) e)
+          (ap (λ (w : Answer). w .count) (a ∙ ap (answer length) e));
       one-order = one-order;
-      by-period = by-period;
       one-nearest = one-nearest;
     }
