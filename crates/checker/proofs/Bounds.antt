@@ -1,19 +1,21 @@
--- The clocks of a table that the check accepts are sane, and within the limits. Assumes nothing.
-use mathlib.Core.Path.{_≡_, refl, _∙_, subst}
+-- The clocks of a table that the check accepts are sane and within the limits; what the check's answer tells. Assumes nothing.
+use mathlib.Core.Path.{_≡_, refl, sym, _∙_, ap, subst}
 use Prim.Native.Nat.{ℕ, _*_, _≤_}
 use native.Mathlib.Omega.{arith}
 use mathlib.Core.List.{List}
 use lib.ListN.{length}
 use lib.Dec.{leb}
 use borrow.Author.Tests.{le-leb}
-use Rattle.table.specs.Answers.{Result, good, refused, unless, then, noRoom}
+use Rattle.table.specs.declared.Answer.{Answer}
+use Rattle.table.specs.Answers.{Refusal, Result, good, refused, unless, then, refusal, answer, noRoom}
 use Rattle.table.specs.Rows.{Row, maxFlows}
 use Rattle.table.specs.Plain.{tableOf}
+use Rattle.table.proofs.AnswerLaws.{answer-zero, answer-other}
 use Rattle.table.proofs.Tests.{unless-good, then-good}
 use Rattle.table.proofs.Tables.{table-made}
 use Rattle.checker.specs.Clocks.{Clock}
 use Rattle.checker.specs.Rules.{clockAt, clocksOf, Within, AllWithin}
-use Rattle.checker.specs.Answers.{clockSize, checking}
+use Rattle.checker.specs.Answers.{clockSize, checking, checkAnswer}
 use Rattle.checker.proofs.RuleLaws.{within-limits}
 use Rattle.checker.proofs.CheckLaws.{Sane, AllSane, below-le, sane-clocks}
 
@@ -31,6 +33,15 @@ accepted-sane m words rows ks e c =
     let s = sane-clocks m rows ks (t .fits) c in
     (s .0 ∙ t .size, t .few, subst (AllSane (clockAt ks)) (t .size) (s .1))
 
+-- so they are within the limits
+pub checked-within : (m : ℕ) (words : List ℕ) (room : ℕ) (ks : List Clock) → checking m words room ≡ good ks → (length ks ≡ m) × (m ≤ maxFlows) × AllWithin ks
+unfolding checking
+checked-within m words room ks e =
+    let x = then-good (tableOf m words) (λ rows. unless (leb (clockSize * m) room) noRoom 0 (clocksOf rows)) ks e in
+    let c : clocksOf (x .0) ≡ good ks = unless-good (leb (clockSize * m) room) noRoom 0 (clocksOf (x .0)) ks (x .2) .1 in
+    let s = accepted-sane m words (x .0) ks (x .1) c in
+    (s .0, s .1, λ f l. sane-within f (clockAt ks f) (omega (arith, s .0, s .1)) (s .2 f (omega (arith, s .0))))
+
 -- with room for the clocks of any table, the check comes to what the rules come to
 pub check-whole : (m : ℕ) (words : List ℕ) (room : ℕ) → clockSize * maxFlows ≤ room → checking m words room ≡ then (tableOf m words) clocksOf
 unfolding checking
@@ -40,11 +51,14 @@ check-whole m words room l = go (tableOf m words) refl
     go (good rows) e = let h : clockSize * m ≤ room = omega (arith, table-made m words rows e .few) in rw (le-leb (clockSize * m) room h)
     go (refused why f) e = refl
 
--- so they are within the limits
-pub checked-within : (m : ℕ) (words : List ℕ) (room : ℕ) (ks : List Clock) → checking m words room ≡ good ks → (length ks ≡ m) × (m ≤ maxFlows) × AllWithin ks
-unfolding checking
-checked-within m words room ks e =
-    let x = then-good (tableOf m words) (λ rows. unless (leb (clockSize * m) room) noRoom 0 (clocksOf rows)) ks e in
-    let c : clocksOf (x .0) ≡ good ks = unless-good (leb (clockSize * m) room) noRoom 0 (clocksOf (x .0)) ks (x .2) .1 in
-    let s = accepted-sane m words (x .0) ks (x .1) c in
-    (s .0, s .1, λ f l. sane-within f (clockAt ks f) (omega (arith, s .0, s .1)) (s .2 f (omega (arith, s .0))))
+-- what the check's answer tells then: the clocks, or why there are none
+module _ (m : ℕ) (words : List ℕ) (room : ℕ) (r : Answer) (l : clockSize * maxFlows ≤ room) (e : r ≡ checkAnswer m words room) where
+  pub told-clocks : r .number ≡ 0 → (ks : List Clock) × (checking m words room ≡ good ks) × (then (tableOf m words) clocksOf ≡ good ks)
+  told-clocks z =
+      let x = answer-zero length (checking m words room) (ap (λ (a : Answer). a .number) (sym e) ∙ z) in
+      (x .0, x .1, sym (check-whole m words room l) ∙ x .1)
+
+  pub told-refusal : (r .number ≡ 0 → ⊥) → (why : Refusal) × (f : ℕ) × (then (tableOf m words) clocksOf ≡ refused why f) × (r ≡ refusal why f)
+  told-refusal z =
+      let x = answer-other length (checking m words room) (λ q. z (ap (λ (a : Answer). a .number) e ∙ q)) in
+      (x .0, x .1, sym (check-whole m words room l) ∙ x .2, e ∙ ap (answer length) (x .2))

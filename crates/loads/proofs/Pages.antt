@@ -9,17 +9,16 @@ use borrow.Author.Tests.{le-leb, lt-leb, eq-eqb, ne-eqb}
 use Rattle.text.specs.Text.{Wrote}
 use Rattle.text.proofs.Writing.{whole}
 use Rattle.table.specs.declared.Answer.{Answer}
-use Rattle.table.specs.Answers.{Refusal, Result, good, refused, then, refusal, success, answer, leaves, wrongTimes, shortPage}
+use Rattle.table.specs.Answers.{Refusal, Result, good, refused, then, refusal, success, leaves, wrongTimes, shortPage}
 use Rattle.table.specs.Rows.{maxFlows}
 use Rattle.table.specs.Plain.{tableOf}
-use Rattle.table.proofs.AnswerLaws.{answer-zero, answer-other}
 use Rattle.table.proofs.Tests.{then-good}
 use Rattle.checker.specs.Clocks.{Clock}
 use Rattle.checker.specs.Rules.{clockAt, clocksOf}
 use Rattle.checker.specs.Answers.{clockSize, clockWords, clocksWords, checking, checkAnswer, clocksAfter}
 use Rattle.checker.proofs.CheckLaws.{AllSane}
 use Rattle.checker.proofs.WordLaws.{word-at}
-use Rattle.checker.proofs.Bounds.{accepted-sane, check-whole}
+use Rattle.checker.proofs.Bounds.{accepted-sane, told-clocks, told-refusal}
 use Rattle.loads.specs.Loads.{load, maxLoad, Line, lineOf, linesFrom, sorted, Among, Ordered, lineText, total, totalText, pageText, pageOf, lineSize, paging, pageAnswer, pageAfter}
 use Rattle.loads.specs.Private.Words.{lineIn, linesIn, Loaded}
 use Rattle.loads.proofs.Orders.{lines-length, of-lines, in-order}
@@ -104,25 +103,22 @@ pub record Told (m : ℕ) (words zeros clocks : List ℕ) (found : Answer) : Typ
   pub stored : clocks ≡ clocksAfter m words zeros
 
 module _ {m : ℕ} {words zeros clocks : List ℕ} {found : Answer} (T : Told m words zeros clocks found) (times : List ℕ) where
-  rules : checking m words (length zeros) ≡ then (tableOf m words) clocksOf
-  rules = check-whole m words (length zeros) (T .room)
-
   -- the check's refusal is handed on
   pub handed-on : (found .number ≡ 0 → ⊥) → (old : List ℕ) → (found ≡ pageAnswer m words times (length old)) × (old ≡ pageAfter m words times old)
   handed-on z old =
-      let x = answer-other length (checking m words (length zeros)) (λ q. z (ap (λ (a : Answer). a .number) (T .answered) ∙ q)) in
-      let p = refused-page m words times old (x .0) (x .1) (paging-refused m words times (length old) (x .0) (x .1) (sym rules ∙ x .2)) in
-      (T .answered ∙ ap (answer length) (x .2) ∙ p .0, p .1)
+      let x = told-refusal m words (length zeros) found (T .room) (T .answered) z in
+      let p = refused-page m words times old (x .0) (x .1) (paging-refused m words times (length old) (x .0) (x .1) (x .2)) in
+      (x .3 ∙ p .0, p .1)
 
   module _ (zero : found .number ≡ 0) where
-    checked : (ks : List Clock) × (checking m words (length zeros) ≡ good ks)
-    checked = answer-zero length (checking m words (length zeros)) (sym (ap (λ (a : Answer). a .number) (T .answered)) ∙ zero)
+    checked : (ks : List Clock) × (checking m words (length zeros) ≡ good ks) × (then (tableOf m words) clocksOf ≡ good ks)
+    checked = told-clocks m words (length zeros) found (T .room) (T .answered) zero
 
     abbrev ks : List Clock
     ks = checked .0
 
     clocked : then (tableOf m words) clocksOf ≡ good ks
-    clocked = sym rules ∙ checked .1
+    clocked = checked .2
 
     pub few : m ≤ maxFlows
     few = accepted m words times ks clocked .1

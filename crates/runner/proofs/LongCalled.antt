@@ -5,16 +5,14 @@ use native.Mathlib.Omega.{arith}
 use mathlib.Core.List.{List}
 use lib.ListN.{length}
 use Rattle.table.specs.declared.Answer.{Answer}
-use Rattle.table.specs.Answers.{Refusal, shortWindow, Result, good, refused, then, answer}
+use Rattle.table.specs.Answers.{Refusal, shortWindow, Result, good, refused, then}
 use Rattle.table.specs.Rows.{Row, maxFlows}
 use Rattle.table.specs.Plain.{tableOf, rowsIn as goodRows}
-use Rattle.table.proofs.AnswerLaws.{answer-zero, answer-other}
 use Rattle.table.proofs.Tests.{then-good}
-use Rattle.checker.specs.Clocks.{Clock}
 use Rattle.checker.specs.Rules.{clocksOf}
 use Rattle.checker.specs.Answers.{clockSize, checking, checkAnswer}
 use Rattle.checker.proofs.Checks.{rows-good}
-use Rattle.checker.proofs.Bounds.{check-whole}
+use Rattle.checker.proofs.Bounds.{told-clocks, told-refusal}
 use Rattle.semantics.specs.Cells.{Cell, absent, value}
 use Rattle.semantics.specs.Runs.{Ticks, Ran, done, run, Regular}
 use Rattle.semantics.specs.Answers.{ranAnswer, markByte}
@@ -80,15 +78,15 @@ pub accepted : (m : ℕ) (words : List ℕ) (room : ℕ) (r : Answer) → clockS
     → Plain m words × Clocked m words
 unfolding Plain rowsIn Clocked checking
 accepted m words room r b e z =
-    let x : (ks : List Clock) × (checking m words room ≡ good ks) = answer-zero length (checking m words room) (ap (λ (a : Answer). a .number) (sym e) ∙ z) in
-    let t = then-good (tableOf m words) clocksOf (x .0) (sym (check-whole m words room b) ∙ x .1) in
+    let x = told-clocks m words room r b e z in
+    let t = then-good (tableOf m words) clocksOf (x .0) (x .2) in
     (rows-good m words (t .0) (t .1), (x .0, ap (λ (y : Result (List Row)). clocksOf (goodRows y)) (t .1) ∙ t .2))
 
 -- the check's refusal is the long run's
-down-by : (m : ℕ) (words log : List ℕ) (ticks a b c : ℕ) (room : ℕ) (why : Refusal) (f : ℕ) → clockSize * maxFlows ≤ room → checking m words room ≡ refused why f
+down-by : (m : ℕ) (words log : List ℕ) (ticks a b c : ℕ) (why : Refusal) (f : ℕ) → then (tableOf m words) clocksOf ≡ refused why f
     → longRunning m words log ticks a b c ≡ refused why f
 unfolding longRunning testing
-down-by m words log ticks a b c room why f l e = go (tableOf m words) (sym (check-whole m words room l) ∙ e)
+down-by m words log ticks a b c why f = go (tableOf m words)
   where
     go : (y : Result (List Row)) → then y clocksOf ≡ refused why f
         → (then y λ rows. then (clocksOf rows) λ clocks. testing rows log ticks maxLongTicks (windowTicks * m) m shortWindow a b c) ≡ refused why f
@@ -101,7 +99,6 @@ down-by m words log ticks a b c room why f l e = go (tableOf m words) (sym (chec
 pub handed-on : (m : ℕ) (words log : List ℕ) (ticks room : ℕ) (ms vs ts : List ℕ) (r : Answer) → clockSize * maxFlows ≤ room → r ≡ checkAnswer m words room
     → (r .number ≡ 0 → ⊥) → LongCalled m words log ticks ms vs ts ms vs ts r
 handed-on m words log ticks room ms vs ts r l e z =
-    let x : (why : Refusal) × (f : ℕ) × (checking m words room ≡ refused why f) =
-    answer-other length (checking m words room) (λ q. z (ap (λ (a : Answer). a .number) e ∙ q)) in
-    called m words log ticks ms vs ts ms vs ts r (refused (x .0) (x .1))
-    (down-by m words log ticks (length ms) (length vs) (length ts) room (x .0) (x .1) l (x .2)) (e ∙ ap (answer length) (x .2)) (refl, refl, refl)
+    let x = told-refusal m words room r l e z in
+    called m words log ticks ms vs ts ms vs ts r (refused (x .0) (x .1)) (down-by m words log ticks (length ms) (length vs) (length ts) (x .0) (x .1) (x .2))
+    (x .3) (refl, refl, refl)
