@@ -10,7 +10,7 @@ use Rattle.table.specs.Rows.{Row, maxFlows}
 use Rattle.table.specs.Plain.{tableOf, rowsIn as goodRows}
 use Rattle.table.proofs.Tests.{then-good}
 use Rattle.checker.specs.Rules.{clocksOf}
-use Rattle.checker.specs.Answers.{clockSize, checking, checkAnswer}
+use Rattle.checker.specs.Answers.{clockSize, checkAnswer}
 use Rattle.checker.proofs.Checks.{rows-good}
 use Rattle.checker.proofs.Bounds.{told-clocks, told-refusal}
 use Rattle.semantics.specs.Cells.{Cell, absent, value}
@@ -76,7 +76,7 @@ module _ (m : ℕ) (words log : List ℕ) (ticks : ℕ) (ms vs ts ms′ vs′ ts
 -- what the check's answer tells
 pub accepted : (m : ℕ) (words : List ℕ) (room : ℕ) (r : Answer) → clockSize * maxFlows ≤ room → r ≡ checkAnswer m words room → r .number ≡ 0
     → Plain m words × Clocked m words
-unfolding Plain rowsIn Clocked checking
+unfolding Plain rowsIn Clocked
 accepted m words room r b e z =
     let x = told-clocks m words room r b e z in
     let t = then-good (tableOf m words) clocksOf (x .0) (x .2) in
