@@ -32,96 +32,26 @@ fn shown(title: &[u8], count: u32, words: &[u32], times: &[u16], page: &mut [u8]
 // Halves: 7812.5, 62.5 and 187.5, and a total of what is printed.
 fn halves() {
     let words = [0, 32, 4, 0, 0, 16, 0, 0, 13, 1, 1, 0];
-    shown(
-        b"halves\n",
-        3,
-        &words,
-        &[250, 1, 3],
-        &mut [b'.'; 4 * LINE + 3],
-    );
+    let times = [250, 1, 3];
+    shown(b"halves\n", 3, &words, &times, &mut [b'.'; 4 * LINE + 3]);
     let words = [0, 3, 0, 0, 0, 3, 0, 0, 0, 3, 0, 0];
     shown(b"thirds\n", 3, &words, &[1, 1, 2], &mut [b'.'; 4 * LINE]);
 }
 
 // Lines by period, equal periods by flow.
 fn order() {
-    let words = [
-        0,
-        8,
-        7,
-        0,
-        0,
-        2,
-        5,
-        0,
-        0,
-        8,
-        3,
-        0,
-        0,
-        2,
-        9,
-        0,
-        0,
-        4095,
-        0,
-        0,
-        0,
-        1,
-        0,
-        0,
-        0,
-        8,
-        5,
-        0,
-        0,
-        2,
-        0,
-        0,
-    ];
-    shown(
-        b"order\n",
-        8,
-        &words,
-        &[1, 2, 3, 4, 5, 6, 7, 8],
-        &mut [b'.'; 9 * LINE],
-    );
+    let words = [0, 8, 7, 0, 0, 2, 5, 0, 0, 8, 3, 0, 0, 2, 9, 0, 0, 1, 0, 0];
+    let times = [1, 2, 3, 4, 5];
+    shown(b"order\n", 5, &words, &times, &mut [b'.'; 6 * LINE]);
 }
 
-// The largest numbers of each column, and four conditions.
+// The largest numbers of each column.
 fn widest() {
-    let words = [
-        0,
-        1,
-        0,
-        0,
-        10,
-        0,
-        4095,
-        0,
-        0,
-        4095,
-        4095,
-        0,
-        13,
-        0,
-        0,
-        0,
-        14,
-        3,
-        3,
-        0,
-        13,
-        4,
-        4,
-        0,
-        14,
-        5,
-        5,
-        0,
-    ];
-    let times = [65535, 65535, 65535, 0, 1, 65534, 65535];
-    shown(b"widest\n", 7, &words, &times, &mut [b'.'; 8 * LINE]);
+    let words = [0, 4095, 4095, 0];
+    shown(b"one flow\n", 1, &words, &[65535], &mut [b'.'; 2 * LINE]);
+    let words = [0, 1, 0, 0, 13, 0, 0, 0, 14, 1, 1, 0, 13, 2, 2, 0];
+    let times = [65535, 65534, 0, 1];
+    shown(b"conditions\n", 4, &words, &times, &mut [b'.'; 5 * LINE]);
 }
 
 // As many flows as a table may have, each with the largest load.
@@ -138,36 +68,14 @@ fn most() {
 // Refusals, in their order: of the table, of the check, of the times, of the page. Each leaves the page.
 fn refusals() {
     let words = [0, 10, 0, 0, 0, 20, 0, 0, 2, 0, 1, 0];
-    shown(
-        b"a kind that no table has\n",
-        1,
-        &[16, 0, 0, 0],
-        &[],
-        &mut [b'.'; 4],
-    );
-    shown(b"clocks that differ\n", 3, &words, &[], &mut [b'.'; 4]);
-    shown(b"a time too few\n", 2, &words[..8], &[1], &mut [b'.'; 4]);
-    shown(
-        b"a time too many\n",
-        2,
-        &words[..8],
-        &[1, 2, 3],
-        &mut [b'.'; 3 * LINE],
-    );
-    shown(
-        b"a page too short\n",
-        2,
-        &words[..8],
-        &[1, 2],
-        &mut [b'.'; 3 * LINE - 1],
-    );
-    shown(
-        b"a page just long enough\n",
-        2,
-        &words[..8],
-        &[1, 2],
-        &mut [b'.'; 3 * LINE],
-    );
+    let mut page = [b'.'; 3 * LINE];
+    shown(b"unknown kind\n", 1, &[16, 0, 0, 0], &[], &mut page);
+    shown(b"clocks that differ\n", 3, &words, &[], &mut page);
+    shown(b"a time too few\n", 2, &words[..8], &[1], &mut page);
+    shown(b"a time too many\n", 2, &words[..8], &[1, 2, 3], &mut page);
+    let mut short = [b'.'; 3 * LINE - 1];
+    shown(b"a byte too few\n", 2, &words[..8], &[1, 2], &mut short);
+    shown(b"just enough\n", 2, &words[..8], &[1, 2], &mut page);
 }
 
 fn main() {
