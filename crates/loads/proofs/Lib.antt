@@ -1,4 +1,5 @@
 pub mod Rounding
+pub mod Lines
 pub mod Keys
 pub mod Orders
 mod Selecting

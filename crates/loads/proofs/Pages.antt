@@ -21,9 +21,10 @@ use Rattle.checker.proofs.WordLaws.{word-at}
 use Rattle.checker.proofs.Bounds.{accepted-sane, told-clocks, told-refusal}
 use Rattle.loads.specs.Loads.{load, maxLoad, Line, lineOf, linesFrom, sorted, Among, Ordered, lineText, total, totalText, pageText, pageOf, lineSize, paging, pageAnswer, pageAfter}
 use Rattle.loads.specs.Private.Words.{lineIn, linesIn, Loaded}
+use Rattle.loads.proofs.Lines.{Bounded, bounded}
 use Rattle.loads.proofs.Orders.{lines-length, of-lines, in-order}
 use Rattle.loads.proofs.Sums.{lines-same, total-bound}
-use Rattle.loads.proofs.Widths.{line-length, in-columns, total-length, page-length}
+use Rattle.loads.proofs.Widths.{line-length, total-length, page-length}
 
 -- ---- the page of an accepted plan
 
@@ -42,21 +43,17 @@ module _ (m : ℕ) (words times : List ℕ) (ks : List Clock) (e : then (tableOf
       let x = of-lines (lineOf ks times) (length ks) 0 l (ordered .only l i) in
       (x .0, omega (arith, x .2, accepted .0), x .3)
 
-  pub flow-bound : (l : Line) → Among l lines → l .flow < maxFlows
-  flow-bound l i = let x = of-flows l i in omega (arith, x .1, accepted .1, ap (λ (y : Line). y .flow) (x .2))
-
-  pub positive : (l : Line) → Among l lines → 1 ≤ l .period
-  positive l i = let x = of-flows l i in omega (arith, accepted .2 (x .0) (x .1) .positive, ap (λ (y : Line). y .period) (x .2))
+  pub bounds : (l : Line) → Among l lines → Bounded l
+  bounds l i =
+      let x = of-flows l i in
+      subst Bounded (sym (x .2)) (bounded ks times (x .0) (omega (arith, x .1, accepted .1)) (accepted .2 (x .0) (x .1)))
 
   module _ (loads : (f : ℕ) → f < m → load (lineOf ks times f) ≤ maxLoad) where
     pub load-bounds : (l : Line) → Among l lines → load l ≤ maxLoad
     load-bounds l i = let x = of-flows l i in omega (arith, loads (x .0) (x .1), ap load (x .2))
 
     pub widths : (l : Line) → Among l lines → length (lineText l) ≡ lineSize
-    widths l i =
-        let x = of-flows l i in
-        let c = in-columns ks times (x .0) (omega (arith, x .1, accepted .1)) (accepted .2 (x .0) (x .1)) (loads (x .0) (x .1)) in
-        ap (λ (y : Line). length (lineText y)) (x .2) ∙ line-length (lineOf ks times (x .0)) c
+    widths l i = line-length l (bounds l i) (load-bounds l i)
 
     size : length lines ≡ m
     size = ordered .size ∙ lines-length (lineOf ks times) (length ks) 0 ∙ accepted .0

@@ -17,7 +17,7 @@ use Rattle.loads.specs.Shown.{Shown, LoadPage}
 use Rattle.loads.proofs.Rounding.{rounded-nearest, one-nearest, rounded-bound}
 use Rattle.loads.proofs.Keys.{by-period}
 use Rattle.loads.proofs.Orders.{one-order}
-use Rattle.loads.proofs.Pages.{lines, ordered, flow-bound, positive, load-bounds, widths, total-bounds, last, page-size}
+use Rattle.loads.proofs.Pages.{lines, ordered, bounds, load-bounds, widths, total-bounds, last, page-size}
 
 -- a page that was made is that of the clocks that the check gives
 page-made : (m : ℕ) (words times : List ℕ) (room : ℕ) (page : List ℕ) → paging m words times room ≡ good page
@@ -40,8 +40,8 @@ page-shown m words times old new r ks e t left count =
       checked = e;
       lines = lines m words times ks e;
       ordered = ordered m words times ks e;
-      by-period = λ a b i j. by-period a b (flow-bound m words times ks e a i) (flow-bound m words times ks e b j);
-      nearest = λ l i. rounded-nearest (1000 * l .worst) (l .period) (positive m words times ks e l i);
+      by-period = λ a b i j. by-period a b (bounds m words times ks e a i) (bounds m words times ks e b j);
+      nearest = λ l i. rounded-nearest (1000 * l .worst) (l .period) (bounds m words times ks e l i .positive);
       load-bound = load-bounds m words times ks e loads;
       total-bound = total-bounds m words times ks e loads;
       width = widths m words times ks e loads;
