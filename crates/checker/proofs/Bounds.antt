@@ -15,7 +15,7 @@ use Rattle.table.proofs.Tests.{unless-good, then-good}
 use Rattle.table.proofs.Tables.{table-made}
 use Rattle.checker.specs.Clocks.{Clock}
 use Rattle.checker.specs.Rules.{clockAt, clocksOf, Within, AllWithin}
-use Rattle.checker.specs.Answers.{clockSize, checking, checkAnswer}
+use Rattle.checker.specs.Answers.{clockSize, clocksFor, checking, checkAnswer}
 use Rattle.checker.proofs.RuleLaws.{within-limits}
 use Rattle.checker.proofs.CheckLaws.{Sane, AllSane, below-le, sane-clocks}
 
@@ -43,7 +43,7 @@ checked-within m words room ks e =
     (s .0, s .1, λ f l. sane-within f (clockAt ks f) (omega (arith, s .0, s .1)) (s .2 f (omega (arith, s .0))))
 
 -- with room for the clocks of any table, the check comes to what the rules come to
-pub check-whole : (m : ℕ) (words : List ℕ) (room : ℕ) → clockSize * maxFlows ≤ room → checking m words room ≡ then (tableOf m words) clocksOf
+pub check-whole : (m : ℕ) (words : List ℕ) (room : ℕ) → clockSize * maxFlows ≤ room → checking m words room ≡ clocksFor m words
 unfolding checking
 check-whole m words room l = go (tableOf m words) refl
   where
@@ -53,12 +53,12 @@ check-whole m words room l = go (tableOf m words) refl
 
 -- what the check's answer tells then: the clocks, or why there are none
 module _ (m : ℕ) (words : List ℕ) (room : ℕ) (r : Answer) (l : clockSize * maxFlows ≤ room) (e : r ≡ checkAnswer m words room) where
-  pub told-clocks : r .number ≡ 0 → (ks : List Clock) × (checking m words room ≡ good ks) × (then (tableOf m words) clocksOf ≡ good ks)
+  pub told-clocks : r .number ≡ 0 → (ks : List Clock) × (checking m words room ≡ good ks) × (clocksFor m words ≡ good ks)
   told-clocks z =
       let x = answer-zero length (checking m words room) (ap (λ (a : Answer). a .number) (sym e) ∙ z) in
       (x .0, x .1, sym (check-whole m words room l) ∙ x .1)
 
-  pub told-refusal : (r .number ≡ 0 → ⊥) → (why : Refusal) × (f : ℕ) × (then (tableOf m words) clocksOf ≡ refused why f) × (r ≡ refusal why f)
+  pub told-refusal : (r .number ≡ 0 → ⊥) → (why : Refusal) × (f : ℕ) × (clocksFor m words ≡ refused why f) × (r ≡ refusal why f)
   told-refusal z =
       let x = answer-other length (checking m words room) (λ q. z (ap (λ (a : Answer). a .number) e ∙ q)) in
       (x .0, x .1, sym (check-whole m words room l) ∙ x .2, e ∙ ap (answer length) (x .2))

@@ -26,6 +26,10 @@ unfoldable pub clocksWords : List Clock → List ℕ
 clocksWords [] = []
 clocksWords (k ∷ ks) = clockWords k ++ clocksWords ks
 
+-- the clocks of a table in plain form, or its first refusal
+abbrev pub clocksFor : ℕ → List ℕ → Result (List Clock)
+clocksFor m words = then (tableOf m words) clocksOf
+
 -- what the check comes to where there is room for so many words
 unfoldable pub checking : ℕ → List ℕ → ℕ → Result (List Clock)
 checking m words room = then (tableOf m words) λ rows. unless (leb (clockSize * m) room) noRoom 0 (clocksOf rows)

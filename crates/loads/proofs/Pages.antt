@@ -9,13 +9,13 @@ use borrow.Author.Tests.{le-leb, lt-leb, eq-eqb, ne-eqb}
 use Rattle.text.specs.Text.{Wrote}
 use Rattle.text.proofs.Writing.{whole}
 use Rattle.table.specs.declared.Answer.{Answer}
-use Rattle.table.specs.Answers.{Refusal, Result, good, refused, then, refusal, success, leaves, wrongTimes, shortPage}
+use Rattle.table.specs.Answers.{Refusal, Result, good, refused, refusal, success, leaves, wrongTimes, shortPage}
 use Rattle.table.specs.Rows.{maxFlows}
 use Rattle.table.specs.Plain.{tableOf}
 use Rattle.table.proofs.Tests.{then-good}
 use Rattle.checker.specs.Clocks.{Clock}
 use Rattle.checker.specs.Rules.{clockAt, clocksOf}
-use Rattle.checker.specs.Answers.{clockSize, clockWords, clocksWords, checking, checkAnswer, clocksAfter}
+use Rattle.checker.specs.Answers.{clockSize, clockWords, clocksWords, clocksFor, checking, checkAnswer, clocksAfter}
 use Rattle.checker.proofs.CheckLaws.{AllSane}
 use Rattle.checker.proofs.WordLaws.{word-at}
 use Rattle.checker.proofs.Bounds.{accepted-sane, told-clocks, told-refusal}
@@ -28,7 +28,7 @@ use Rattle.loads.proofs.Widths.{line-length, total-length, page-length}
 
 -- ---- the page of an accepted plan
 
-module _ (m : ℕ) (words times : List ℕ) (ks : List Clock) (e : then (tableOf m words) clocksOf ≡ good ks) where
+module _ (m : ℕ) (words times : List ℕ) (ks : List Clock) (e : clocksFor m words ≡ good ks) where
   pub accepted : (length ks ≡ m) × (m ≤ maxFlows) × AllSane (clockAt ks) m
   accepted = let t = then-good (tableOf m words) clocksOf ks e in accepted-sane m words (t .0) ks (t .1) (t .2)
 
@@ -82,7 +82,7 @@ module _ (m : ℕ) (words times : List ℕ) (ks : List Clock) (e : then (tableOf
     unfolding paging
     paging-good t h = rw (e, eq-eqb (length times) m t, le-leb (lineSize * (m + 1)) room h)
 
-paging-refused : (m : ℕ) (words times : List ℕ) (room : ℕ) (why : Refusal) (f : ℕ) → then (tableOf m words) clocksOf ≡ refused why f → paging m words times room ≡ refused why f
+paging-refused : (m : ℕ) (words times : List ℕ) (room : ℕ) (why : Refusal) (f : ℕ) → clocksFor m words ≡ refused why f → paging m words times room ≡ refused why f
 unfolding paging
 paging-refused m words times room why f e = rw e
 
@@ -93,6 +93,14 @@ refused-page m words times old why f e = (rw e, rw e)
 
 -- ---- after the check
 
+-- the check's refusal is handed on
+pub checked-refusal : (m : ℕ) (words times : List ℕ) (room : ℕ) (r : Answer) → clockSize * maxFlows ≤ room → r ≡ checkAnswer m words room → (r .number ≡ 0 → ⊥)
+    → (old : List ℕ) → (r ≡ pageAnswer m words times (length old)) × (old ≡ pageAfter m words times old)
+checked-refusal m words times room r l e z old =
+    let x = told-refusal m words room r l e z in
+    let p = refused-page m words times old (x .0) (x .1) (paging-refused m words times (length old) (x .0) (x .1) (x .2)) in
+    (x .3 ∙ p .0, p .1)
+
 -- what the check answered and left, in a buffer that has room for any table
 pub record Told (m : ℕ) (words zeros clocks : List ℕ) (found : Answer) : Type 0 where
   pub room : clockSize * maxFlows ≤ length zeros
@@ -100,21 +108,17 @@ pub record Told (m : ℕ) (words zeros clocks : List ℕ) (found : Answer) : Typ
   pub stored : clocks ≡ clocksAfter m words zeros
 
 module _ {m : ℕ} {words zeros clocks : List ℕ} {found : Answer} (T : Told m words zeros clocks found) (times : List ℕ) where
-  -- the check's refusal is handed on
   pub handed-on : (found .number ≡ 0 → ⊥) → (old : List ℕ) → (found ≡ pageAnswer m words times (length old)) × (old ≡ pageAfter m words times old)
-  handed-on z old =
-      let x = told-refusal m words (length zeros) found (T .room) (T .answered) z in
-      let p = refused-page m words times old (x .0) (x .1) (paging-refused m words times (length old) (x .0) (x .1) (x .2)) in
-      (x .3 ∙ p .0, p .1)
+  handed-on = checked-refusal m words times (length zeros) found (T .room) (T .answered)
 
   module _ (zero : found .number ≡ 0) where
-    checked : (ks : List Clock) × (checking m words (length zeros) ≡ good ks) × (then (tableOf m words) clocksOf ≡ good ks)
+    checked : (ks : List Clock) × (checking m words (length zeros) ≡ good ks) × (clocksFor m words ≡ good ks)
     checked = told-clocks m words (length zeros) found (T .room) (T .answered) zero
 
     abbrev ks : List Clock
     ks = checked .0
 
-    clocked : then (tableOf m words) clocksOf ≡ good ks
+    clocked : clocksFor m words ≡ good ks
     clocked = checked .2
 
     pub few : m ≤ maxFlows

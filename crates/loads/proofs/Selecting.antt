@@ -8,7 +8,7 @@ use mathlib.Core.List.{List}
 use lib.Dec.{ltb}
 use borrow.Author.Tests.{ltb-true, ltb-false}
 use Rattle.table.proofs.Lists.{below-suc}
-use Rattle.loads.specs.Private.Words.{keyIn, noKey, nearer, Least}
+use Rattle.loads.specs.Private.Words.{keyIn, noKey, lesser, Least}
 
 pub least-none : (ws : List ℕ) (from : ℕ) → Least ws 0 from noKey
 least-none ws from =
@@ -42,7 +42,7 @@ module _ (ws : List ℕ) (f from best : ℕ) (small : keyIn ws f < noKey) (o : L
         found = λ (i : keyIn ws f < noKey). (f, omega arith, h, refl);
       }
 
-  one-more : Least ws (suc f) from (nearer from (keyIn ws f) best)
+  one-more : Least ws (suc f) from (lesser from (keyIn ws f) best)
   one-more = go (ltb (keyIn ws f) from) (ltb (keyIn ws f) best) refl refl
     where
       go : (a b : Bool) → ltb (keyIn ws f) from ≡ a → ltb (keyIn ws f) best ≡ b → Least ws (suc f) from (cond a best (cond b (keyIn ws f) best))
@@ -50,6 +50,6 @@ module _ (ws : List ℕ) (f from best : ℕ) (small : keyIn ws f < noKey) (o : L
       go false true x y = taken (ltb-false (keyIn ws f) from x) (ltb-true (keyIn ws f) best y)
       go false false x y = stays (λ (h : from ≤ keyIn ws f). ltb-false (keyIn ws f) best y)
 
-pub least-more : {ws : List ℕ} {f from best k b : ℕ} → k ≡ keyIn ws f → k < noKey → b ≡ nearer from k best → Least ws f from best → Least ws (f + 1) from b
+pub least-more : {ws : List ℕ} {f from best k b : ℕ} → k ≡ keyIn ws f → k < noKey → b ≡ lesser from k best → Least ws f from best → Least ws (f + 1) from b
 least-more {ws} {f} {from} {best} {k} {b} e s n o =
     rw (add-one f, n, e) (one-more ws f from best (omega arith) o)

@@ -9,9 +9,9 @@ use Rattle.text.specs.Text.{lineFeed, space, right}
 use Rattle.table.specs.declared.Answer.{Answer}
 use Rattle.table.specs.Answers.{Result, good, unless, then, answer, leaves, wrongTimes, shortPage}
 use Rattle.table.specs.Rows.{maxFlows}
-use Rattle.table.specs.Plain.{tableOf}
 use Rattle.checker.specs.Clocks.{Clock}
-use Rattle.checker.specs.Rules.{clockAt, clocksOf}
+use Rattle.checker.specs.Rules.{clockAt}
+use Rattle.checker.specs.Answers.{clocksFor}
 
 -- ---- a load
 
@@ -136,7 +136,7 @@ lineSize = 26
 -- what the page comes to where there is room for so many bytes
 unfoldable pub paging : ℕ → List ℕ → List ℕ → ℕ → Result (List ℕ)
 paging m words times room =
-    then (then (tableOf m words) clocksOf) λ ks.
+    then (clocksFor m words) λ ks.
     unless (eqb (length times) m) wrongTimes 0
     (unless (leb (lineSize * (m + 1)) room) shortPage 0 (good (pageOf ks times)))
 

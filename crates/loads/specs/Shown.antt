@@ -4,18 +4,18 @@ use Prim.Native.Nat.{ℕ, _+_, _*_, _≤_, _<_}
 use mathlib.Core.List.{List}
 use lib.ListN.{length, getD}
 use Rattle.table.specs.declared.Answer.{Answer}
-use Rattle.table.specs.Answers.{good, over, then}
+use Rattle.table.specs.Answers.{good, over}
 use Rattle.table.specs.Rows.{maxFlows}
-use Rattle.table.specs.Plain.{tableOf}
 use Rattle.checker.specs.Clocks.{Clock}
-use Rattle.checker.specs.Rules.{clocksOf}
+use Rattle.checker.specs.Answers.{clockSize, checking, checkAnswer}
 use Rattle.loads.specs.Loads.{Nearest, maxTime, maxLoad, Line, load, lineOf, linesFrom, key, Among, Ordered, lineText, total, totalText, pageText, lineSize, pageAnswer, pageAfter}
 
 -- what a call leaves that answered 0, over a page that was old and is new
 pub record Shown (m : ℕ) (words times old new : List ℕ) (r : Answer) : Type 0 where
-  -- the clocks that the check gives
+  -- the clocks that the check gives, which has room for any table; one clock and one worst time a flow
   pub clocks : List Clock
-  pub checked : then (tableOf m words) clocksOf ≡ good clocks
+  pub checked : (room : ℕ) → clockSize * maxFlows ≤ room → checking m words room ≡ good clocks
+  pub one-each : (length clocks ≡ m) × (length times ≡ m)
   -- the lines of all flows in order: by period ascending, equal periods by flow
   pub lines : List Line
   pub ordered : Ordered (linesFrom (lineOf clocks times) (length clocks) 0) lines
@@ -33,6 +33,11 @@ pub record Shown (m : ℕ) (words times old new : List ℕ) (r : Answer) : Type 
   pub size : length (pageText lines) ≡ lineSize * (m + 1)
 
 pub record LoadPage : Type 0 where
+  -- a plan that the check refuses gets that refusal, and the page stays
+  pub handed-on :
+      (m : ℕ) (words times old : List ℕ) (room : ℕ) → clockSize * maxFlows ≤ room → (checkAnswer m words room .number ≡ 0 → ⊥)
+      → (pageAnswer m words times (length old) ≡ checkAnswer m words room) × (pageAfter m words times old ≡ old)
+  -- a page that was made is as it should be
   pub shown :
       (m : ℕ) (words times old new : List ℕ) (r : Answer) → r ≡ pageAnswer m words times (length old) → new ≡ pageAfter m words times old
       → ((f : ℕ) → getD times f 0 ≤ maxTime) → r .number ≡ 0 → Shown m words times old new r

@@ -5,7 +5,7 @@ ghost use lib.ListN.{length, getD};
 ghost use Rattle.text.specs.Text.{Wrote};
 ghost use Rattle.table.specs.Rows.{maxFlows};
 ghost use Rattle.loads.specs.Loads.{rounded, maxLoad, load, sorted, field, lineText, linesText, total, totalText, pageText, pageAnswer, pageAfter};
-ghost use Rattle.loads.specs.Private.Words.{lineIn, linesIn, Loaded, keyIn, noKey, nearer, Least};
+ghost use Rattle.loads.specs.Private.Words.{lineIn, linesIn, Loaded, keyIn, noKey, lesser, Least};
 use checker::CLOCK_SIZE;
 use checker::CLOCKS;
 use table::Answer;
@@ -21,7 +21,7 @@ pub const LINE_SIZE: usize = 26;
 // No flow's key is as large.
 const NO_KEY: u64 = 9223372036854775808;
 
-// 1000 times the worst time divided by the period, to the nearest whole, the half going up.
+// 1000 times the worst time divided by the period, to the nearest whole, the half going up; 0 over a period of 0, which no clock has.
 fn load(worst: u16, period: u32) -> u32
     ensures { λ r. ⌜ r ≡ rounded (1000 * worst) period ⌝ }
     ensures { λ r. ⌜ r ≤ maxLoad ⌝ }
@@ -35,7 +35,7 @@ fn load(worst: u16, period: u32) -> u32
     if 2 * rest < period { whole } else { whole + 1 }
 }
 
-// The worst time of flow f.
+// The worst time of flow f, 0 past the end.
 fn time_at(times: &[u16], f: u32) -> u16
     ensures { λ r. ⌜ r ≡ getD (now (times .entry)) f 0 ⌝ }
 {
@@ -68,7 +68,7 @@ fn sum(clocks: &[u32], times: &[u16], n: u32) -> u32
     sum
 }
 
-// The key of flow f: lines stand by their keys.
+// The key of flow f, by which lines stand: by period, equal periods by flow. Its remainder by MAX_FLOWS is the flow.
 fn key(clocks: &[u32], f: u32) -> u64
     requires { ⌜ f < maxFlows ⌝ }
     ensures { λ r. ⌜ r ≡ keyIn (now (clocks .entry)) f ⌝ }
@@ -79,8 +79,8 @@ fn key(clocks: &[u32], f: u32) -> u64
 }
 
 // The lesser of the best key so far and a key that is not below from.
-fn nearer(from: u64, k: u64, best: u64) -> u64
-    ensures { λ r. ⌜ r ≡ nearer from k best ⌝ }
+fn lesser(from: u64, k: u64, best: u64) -> u64
+    ensures { λ r. ⌜ r ≡ lesser from k best ⌝ }
 {
     if k < from {
         return best;
@@ -88,7 +88,7 @@ fn nearer(from: u64, k: u64, best: u64) -> u64
     if k < best { k } else { best }
 }
 
-// The least key of n flows that is not below from.
+// The least key of n flows that is not below from, NO_KEY where there is none.
 fn least(clocks: &[u32], n: u32, from: u64) -> u64
     requires { ⌜ n ≤ maxFlows ⌝ }
     ensures { λ r. ⌜ Least (now (clocks .entry)) n from r ⌝ }
@@ -96,7 +96,7 @@ fn least(clocks: &[u32], n: u32, from: u64) -> u64
     let mut best = NO_KEY;
     let mut f: u32 = 0;
     while f < n {
-        best = nearer(from, key(clocks, f), best);
+        best = lesser(from, key(clocks, f), best);
         f += 1;
     }
     best

@@ -45,7 +45,7 @@ fn order() {
     shown(b"order\n", 5, &words, &times, &mut [b'.'; 6 * LINE]);
 }
 
-// The largest numbers of each column.
+// The largest period and phase, the largest load, and 0 to 3 conditions.
 fn widest() {
     let words = [0, 4095, 4095, 0];
     shown(b"one flow\n", 1, &words, &[65535], &mut [b'.'; 2 * LINE]);
@@ -72,8 +72,8 @@ fn refusals() {
     shown(b"unknown kind\n", 1, &[16, 0, 0, 0], &[], &mut page);
     shown(b"clocks that differ\n", 3, &words, &[], &mut page);
     shown(b"a time too few\n", 2, &words[..8], &[1], &mut page);
-    shown(b"a time too many\n", 2, &words[..8], &[1, 2, 3], &mut page);
     let mut short = [b'.'; 3 * LINE - 1];
+    shown(b"a time too many\n", 2, &words[..8], &[1, 2, 3], &mut short);
     shown(b"a byte too few\n", 2, &words[..8], &[1, 2], &mut short);
     shown(b"just enough\n", 2, &words[..8], &[1, 2], &mut page);
 }

@@ -10,7 +10,7 @@ use Rattle.table.specs.Rows.{Row, maxFlows}
 use Rattle.table.specs.Plain.{tableOf, rowsIn as goodRows}
 use Rattle.table.proofs.Tests.{then-good}
 use Rattle.checker.specs.Rules.{clocksOf}
-use Rattle.checker.specs.Answers.{clockSize, checkAnswer}
+use Rattle.checker.specs.Answers.{clockSize, clocksFor, checkAnswer}
 use Rattle.checker.proofs.Checks.{rows-good}
 use Rattle.checker.proofs.Bounds.{told-clocks, told-refusal}
 use Rattle.semantics.specs.Cells.{Cell, absent, value}
@@ -83,7 +83,7 @@ accepted m words room r b e z =
     (rows-good m words (t .0) (t .1), (x .0, ap (λ (y : Result (List Row)). clocksOf (goodRows y)) (t .1) ∙ t .2))
 
 -- the check's refusal is the long run's
-down-by : (m : ℕ) (words log : List ℕ) (ticks a b c : ℕ) (why : Refusal) (f : ℕ) → then (tableOf m words) clocksOf ≡ refused why f
+down-by : (m : ℕ) (words log : List ℕ) (ticks a b c : ℕ) (why : Refusal) (f : ℕ) → clocksFor m words ≡ refused why f
     → longRunning m words log ticks a b c ≡ refused why f
 unfolding longRunning testing
 down-by m words log ticks a b c why f = go (tableOf m words)

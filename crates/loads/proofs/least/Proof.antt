@@ -21,8 +21,8 @@ loop-holds c = (search needs, least-none _ _)
 key-requires : tie.Need-key-requires Inv-loop μ-loop
 key-requires c κs = search needs
 
-nearer-requires : tie.Need-nearer-requires Inv-loop μ-loop
-nearer-requires c κs = search needs
+lesser-requires : tie.Need-lesser-requires Inv-loop μ-loop
+lesser-requires c κs = search needs
 
 add-f : tie.Need-add-f Inv-loop μ-loop
 add-f c = search needs
@@ -35,7 +35,7 @@ loop-again c =
     let after-key = c .before in
     let k = after-key .key .ensures in
     let l = after-key .before .before .loop in
-    (search needs, least-more (k .0) (k .1) (c .nearer .ensures) (l .inv .1))
+    (search needs, least-more (k .0) (k .1) (c .lesser .ensures) (l .inv .1))
 
 returns : tie.Need-returns Inv-loop μ-loop
 returns c =
@@ -52,7 +52,7 @@ least-spec =
     μ-loop
     loop-holds
     key-requires
-    nearer-requires
+    lesser-requires
     add-f
     loop-less
     loop-again

@@ -36,8 +36,8 @@ abbrev pub noKey : ℕ
 noKey = 9223372036854775808
 
 -- the lesser of the best key so far and a key that is not below from
-abbrev pub nearer : ℕ → ℕ → ℕ → ℕ
-nearer from k best = cond (ltb k from) best (cond (ltb k best) k best)
+abbrev pub lesser : ℕ → ℕ → ℕ → ℕ
+lesser from k best = cond (ltb k from) best (cond (ltb k best) k best)
 
 -- the least key of n flows that is not below from, and noKey where there is none
 pub record Least (ws : List ℕ) (n from best : ℕ) : Type 0 where

@@ -1,7 +1,7 @@
--- `loads::nearer` meets its contract. Assumes nothing.
+-- `loads::lesser` meets its contract. Assumes nothing.
 use borrow.Author.Tests.{lt-ltb, le-ltb}
-use Rattle.loads.proofs.nearer.Statement.{statement}
-use Rattle.loads.proofs.nearer.Tie as tie
+use Rattle.loads.proofs.lesser.Statement.{statement}
+use Rattle.loads.proofs.lesser.Tie as tie
 
 returns : tie.Need-returns
 returns c = rw (lt-ltb _ _ (c .if1 .taken))
@@ -12,5 +12,5 @@ returns-2 c = rw (le-ltb _ _ (c .before .if1 .left), lt-ltb _ _ (c .if2 .taken))
 returns-3 : tie.Need-returns-3
 returns-3 c = rw (le-ltb _ _ (c .before .if1 .left), le-ltb _ _ (c .if2 .left))
 
-pub nearer-spec : {M : Type 1} → statement M
-nearer-spec = tie.close (tie.spec returns returns-2 returns-3)
+pub lesser-spec : {M : Type 1} → statement M
+lesser-spec = tie.close (tie.spec returns returns-2 returns-3)
