@@ -14,6 +14,13 @@
 //!
 //! Here the difference of the two lines 'Collected' is divided by 10,000 × 16. PLAN is mixed, sparse or sums;
 //! IMPLEMENTATION is library, mirror or quick, or of the long run long, long-mirror or long-quick.
+//!
+//! `bench call CALL PLAN FLOWS CALLS` makes one call of the library so many times and nothing else that depends on how
+//! many, so that the instructions of a call are the difference between two counts of calls, divided by the calls
+//! between them, here 1,000. CALL is check, write, read, listing or page, the load page:
+//!
+//!     valgrind --tool=callgrind --callgrind-out-file=/dev/null target/release/bench call page mixed 64 1000
+//!     valgrind --tool=callgrind --callgrind-out-file=/dev/null target/release/bench call page mixed 64 2000
 
 mod measure;
 mod plans;
@@ -23,7 +30,7 @@ mod tables;
 use std::env;
 use std::process::ExitCode;
 
-use plans::{mixed, sparse, sums};
+use plans::{mixed, sparse, sums, Plan};
 use runs::{LONG, LONG_AND_PLAIN, RUNS};
 
 /// As many ticks as a run may have, and a long run.
@@ -74,30 +81,38 @@ fn report() {
     }
 }
 
-/// One run, as the four arguments say; nothing if they do not.
-fn one_run(arguments: &[String]) -> Option<()> {
-    let [plan, flows, ticks, implementation] = arguments else { return None };
+/// The plan of a name with so many flows.
+fn plan(name: &str, flows: &str) -> Option<Plan> {
     let flows = flows.parse().ok().filter(|flows| (1..=64).contains(flows))?;
-    let ticks = ticks.parse().ok()?;
-    let plan = match plan.as_str() {
+    Some(match name {
         "mixed" => mixed(flows),
         "sparse" => sparse(flows),
         "sums" => sums(flows),
         _ => return None,
-    };
-    runs::once(&plan, ticks, runs::of_name(implementation)?)
+    })
+}
+
+/// One run, or one call so many times, as the arguments say; nothing if they do not.
+fn one(arguments: &[&str]) -> Option<()> {
+    match *arguments {
+        ["run", name, flows, ticks, implementation] => {
+            runs::once(&plan(name, flows)?, ticks.parse().ok()?, runs::of_name(implementation)?)
+        }
+        ["call", call, name, flows, calls] => tables::only(call, &plan(name, flows)?, calls.parse().ok()?),
+        _ => None,
+    }
 }
 
 fn main() -> ExitCode {
     let arguments: Vec<String> = env::args().skip(1).collect();
-    match arguments.split_first() {
-        None => report(),
-        Some((mode, rest)) if mode == "run" && one_run(rest).is_some() => {}
-        Some(_) => {
-            let names = runs::names().join("|");
-            eprintln!("bench, or bench run mixed|sparse|sums FLOWS TICKS {names}");
-            return ExitCode::FAILURE;
-        }
+    let arguments: Vec<&str> = arguments.iter().map(String::as_str).collect();
+    if arguments.is_empty() {
+        report();
+    } else if one(&arguments).is_none() {
+        let (runs, calls) = (runs::names().join("|"), tables::names().join("|"));
+        eprintln!("bench, or bench run mixed|sparse|sums FLOWS TICKS {runs}");
+        eprintln!("or bench call {calls} mixed|sparse|sums FLOWS CALLS");
+        return ExitCode::FAILURE;
     }
     ExitCode::SUCCESS
 }

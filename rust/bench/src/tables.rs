@@ -1,4 +1,5 @@
-//! Check, write, read and load page: library and quick implementation.
+//! Check, write, read and load page: library and quick implementation. The library's calls, with the listing, so many
+//! times.
 
 use std::hint::black_box;
 
@@ -7,6 +8,82 @@ use crate::plans::Plan;
 
 /// How many calls make one measurement.
 const CALLS: u32 = 2_000;
+
+/// What the calls take.
+struct Given<'a> {
+    count: u32,
+    words: &'a [u32],
+    packed: Vec<u8>,
+    times: Vec<u16>,
+}
+
+impl<'a> Given<'a> {
+    fn new(plan: &'a Plan) -> Self {
+        let (count, words, mut packed) = (plan.flows() as u32, &plan.words[..], [0; baarqidho::PACKED_MAX]);
+        let bytes = baarqidho::write(count, words, &mut packed).count as usize;
+        Given { count, words, packed: packed[..bytes].to_vec(), times: plan.times() }
+    }
+}
+
+/// The buffers that the calls are lent: of clocks or plain rows, and of packed rows or text.
+#[derive(PartialEq)]
+struct Lent {
+    words: [u32; 7 * 64],
+    bytes: [u8; baarqidho::LISTING_MAX],
+}
+
+impl Lent {
+    fn new() -> Self {
+        Lent { words: [0; 7 * 64], bytes: [0; baarqidho::LISTING_MAX] }
+    }
+}
+
+/// A call; gives the number and count of its answer.
+type Make = fn(&Given, &mut Lent) -> (u32, u32);
+
+/// A call by its name.
+struct Call {
+    name: &'static str,
+    library: Make,
+    quick: Make,
+}
+
+macro_rules! call {
+    ($name:literal, $call:ident, |$given:ident, $lent:ident| ($($argument:expr),+)) => {
+        Call {
+            name: $name,
+            library: |$given, $lent| {
+                let answer = baarqidho::$call($($argument),+);
+                (answer.number, answer.count)
+            },
+            quick: |$given, $lent| {
+                let answer = peer::$call($($argument),+);
+                (answer.number, answer.count)
+            },
+        }
+    };
+}
+
+/// The calls that are measured.
+const MEASURED: [Call; 4] = [
+    call!("check", check, |given, lent| (given.count, given.words, &mut lent.words)),
+    call!("write", write, |given, lent| (given.count, given.words, &mut lent.bytes)),
+    call!("read", read, |given, lent| (&given.packed, &mut lent.words)),
+    call!("page", load_page, |given, lent| (given.count, given.words, &given.times, &mut lent.bytes)),
+];
+
+/// The listing.
+const LISTING: Call = call!("listing", listing, |given, lent| (&given.packed, &mut lent.bytes));
+
+/// The calls of [`MEASURED`], and [`LISTING`].
+fn all() -> impl Iterator<Item = Call> {
+    MEASURED.into_iter().chain([LISTING])
+}
+
+/// The names of all calls.
+pub fn names() -> Vec<&'static str> {
+    all().map(|call| call.name).collect()
+}
 
 /// The heading of a table of calls.
 pub fn heading(title: &str) {
@@ -21,51 +98,36 @@ fn line(call: &str, plan: &Plan, measured: &Measured<2>) {
     println!("{name:<34} {library:>11.0} {:>11} {quick:>11.0}   {:>16}   {ratio:>9.2} {median:>6.2}", "", "");
 }
 
-/// Makes a call many times and sees to it that it always gives one count.
-fn many(count: u32, mut call: impl FnMut() -> u32) {
-    for _ in 0..CALLS {
-        assert_eq!(black_box(call()), count);
+/// Makes a call so many times and sees to it that it always succeeds with one count.
+fn many(calls: u32, count: u32, make: Make, given: &Given, lent: &mut Lent) {
+    for _ in 0..calls {
+        assert_eq!(black_box(make(black_box(given), lent)), (0, count));
     }
 }
 
 /// Measures check, write, read and load page of one plan; both give the same clocks, bytes, words and text.
 pub fn table(plan: &Plan) {
-    let (count, words) = (plan.flows() as u32, &plan.words[..]);
+    let (given, mut lent, mut quick_lent) = (Given::new(plan), Lent::new(), Lent::new());
+    for Call { name, library, quick } in MEASURED {
+        let (_, count) = library(&given, &mut lent);
+        let measured = by_turns(|which| match which {
+            0 => many(CALLS, count, library, &given, &mut lent),
+            _ => many(CALLS, count, quick, &given, &mut quick_lent),
+        });
+        assert!(lent == quick_lent, "{name}");
+        line(name, plan, &measured);
+    }
+    // Read was the last to write words.
+    assert_eq!(lent.words[..plan.words.len()], plan.words);
+}
 
-    let (mut clocks, mut quick_clocks) = ([0; 7 * 64], [0; 7 * 64]);
-    let measured = by_turns(|which| match which {
-        0 => many(count, || baarqidho::check(count, black_box(words), &mut clocks).count),
-        _ => many(count, || peer::check(count, black_box(words), &mut quick_clocks).count),
-    });
-    assert_eq!(clocks, quick_clocks);
-    line("check", plan, &measured);
-
-    let (mut packed, mut quick_packed) = ([0; 489], [0; 489]);
-    let bytes = baarqidho::write(count, words, &mut packed).count;
-    let measured = by_turns(|which| match which {
-        0 => many(bytes, || baarqidho::write(count, black_box(words), &mut packed).count),
-        _ => many(bytes, || peer::write(count, black_box(words), &mut quick_packed).count),
-    });
-    assert_eq!(packed, quick_packed);
-    line("write", plan, &measured);
-
-    let packed = &packed[..bytes as usize];
-    let (mut plain, mut quick_plain) = ([0; 4 * 64], [0; 4 * 64]);
-    let measured = by_turns(|which| match which {
-        0 => many(count, || baarqidho::read(black_box(packed), &mut plain).count),
-        _ => many(count, || peer::read(black_box(packed), &mut quick_plain).count),
-    });
-    assert_eq!(plain, quick_plain);
-    assert_eq!(plain[..words.len()], *words);
-    line("read", plan, &measured);
-
-    let times = &plan.times()[..];
-    let (mut page, mut quick_page) = ([0; baarqidho::PAGE_MAX], [0; baarqidho::PAGE_MAX]);
-    let bytes = baarqidho::load_page(count, words, times, &mut page).count;
-    let measured = by_turns(|which| match which {
-        0 => many(bytes, || baarqidho::load_page(count, black_box(words), times, &mut page).count),
-        _ => many(bytes, || peer::load_page(count, black_box(words), times, &mut quick_page).count),
-    });
-    assert_eq!(page, quick_page);
-    line("load page", plan, &measured);
+/// Makes the library's call of a name so many times, and nothing else that depends on how many. Nothing if there is no
+/// such call.
+pub fn only(name: &str, plan: &Plan, calls: u32) -> Option<()> {
+    let call = all().find(|call| call.name == name)?;
+    let (given, mut lent) = (Given::new(plan), Lent::new());
+    let answer = (call.library)(&given, &mut lent);
+    many(calls, answer.1, call.library, &given, &mut lent);
+    println!("answer {answer:?}");
+    Some(())
 }

@@ -1,4 +1,5 @@
-//! Bench plans, quick: read, write, check, run, long run, listing and load page with constant work a cell and no heap.
+//! Bench plans, quick: read, write, check, run, long run, listing and load page without the heap; a run has constant
+//! work a cell.
 //!
 //! The run carries between ticks only what each kind of row needs, so that no cell looks through the trace again.
 //! It is what the proved library is measured against, with the runs of [`mirror`] beside it.

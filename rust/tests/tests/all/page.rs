@@ -52,7 +52,7 @@ fn loads() {
     }
 }
 
-/// The README's worked example; all columns at their widest; and 0 to 4 conditions.
+/// The README's worked example; period, phase, conditions and load at their widest; and 0 to 4 conditions.
 #[test]
 fn by_hand() {
     let rows = [[0, 2, 0, 0], [9, 0, 2, 0], [7, 20, 1, 1], [4, 2, 1, 0], [13, 1, 3, 0]];
@@ -161,7 +161,7 @@ fn order_of_refusals() {
         assert_eq!(outcome.parts, parts, "{rows:?}, {times} times, {page_len} bytes");
         assert!(outcome.is_untouched(), "{rows:?}");
     };
-    // Both right, one of them wrong, and both.
+    // For three flows: both right, one of them wrong, and both wrong.
     for (times, page_len) in [(3, 200), (3, 103), (2, 200), (4, 200), (0, 0), (65, 0)] {
         refused(&[&differ[..], &[[16, 0, 0, 0]]].concat(), times, page_len, (13, 3, 0, 0));
         refused(&[&differ[..], &[[9, 0, 64, 0]]].concat(), times, page_len, (14, 3, 0, 0));

@@ -134,7 +134,7 @@ fn printed(outcome: &Outcome) -> (Vec<[u64; 3]>, u64) {
 }
 
 /// 64 flows of these periods and worst times: each load is the nearest whole, the half going up, the lines are in
-/// order, and the total is the sum of the loads.
+/// order, each flow once, and the total is the sum of the loads.
 fn loads_are_nearest(periods: &[u32; 64], times: &[u16; 64]) {
     let rows = periods.map(|period| [1, 7, period, 0]);
     let (lines, total) = printed(&load_page_exactly(&ALL, &Plan::of(&rows), times));
@@ -143,7 +143,7 @@ fn loads_are_nearest(periods: &[u32; 64], times: &[u16; 64]) {
         assert_eq!(period, u64::from(periods[flow as usize]));
         assert!(twice <= 2_000 * worst + period && 2_000 * worst < twice + period, "{worst} over {period}: {load}");
     }
-    assert!(lines.is_sorted_by_key(|&[flow, period, _]| (period, flow)), "{periods:?}");
+    assert!(lines.is_sorted_by(|a, b| (a[1], a[0]) < (b[1], b[0])), "{periods:?}");
     assert_eq!(lines.iter().map(|[_, _, load]| load).sum::<u64>(), total);
 }
 
