@@ -1,7 +1,6 @@
 -- The text of the words that the check left is the text of the clocks, and how long it is. Assumes nothing.
 use mathlib.Core.Path.{_≡_, refl, sym, _∙_, ap, ap₂}
 use Prim.Native.Nat.{ℕ, suc, _+_, _*_, _-_, _/_, _%_, _≤_, _<_}
-use native.Mathlib.Nat.{zero-add}
 use native.Mathlib.Omega.{arith}
 use mathlib.Core.Bool.{Bool, true, false}
 use mathlib.Core.List.{List, [], _∷_, _++_, map, append-assoc}
@@ -11,7 +10,7 @@ use lib.Dec.{eqb, leb}
 use borrow.Author.Tests.{ne-eqb, le-leb, lt-leb}
 use Rattle.text.specs.Text.{lineFeed, space, decimal, Wrote}
 use Rattle.text.proofs.Decimal.{digits-fit}
-use Rattle.text.proofs.Writing.{whole}
+use Rattle.text.proofs.Writing.{whole-text}
 use Rattle.table.specs.declared.Answer.{Answer}
 use Rattle.table.specs.Answers.{Refusal, good, refused, number, success, over, answer, leaves}
 use Rattle.table.specs.Bits.{bit}
@@ -171,8 +170,7 @@ pub all-room : (bs : List ℕ) {old new bytes : List ℕ} {size : ℕ} → longe
 unfolding listing
 all-room bs {old} {new} {bytes} {size} h s e w =
     let l : leb longest (length old) ≡ true = le-leb longest (length old) h in
-    let v = whole (omega arith) w in
-    let n : 0 + length bytes ≡ length bytes = zero-add (length bytes) in
-    let x : size ≡ length (listingOf bs) = v .0 ∙ n ∙ ap length e in
-    let y : new ≡ over (listingOf bs) old = v .1 ∙ ap (λ (i : ℕ). bytes ++ drop i old) n ∙ ap (λ (b : List ℕ). over b old) e in
+    let v = whole-text (omega arith) w in
+    let x : size ≡ length (listingOf bs) = v .0 ∙ ap length e in
+    let y : new ≡ over (listingOf bs) old = v .1 ∙ ap (λ (b : List ℕ). over b old) e in
     (rw l (ap success x), rw l y)

@@ -11,7 +11,7 @@ use Rattle.table.specs.Rows.{maxFlows}
 use Rattle.loads.specs.Loads.{Line, load, linesFrom, key, insert, sorted, Among, here, there, Ascending, Ordered, total}
 use Rattle.loads.proofs.Keys.{key-flow}
 
-pub nowhere : {l : Line} {A : Type 0} → Among l [] → A
+nowhere : {l : Line} {A : Type 0} → Among l [] → A
 nowhere = elim [ ]
 
 -- ---- a line more

@@ -1,13 +1,13 @@
 -- The page of an accepted plan, and what the call comes to in each case. Assumes nothing.
 use mathlib.Core.Path.{_≡_, refl, sym, _∙_, ap, subst}
 use Prim.Native.Nat.{ℕ, _+_, _*_, _≤_, _<_}
-use native.Mathlib.Nat.{add-zero, zero-add}
+use native.Mathlib.Nat.{add-zero}
 use native.Mathlib.Omega.{arith}
-use mathlib.Core.List.{List, _++_}
+use mathlib.Core.List.{List}
 use lib.ListN.{length, getD, drop}
 use borrow.Author.Tests.{le-leb, lt-leb, eq-eqb, ne-eqb}
 use Rattle.text.specs.Text.{Wrote}
-use Rattle.text.proofs.Writing.{whole}
+use Rattle.text.proofs.Writing.{whole-text}
 use Rattle.table.specs.declared.Answer.{Answer}
 use Rattle.table.specs.Answers.{Refusal, Result, good, refused, refusal, success, leaves, wrongTimes, shortPage}
 use Rattle.table.specs.Rows.{maxFlows}
@@ -70,15 +70,15 @@ module _ (m : ℕ) (words times : List ℕ) (ks : List Clock) (e : clocksFor m w
   -- ---- each case
 
   module _ (room : ℕ) where
-    pub paging-times : (length times ≡ m → ⊥) → paging m words times room ≡ refused wrongTimes 0
+    paging-times : (length times ≡ m → ⊥) → paging m words times room ≡ refused wrongTimes 0
     unfolding paging
     paging-times h = rw (e, ne-eqb (length times) m h)
 
-    pub paging-short : length times ≡ m → room < lineSize * (m + 1) → paging m words times room ≡ refused shortPage 0
+    paging-short : length times ≡ m → room < lineSize * (m + 1) → paging m words times room ≡ refused shortPage 0
     unfolding paging
     paging-short t h = rw (e, eq-eqb (length times) m t, lt-leb (lineSize * (m + 1)) room h)
 
-    pub paging-good : length times ≡ m → lineSize * (m + 1) ≤ room → paging m words times room ≡ good (pageOf ks times)
+    paging-good : length times ≡ m → lineSize * (m + 1) ≤ room → paging m words times room ≡ good (pageOf ks times)
     unfolding paging
     paging-good t h = rw (e, eq-eqb (length times) m t, le-leb (lineSize * (m + 1)) room h)
 
@@ -157,7 +157,6 @@ module _ {m : ℕ} {words zeros clocks : List ℕ} {found : Answer} (T : Told m 
         let bytes : List ℕ = pageOf ks times in
         let n : length bytes ≡ lineSize * (m + 1) = page-size m words times ks clocked loads in
         let same : pageText (sorted (linesIn clocks times m)) ≡ bytes = ap (λ (ls : List Line). pageText (sorted ls)) same-lines in
-        let v = whole (omega (arith, n)) (subst (λ (b : List ℕ). Wrote 0 b old size new) same w) in
-        let z : 0 + length bytes ≡ length bytes = zero-add (length bytes) in
+        let v = whole-text (omega (arith, n)) (subst (λ (b : List ℕ). Wrote 0 b old size new) same w) in
         let g : paging m words times (length old) ≡ good bytes = paging-good m words times ks clocked (length old) t h in
-        (v .0 ∙ z ∙ n, rw g (ap success (v .0 ∙ z)), rw g (v .1 ∙ ap (λ (i : ℕ). bytes ++ drop i old) z))
+        (v .0 ∙ n, rw g (ap success (v .0)), rw g (v .1))

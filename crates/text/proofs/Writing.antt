@@ -1,7 +1,7 @@
 -- Bytes written into a text one piece after the other. Assumes nothing.
 use mathlib.Core.Path.{_≡_, refl, sym, _∙_, ap, ap₂}
 use Prim.Native.Nat.{ℕ, zero, suc, _+_, _-_, _≤_, _<_}
-use native.Mathlib.Nat.{add-zero, sub-zero, zero-sub, suc-sub-suc, sub-eq-zero-of-le}
+use native.Mathlib.Nat.{zero-add, add-zero, sub-zero, zero-sub, suc-sub-suc, sub-eq-zero-of-le}
 use native.Mathlib.Numerals.{add-one}
 use native.Mathlib.Omega.{arith}
 use mathlib.Core.Bool.{Bool, true, false}
@@ -66,11 +66,19 @@ full at bytes old h = kept (past at bytes old h)
 all-fit : (at : ℕ) (bytes old : List ℕ) → at + length bytes ≤ length old → fitting at bytes old ≡ bytes
 all-fit at bytes old h = take-all (length old - at) bytes (omega arith)
 
-pub whole : {at next : ℕ} {bytes old new : List ℕ} → at + length bytes ≤ length old → Wrote at bytes old next new
+whole : {at next : ℕ} {bytes old new : List ℕ} → at + length bytes ≤ length old → Wrote at bytes old next new
     → (next ≡ at + length bytes) × (new ≡ laid at bytes old)
 whole {at} {next} {bytes} {old} {new} h w =
     let e : fitting at bytes old ≡ bytes = all-fit at bytes old h in
     (rw e at (w .place), rw e at (w .text))
+
+-- the same from the first place on
+pub whole-text : {next : ℕ} {bytes old new : List ℕ} → length bytes ≤ length old → Wrote 0 bytes old next new
+    → (next ≡ length bytes) × (new ≡ bytes ++ drop (length bytes) old)
+whole-text {next} {bytes} {old} {new} h w =
+    let z : 0 + length bytes ≡ length bytes = zero-add (length bytes) in
+    let v = whole (omega arith) w in
+    (v .0 ∙ z, v .1 ∙ ap (λ (i : ℕ). bytes ++ drop i old) z)
 
 -- the answer is no further than all the bytes would take it
 pub no-further : {at next : ℕ} {bytes old new : List ℕ} → Wrote at bytes old next new → next ≤ at + length bytes
