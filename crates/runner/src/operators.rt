@@ -24,11 +24,14 @@ pub(crate) const CLASH: Outcome = Outcome {
     value: 0,
 };
 
-// The order of less and larger.
+// The bit that tells the sign of a number in two's complement.
+const SIGN_BIT: u32 = 0x8000_0000;
+
+// The order of less and larger. With the sign bit flipped, numbers in two's complement stand in the order of their words.
 fn below(x: u32, y: u32) -> bool
     ensures { λ r. ⌜ r ≡ below x y ⌝ }
 {
-    x < y
+    x ^ SIGN_BIT < y ^ SIGN_BIT
 }
 
 // 1 where a test is passed, else 0.

@@ -93,6 +93,13 @@ fn long_k() {
     io::write_all(STDOUT_FILENO, b"\n");
 }
 
+// Readings of 5, -20 and -30, the limit -20, whether a reading is less, and the larger of the two.
+fn below_zero() {
+    let words = [0, 1, 0, 0, 1, 4294967276, 1, 0, 4, 0, 1, 0, 6, 0, 1, 0];
+    let log = [5, 4294967276, 4294967266];
+    shown(b"below zero\n", 4, &words, &log, 3, 0, 13);
+}
+
 // A refusal of the table names its row and leaves all.
 fn unknown_kind() {
     let words = [0, 1, 0, 0, 16, 0, 0, 0];
@@ -104,5 +111,6 @@ fn main() {
     plan_d();
     plan_k();
     long_k();
+    below_zero();
     unknown_kind();
 }

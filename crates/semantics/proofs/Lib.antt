@@ -1,2 +1,3 @@
 pub mod Traces
 pub mod Tallies
+pub mod TwosComplement

@@ -1,5 +1,6 @@
 pub mod Cells
 pub mod Operators
+pub mod TwosComplement
 pub mod Runs
 pub mod Answers
 pub mod Windows

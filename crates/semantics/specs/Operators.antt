@@ -5,6 +5,8 @@ use mathlib.Core.List.{_∷_}
 use mathlib.Core.Option.{Option, none, some}
 use lib.ListN.{length}
 use lib.Dec.{eqb, ltb}
+use lib.IntN.{ℤ, pos, _-ℤ_}
+use lib.Signed.{ltZ}
 use Rattle.table.specs.Bits.{bit}
 use Rattle.table.specs.Rows.{Op, add, subtract, less, equal, larger}
 use Rattle.semantics.specs.Cells.{Cell, absent, present, mark, History, back, count, Presence, latest, onGrid}
@@ -22,9 +24,13 @@ clashUnless false c = clashes
 abbrev pub timed : ℕ → ℕ → ℕ → ℕ → Cell
 timed n p t v = cond (onGrid n p t) (present v) absent
 
--- the order of less and larger, over 0 to 4294967295
-abbrev pub below : ℕ → ℕ → Bool
-below x y = ltb x y
+-- The number that a value's 32 bits stand for, in two's complement: the value itself below 2 ^ 31, and 2 ^ 32 less from there on.
+unfoldable pub signed : ℕ → ℤ
+signed x = cond (ltb x (2 ^ 31)) (pos x) (pos x -ℤ pos (2 ^ 32))
+
+-- the order of less and larger: that of the numbers
+unfoldable pub below : ℕ → ℕ → Bool
+below x y = ltZ (signed x) (signed y)
 
 abbrev pub apply : Op → ℕ → ℕ → ℕ
 apply add x y = (x + y) % 2 ^ 32
