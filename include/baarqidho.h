@@ -17,6 +17,10 @@
  *   13, 14    when, when-not                        a, c
  *   15        merge                                 c, a, b
  *
+ * A value is any 32-bit word. Less and larger read it as a signed number, in two's complement: less is 1 where a is
+ * below b, else 0, and larger is the greater of the two. Add and subtract are modulo 2 to the 32, for signed numbers and
+ * others alike.
+ *
  * Every call returns the number of its answer, 0 for success, and puts flow, tick and count through its last three
  * pointers; parts that an answer does not name are 0. A slice is passed as a pointer and then its length in elements.
  * The calls take any numbers, any lengths and any contents. What C itself asks of the caller: each pointer is aligned,

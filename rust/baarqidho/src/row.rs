@@ -59,6 +59,19 @@ macro_rules! rows {
         /// assert_eq!(Plan::from_rows(rows).clocks()?[1].to_string(), "20 0 -");
         /// # Ok::<(), baarqidho::Refusal>(())
         /// ```
+        ///
+        /// A value is a word. [`Row::Less`] and [`Row::Larger`] read it as a signed number, in two's complement, as
+        /// `as i32` does; [`Row::Add`], [`Row::Subtract`] and [`Row::Equal`] suit signed numbers and others alike.
+        ///
+        /// ```
+        /// use baarqidho::{Plan, Row};
+        ///
+        /// let [torque, limit] = [-3, 0].map(|value: i32| Row::Constant { value: value as u32, period: 1, phase: 0 });
+        /// let plan = Plan::from_rows([torque, limit, Row::Less { a: 0, b: 1 }, Row::Larger { a: 0, b: 1 }]);
+        /// let trace = plan.run(&[], 1)?;
+        /// assert_eq!((trace.value(0, 2), trace.value(0, 3)), (Some(1), Some(0)));
+        /// # Ok::<(), baarqidho::RunError>(())
+        /// ```
         #[derive(Clone, Copy, Debug, PartialEq, Eq, Hash)]
         #[non_exhaustive]
         pub enum Row {
@@ -115,9 +128,9 @@ rows! {
     1 => Constant { value, period, phase }, "The value, at phase plus whole periods.";
     2 => Add { a, b }, "The sum, modulo 2 to the 32.";
     3 => Subtract { a, b }, "The difference, modulo 2 to the 32.";
-    4 => Less { a, b }, "1 where the first is less, else 0.";
+    4 => Less { a, b }, "1 where the first is less, else 0. Both are read as signed numbers, in two's complement.";
     5 => Equal { a, b }, "1 where both are equal, else 0.";
-    6 => Larger { a, b }, "The greater of the two.";
+    6 => Larger { a, b }, "The greater of the two, both read as signed numbers, in two's complement.";
     7 => Register { initial, beat, source }, "The source's latest earlier value, whenever the beat is present.";
     8 => Faster { a, k, gap }, "Each value k times, gap ticks apart.";
     9 => Slower { a, k }, "Every k-th value, beginning with the first.";

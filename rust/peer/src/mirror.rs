@@ -263,9 +263,9 @@ fn combined(kind: u32, x: Signal, y: Signal) -> Outcome {
     present(match kind {
         2 => x.wrapping_add(y),
         3 => x.wrapping_sub(y),
-        4 => u32::from(x < y),
+        4 => u32::from((x as i32) < y as i32),
         5 => u32::from(x == y),
-        _ => x.max(y),
+        _ => (x as i32).max(y as i32) as u32,
     })
 }
 

@@ -191,12 +191,12 @@ impl Step {
             Step::Constant { due, period, value } => Some(when_due(due, *period, tick, || *value)),
             Step::Add { a, b } => now.both(*a, *b, u32::wrapping_add),
             Step::Subtract { a, b } => now.both(*a, *b, u32::wrapping_sub),
-            Step::Less { a, b } => now.both(*a, *b, |a, b| u32::from(a < b)),
+            Step::Less { a, b } => now.both(*a, *b, |a, b| u32::from((a as i32) < b as i32)),
             Step::Equal { a, b } => {
                 let both = now.both(*a, *b, |a, b| u32::from(a == b))?;
                 Some(both.only_if(both.is_present()))
             }
-            Step::Larger { a, b } => now.both(*a, *b, u32::max),
+            Step::Larger { a, b } => now.both(*a, *b, |a, b| (a as i32).max(b as i32) as u32),
             Step::Register { beat, held, .. } => Some(Cell::present(*held).only_if(now.cell(*beat).is_present())),
             Step::Faster { a, copies } => copies.advance(now.cell(*a), tick),
             Step::Slower { a, k, left } => {

@@ -49,9 +49,9 @@ pub fn work_out(row: &Row, t: usize, logged: u32, history: &History) -> Result<C
         Row::Constant { value, period, phase } => Ok(on_calendar(period, phase, t).then_some(value)),
         Row::Add { a, b } => both(a, b, u32::wrapping_add),
         Row::Subtract { a, b } => both(a, b, u32::wrapping_sub),
-        Row::Less { a, b } => both(a, b, |a, b| if a < b { 1 } else { 0 }),
+        Row::Less { a, b } => both(a, b, |a, b| if signed(a) < signed(b) { 1 } else { 0 }),
         Row::Equal { a, b } => both(a, b, |a, b| if a == b { 1 } else { 0 }),
-        Row::Larger { a, b } => both(a, b, |a, b| if a > b { a } else { b }),
+        Row::Larger { a, b } => both(a, b, |a, b| if signed(a) > signed(b) { a } else { b }),
         Row::Register { initial, beat, source } => Ok(register(history, initial, beat, source, t)),
         Row::Faster { a, k, gap } => faster(history, a, k as usize, gap as usize, t),
         Row::Slower { a, k } => Ok(slower(history, a, k as usize, t)),
@@ -67,6 +67,12 @@ pub fn work_out(row: &Row, t: usize, logged: u32, history: &History) -> Result<C
 /// Present at phase plus whole periods.
 fn on_calendar(period: u32, phase: u32, t: usize) -> bool {
     (0..).map(|whole| phase as usize + whole * period as usize).take_while(|&due| due <= t).any(|due| due == t)
+}
+
+/// The number that 32 bits stand for in two's complement: the top bit counts −2 to the 31, the others as in any number.
+fn signed(bits: u32) -> i64 {
+    let (top, others) = (i64::from(bits >> 31), i64::from(bits & 0x7FFF_FFFF));
+    others - top * 0x8000_0000
 }
 
 /// Present when both operands are. One alone: clash.

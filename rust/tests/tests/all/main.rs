@@ -16,6 +16,7 @@ mod paper;
 mod program;
 mod readme;
 mod short;
+mod signed;
 mod summary;
 mod traces;
 mod window;

@@ -86,6 +86,14 @@ fn zero_subtract_one() {
     assert_eq!(outcome.words[..4], [0, 1, 4_294_967_295, 0]);
 }
 
+/// The request that less and larger read signed numbers, with its own values.
+#[test]
+fn torque_below_zero() {
+    let plan = Plan::of(&[[1, 4_294_967_295, 1, 0], [1, 0, 1, 0], [4, 0, 1, 0], [6, 0, 1, 0]]);
+    let outcome = run_exactly(&ALL, &plan, &[], 1);
+    assert_eq!(outcome.words[..4], [4_294_967_295, 0, 1, 0]);
+}
+
 #[test]
 fn the_listing() {
     let packed = [0x02, 0x00, 0x05, 0x00, 0x02, 0x40, 0x08];
