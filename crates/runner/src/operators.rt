@@ -31,7 +31,7 @@ const SIGN_BIT: u32 = 0x8000_0000;
 fn below(x: u32, y: u32) -> bool
     ensures { λ r. ⌜ r ≡ below x y ⌝ }
 {
-    x ^ SIGN_BIT < y ^ SIGN_BIT
+    (x ^ SIGN_BIT) < (y ^ SIGN_BIT)
 }
 
 // 1 where a test is passed, else 0.
@@ -41,7 +41,7 @@ pub(crate) fn bit(b: bool) -> u32
     if b { 1 } else { 0 }
 }
 
-// The greater of two.
+// The greater of two signed numbers.
 fn larger(x: u32, y: u32) -> u32
     ensures { λ r. ⌜ r ≡ apply larger x y ⌝ }
 {

@@ -28,7 +28,7 @@ timed n p t v = cond (onGrid n p t) (present v) absent
 unfoldable pub signed : ℕ → ℤ
 signed x = cond (ltb x (2 ^ 31)) (pos x) (pos x -ℤ pos (2 ^ 32))
 
--- the order of less and larger: that of the numbers
+-- the order of less and larger, which read both operands as signed numbers
 unfoldable pub below : ℕ → ℕ → Bool
 below x y = ltZ (signed x) (signed y)
 

@@ -41,7 +41,9 @@ impl Trace {
         self.place(tick, flow).is_some()
     }
 
-    /// The value of a flow at a tick, or nothing where it is absent or its cell was not worked out.
+    /// The value of a flow at a tick, or nothing where it is absent or its cell was not worked out. A value is a word;
+    /// `as i32` reads it as a signed number, as [`Row::Less`](crate::Row::Less) and
+    /// [`Row::Larger`](crate::Row::Larger) do.
     pub fn value(&self, tick: usize, flow: usize) -> Option<u32> {
         let place = self.place(tick, flow)?;
         (self.marks[place] == 1).then(|| self.values[place])
