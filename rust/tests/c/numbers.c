@@ -193,6 +193,10 @@ static void all_of_run(void)
                                     0, 0, 0, 0, 0, 0, 0, 0, 0, 0, 0, 0, 0, 0, 1, 0};
     static const uint32_t values[] = {71, 72, 143, 0, 0, 0, 0, 0, 0, 0, 0, 0, 0, 0, 0, 0,
                                       0,  0,  0,   0, 0, 0, 0, 0, 0, 0, 0, 0, 0, 0, 73, 0};
+    /* A reading, the constant 0, and the less and the larger of the two. */
+    static const uint32_t torque[] = {0, 1, 0, 0, 1, 0, 1, 0, 4, 0, 1, 0, 6, 0, 1, 0};
+    static const uint8_t present[] = {1, 1, 1, 1};
+    static const uint32_t below_zero[] = {(uint32_t)-3, 0, 1, 0};
 
     runs("run", differing, LENGTH(differing), log, 20, 10, 31, 32);
     answers(BAARQIDHO_OK, 0, 0, 10);
@@ -200,6 +204,9 @@ static void all_of_run(void)
     runs("run, a clash", differing, LENGTH(differing), log, 22, 11, 33, 34);
     answers(BAARQIDHO_CLASH, 2, 10, 0);
     wrote(marks, 32, values, 32);
+    runs("run, a reading below zero", torque, LENGTH(torque), below_zero, 1, 1, 5, 6);
+    answers(BAARQIDHO_OK, 0, 0, 1);
+    wrote(present, 4, below_zero, 4);
     runs("run, all ticks", constant, LENGTH(constant), log, 0, BAARQIDHO_MAX_TICKS, LENGTH(bytes), LENGTH(words));
     answers(BAARQIDHO_OK, 0, 0, BAARQIDHO_MAX_TICKS);
     runs("run, too many ticks", constant, LENGTH(constant), log, 0, BAARQIDHO_MAX_TICKS + 1, LENGTH(bytes),
