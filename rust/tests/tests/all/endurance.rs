@@ -17,7 +17,7 @@ pub static FOUR: [&Implementation; 4] = [&REFERENCE, &LIBRARY, &PEER, &MIRROR];
 pub static THREE: [&Implementation; 3] = [&PEER, &LIBRARY, &MIRROR];
 
 /// A long run that has to be accepted, and that keeps of the library's own trace what it has to keep.
-fn ends(of: &[&Implementation], plan: &Plan, log: &[u32], ticks: u32) -> Outcome {
+pub fn ends(of: &[&Implementation], plan: &Plan, log: &[u32], ticks: u32) -> Outcome {
     let (flows, outcome) = (plan.words.len() / 4, long_run_exactly(of, plan, log, ticks));
     assert_eq!(outcome.parts, (0, 0, 0, ticks), "{plan:?}");
     let trace = run_exactly(&[&LIBRARY], plan, log, ticks);

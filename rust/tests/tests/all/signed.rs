@@ -1,12 +1,12 @@
 //! Less and larger read signed numbers: values on both sides of the places where the sign changes.
 
-use tests::compare::{long_run_exactly, run_exactly};
+use tests::compare::run_exactly;
 use tests::faults::any_rows;
 use tests::generate::{accepted, Shape};
 use tests::rng::Rng;
 use tests::{rounds, Plan};
 
-use crate::endurance::{FOUR, THREE};
+use crate::endurance::{ends, FOUR, THREE};
 use crate::short::{faulty, sound};
 
 /// The least number, -2, -1, 0, 1 and the greatest.
@@ -70,6 +70,6 @@ fn long_runs() {
         let (plan, _) = accepted(&mut rng, shape);
         let ticks = rng.range(8_193, 30_000);
         let log = log(&mut rng, ticks as usize * plan.inputs());
-        assert_eq!(long_run_exactly(&THREE, &plan, &log, ticks).parts, (0, 0, 0, ticks), "{plan:?}");
+        ends(&THREE, &plan, &log, ticks);
     }
 }
