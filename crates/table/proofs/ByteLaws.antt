@@ -1,22 +1,21 @@
 -- Bits as bytes and back. Assumes nothing.
-use mathlib.Core.Path.{_≡_, refl, sym, ap, ap₂, _∙_, subst}
+use mathlib.Core.Path.{_≡_, refl, sym, ap, ap₂, _∙_}
 use mathlib.Core.Bool.{Bool, false}
 use mathlib.Core.List.{List, [], _∷_, _++_, append-assoc}
 use Prim.Native.Nat.{ℕ, zero, suc, _+_, _-_, _*_, _<_, _≤_}
-use native.Mathlib.Nat.{zero-add, suc-add}
 use native.Mathlib.Omega.{arith}
 use lib.ListN.{length, getD, take, drop, replicate, length-append, length-drop, length-replicate, take-append-drop, replicate-append-replicate}
-use lib.Seq.{take-at, drop-at, take-append-le, drop-append-le, getD-drop, length-take-le}
+use lib.Seq.{take-at, drop-at, take-nil, take-append-le, take-append-add, length-take-le}
 use Rattle.table.specs.Bits.{toBits, fromBits, bits, nextByte, bytesFrom, byteCount, bytes}
-use Rattle.table.specs.Private.Laid.{whole, fill, laid}
-use Rattle.table.proofs.BitLaws.{length-toBits, from-to, to-from-at, drop-bits, take-append, drop-append}
+use Rattle.table.specs.Private.Laid.{whole, fill, Begun}
+use Rattle.table.proofs.BitLaws.{length-toBits, from-to, to-from-at, take-append, drop-append}
 
 -- ---- zero bits
 
 abbrev zeros : ℕ → List Bool
 zeros n = replicate n false
 
-take-zeros : (n m : ℕ) → n ≤ m → take n (zeros m) ≡ zeros n
+pub take-zeros : (n m : ℕ) → n ≤ m → take n (zeros m) ≡ zeros n
 take-zeros zero m h = refl
 take-zeros (suc n) zero h = absurd (omega arith)
 take-zeros (suc n) (suc m) h = ap (λ (l : List Bool). false ∷ l) (take-zeros n m (omega arith))
@@ -48,15 +47,6 @@ bytes-pad (suc n) bs z =
 next-whole : (bs : List Bool) → 8 ≤ length bs → nextByte bs ≡ fromBits (take 8 bs)
 next-whole bs h = ap fromBits (take-append-le 8 bs (zeros 8) h)
 
-bytes-append : (n m : ℕ) (x y : List Bool) → length x ≡ 8 * n → bytesFrom (n + m) (x ++ y) ≡ bytesFrom n x ++ bytesFrom m y
-unfolding bytesFrom
-bytes-append zero m [] y h = rw zero-add
-bytes-append zero m (b ∷ x) y h = absurd (omega arith)
-bytes-append (suc n) m x y h =
-    let l : 8 ≤ length x = omega arith in
-    let l2 : 8 ≤ length (x ++ y) = omega (arith, length-append x y) in
-    rw (suc-add n m, next-whole (x ++ y) l2, next-whole x l, take-append-le 8 x y l, drop-append-le 8 x y l, bytes-append n m (drop 8 x) y (length-drop 8 x ∙ omega arith))
-
 -- the bytes of bytes' bits
 pub bytes-bits : (s : List ℕ) → ((k : ℕ) → getD s k 0 < 256) → bytesFrom (length s) (bits s) ≡ s
 unfolding bytesFrom bits
@@ -71,6 +61,22 @@ bytes-bits (x ∷ s) h =
       bytes-bits s (λ k. h (suc k)),
     )
 
+-- the first bytes are bytes
+each-below : (n : ℕ) (s : List ℕ) → ((k : ℕ) → getD s k 0 < 256) → (k : ℕ) → getD (take n s) k 0 < 256
+each-below zero s h k = omega arith
+each-below (suc n) [] h k = omega arith
+each-below (suc n) (x ∷ s) h zero = h 0
+each-below (suc n) (x ∷ s) h (suc k) = each-below n s (λ j. h (suc j)) k
+
+-- the bits of the first bytes
+pub take-bits : (i : ℕ) (s : List ℕ) → take (8 * i) (bits s) ≡ bits (take i s)
+unfolding bits
+take-bits zero s = refl
+take-bits (suc i) [] = take-nil (8 * suc i)
+take-bits (suc i) (x ∷ s) =
+    let e : 8 * suc i ≡ length (toBits 8 x) + 8 * i = omega (arith, length-toBits 8 x) in
+    rw (e, take-append-add (toBits 8 x) (bits s) (8 * i), take-bits i s)
+
 -- the bits of whole bytes
 bits-bytes : (n : ℕ) (bs : List Bool) → length bs ≡ 8 * n → bits (bytesFrom n bs) ≡ bs
 unfolding bytesFrom bits
@@ -83,7 +89,7 @@ bits-bytes (suc n) bs h =
 
 -- ---- bits that are filled up
 
-pub length-filled : (bs : List Bool) → length (bs ++ fill (length bs)) ≡ whole (length bs)
+length-filled : (bs : List Bool) → length (bs ++ fill (length bs)) ≡ whole (length bs)
 length-filled bs =
     length-append bs (fill (length bs)) ∙ ap (λ (k : ℕ). length bs + k) (length-replicate (whole (length bs) - length bs) false) ∙ omega arith
 
@@ -96,16 +102,12 @@ unfolding bytesFrom
 length-bytes zero bs = refl
 length-bytes (suc n) bs = ap suc (length-bytes n (drop 8 bs))
 
--- bytes over which bits were laid from the start are those bits as bytes, and then what was there
-pub laid-bytes : (bs : List Bool) (new old : List ℕ) → ((k : ℕ) → getD new k 0 < 256) → ((k : ℕ) → getD old k 0 < 256)
-    → length new ≡ length old → byteCount (length bs) ≤ length old → bits new ≡ laid bs (bits old) → new ≡ bytes bs ++ drop (byteCount (length bs)) old
-unfolding laid
-laid-bytes bs new old hn ho len fits e =
+-- bytes that begin with bits are those bits as bytes, and then what was there
+pub begun-bytes : (bs : List Bool) (new old : List ℕ) → ((k : ℕ) → getD new k 0 < 256) → byteCount (length bs) ≤ length new
+    → Begun (byteCount (length bs)) bs old new → new ≡ bytes bs ++ drop (byteCount (length bs)) old
+begun-bytes bs new old below fits b =
     let n = byteCount (length bs) in
-    let z = fill (length bs) in
-    let m = length (drop n old) in
-    let lm : length new ≡ n + m = omega (arith, length-drop n old) in
-    sym (bytes-bits new hn)
-    ∙ ap₂ bytesFrom lm (e ∙ sym (append-assoc bs z (drop (whole (length bs)) (bits old))) ∙ ap (λ (t : List Bool). (bs ++ z) ++ t) (drop-bits n old))
-    ∙ bytes-append n m (bs ++ z) (bits (drop n old)) (length-filled bs)
-    ∙ ap₂ _++_ (bytes-pad n bs (whole (length bs) - length bs)) (bytes-bits (drop n old) (λ k. subst (λ (x : ℕ). x < 256) (sym (getD-drop n old k 0)) (ho (n + k))))
+    let len : n ≡ length (take n new) = sym (length-take-le n new fits) in
+    let t : bytes bs ≡ take n new =
+    sym (bytes-pad n bs (whole (length bs) - length bs)) ∙ ap₂ bytesFrom len (sym (b .front) ∙ take-bits n new) ∙ bytes-bits (take n new) (each-below n new below) in
+    sym (take-append-drop n new) ∙ ap₂ _++_ (sym t) (b .behind)

@@ -3,14 +3,14 @@ use mathlib.Core.Path.{_≡_, refl, sym, subst, _∙_, ap}
 use mathlib.Core.Bool.{Bool, true, _&&_}
 use mathlib.Core.List.{List, [], _∷_}
 use mathlib.Core.Option.{none, some, Option·none-ne-some, Option·some-injective}
-use Prim.Native.Nat.{ℕ, zero, suc, _+_, _*_, _/_, _%_, _^_, _<_, _≤_}
+use Prim.Native.Nat.{ℕ, zero, suc, _+_, _-_, _*_, _/_, _%_, _^_, _<_, _≤_}
 use native.Mathlib.Decide.{decLt}
 use native.Mathlib.Omega.{arith}
 use lib.Dec.{eqb}
 use lib.ListN.{length, getD, getElem?}
 use borrow.Author.Tests.{eqb-true}
-use Rattle.table.specs.Rows.{Field, operand, source, copies, period, ticks, value, unused, least, most, width, Kind, kinds, kindCount, kindAt, placed}
-use Rattle.table.specs.Private.Codes.{coded, fieldList}
+use Rattle.table.specs.Rows.{Field, operand, source, copies, period, ticks, value, unused, least, width, Kind, kinds, kindCount, kindAt}
+use Rattle.table.specs.Private.Codes.{code, fieldList, leasts, mosts, widths, kindFields}
 use Rattle.table.proofs.Tests.{and-left, and-right}
 
 module _ {A : Type 0} where
@@ -46,24 +46,28 @@ module _ {A : Type 0} where
 pub tabled : (f : ℕ → ℕ) (xs : List ℕ) → every (λ k x. eqb x (f k)) 0 xs ≡ true → (k : ℕ) → k < length xs → getD xs k 0 ≡ f k
 tabled f xs t k h = eqb-true (getD xs k 0) (f k) (at (λ k x. eqb x (f k)) xs 0 t k h)
 
--- The tables by field.
-abbrev pub leasts : List ℕ
-leasts = 0 ∷ 0 ∷ 1 ∷ 1 ∷ 0 ∷ 0 ∷ 0 ∷ []
+-- The lists by field.
+pub least-at : (t : Field) → getD leasts (code t) 0 ≡ least t
+least-at operand = refl
+least-at source = refl
+least-at copies = refl
+least-at period = refl
+least-at ticks = refl
+least-at value = refl
+least-at unused = refl
 
-abbrev pub mosts : List ℕ
-mosts = 63 ∷ 63 ∷ 63 ∷ 4095 ∷ 4095 ∷ 4294967295 ∷ 0 ∷ []
+pub width-at : (t : Field) → getD widths (code t) 0 ≡ width t
+width-at operand = refl
+width-at source = refl
+width-at copies = refl
+width-at period = refl
+width-at ticks = refl
+width-at value = refl
+width-at unused = refl
 
-abbrev pub widths : List ℕ
-widths = 6 ∷ 6 ∷ 6 ∷ 12 ∷ 12 ∷ 32 ∷ 0 ∷ []
-
-pub least-at : (k : ℕ) → k < 7 → getD leasts k 0 ≡ least (coded k)
-least-at k h = tabled (λ k. least (coded k)) leasts refl k h
-
-pub most-at : (k : ℕ) → k < 7 → getD mosts k 0 ≡ most (coded k)
-most-at k h = tabled (λ k. most (coded k)) mosts refl k h
-
-pub width-at : (k : ℕ) → k < 7 → getD widths k 0 ≡ width (coded k)
-width-at k h = tabled (λ k. width (coded k)) widths refl k h
+-- the greatest number has ones in all bits of its field
+pub most-at : (n : ℕ) → n < 7 → getD mosts n 0 ≡ 2 ^ getD widths n 0 - 1
+most-at n h = tabled (λ n. 2 ^ getD widths n 0 - 1) mosts refl n h
 
 pub width-le : (t : Field) → width t ≤ 32
 width-le operand = omega arith
@@ -74,26 +78,7 @@ width-le ticks = omega arith
 width-le value = omega arith
 width-le unused = omega arith
 
--- the number of a field
-abbrev code : Field → ℕ
-code operand = 0
-code source = 1
-code copies = 2
-code period = 3
-code ticks = 4
-code value = 5
-code unused = 6
-
-coded-code : (t : Field) → coded (code t) ≡ t
-coded-code operand = refl
-coded-code source = refl
-coded-code copies = refl
-coded-code period = refl
-coded-code ticks = refl
-coded-code value = refl
-coded-code unused = refl
-
-code-lt : (t : Field) → code t < 7
+pub code-lt : (t : Field) → code t < 7
 code-lt operand = omega arith
 code-lt source = omega arith
 code-lt copies = omega arith
@@ -102,34 +87,14 @@ code-lt ticks = omega arith
 code-lt value = omega arith
 code-lt unused = omega arith
 
--- The table by kind: the numbers of the three fields as digits to base 8.
-abbrev pub fields : List ℕ
-fields =
-    (3 + 8 * 4 + 64 * 6)
-    ∷ (5 + 8 * 3 + 64 * 4)
-    ∷ (0 + 8 * 0 + 64 * 6)
-    ∷ (0 + 8 * 0 + 64 * 6)
-    ∷ (0 + 8 * 0 + 64 * 6)
-    ∷ (0 + 8 * 0 + 64 * 6)
-    ∷ (0 + 8 * 0 + 64 * 6)
-    ∷ (5 + 8 * 0 + 64 * 1)
-    ∷ (0 + 8 * 2 + 64 * 3)
-    ∷ (0 + 8 * 2 + 64 * 6)
-    ∷ (0 + 8 * 4 + 64 * 6)
-    ∷ (0 + 8 * 5 + 64 * 4)
-    ∷ (0 + 8 * 6 + 64 * 6)
-    ∷ (0 + 8 * 0 + 64 * 6)
-    ∷ (0 + 8 * 0 + 64 * 6)
-    ∷ (0 + 8 * 0 + 64 * 0)
-    ∷ []
-
+-- The list by kind: the numbers of the three fields as digits to base 8.
 abbrev fieldCode : ℕ → ℕ → ℕ
 fieldCode k place = code (getD (fieldList (kindAt k)) place unused)
 
 abbrev line : ℕ → ℕ → Bool
 line k x = eqb (x % 8) (fieldCode k 0) && (eqb (x / 8 % 8) (fieldCode k 1) && eqb (x / 64 % 8) (fieldCode k 2))
 
-fields-right : every line 0 fields ≡ true
+fields-right : every line 0 kindFields ≡ true
 unfolding kinds
 fields-right = refl
 
@@ -137,32 +102,18 @@ pub kinds-size : length kinds ≡ kindCount
 unfolding kinds
 kinds-size = refl
 
--- a field's number in the table, and the field that it is
-digit : ℕ → ℕ → ℕ
-digit k place = getD fields k 0 / 2 ^ (3 * place) % 8
-
 module _ (k : ℕ) (known : k < kindCount) where
-  is-digit : (place : ℕ) → place < 3 → digit k place ≡ fieldCode k place
-  unfolding digit
-  is-digit place within = go place within (at line fields 0 fields-right k known)
+  pub field-is : (place : ℕ) → place < 3 → getD kindFields k 0 / 2 ^ (3 * place) % 8 ≡ fieldCode k place
+  field-is place within = go place within (at line kindFields 0 fields-right k known)
     where
       x : ℕ
-      x = getD fields k 0
+      x = getD kindFields k 0
 
       go : (place : ℕ) → place < 3 → line k x ≡ true → x / 2 ^ (3 * place) % 8 ≡ fieldCode k place
       go zero w l = let e : x / 1 ≡ x = omega arith in ap (λ (n : ℕ). n % 8) e ∙ eqb-true _ _ (and-left (eqb (x % 8) (fieldCode k 0)) _ l)
       go (suc zero) w l = eqb-true _ _ (and-left (eqb (x / 8 % 8) (fieldCode k 1)) _ (and-right (eqb (x % 8) (fieldCode k 0)) _ l))
       go (suc (suc zero)) w l = eqb-true _ _ (and-right (eqb (x / 8 % 8) (fieldCode k 1)) _ (and-right (eqb (x % 8) (fieldCode k 0)) _ l))
       go (suc (suc (suc place))) w l = absurd (omega arith)
-
-  module _ (place : ℕ) (within : place < 3) where
-    pub field-lt : getD fields k 0 / 2 ^ (3 * place) % 8 < 7
-    unfolding digit
-    field-lt = rw (is-digit place within) (code-lt (getD (fieldList (kindAt k)) place unused))
-
-    pub field-is : coded (getD fields k 0 / 2 ^ (3 * place) % 8) ≡ getD (fieldList (kindAt k)) place unused
-    unfolding digit
-    field-is = ap coded (is-digit place within) ∙ coded-code (getD (fieldList (kindAt k)) place unused)
 
 -- a kind that is known, and one that is not
 pub kind-there : (n : ℕ) → n < kindCount → getElem? kinds n ≡ some (kindAt n)
@@ -192,15 +143,3 @@ no-kind n l a b c d e = rest (above-eleven n l a b c d e)
 -- a test of each kind and its number, computed over the whole list
 pub kind-test : (test : ℕ → Kind → Bool) → every test 0 kinds ≡ true → (n : ℕ) → n < kindCount → test n (kindAt n) ≡ true
 kind-test test t n h = at test kinds _ t n (omega (arith, kinds-size))
-
--- a field that is neither operand nor source may hold any flow
-pub placed-else : (m f n x : ℕ) → (n ≡ 0 → ⊥) → (n ≡ 1 → ⊥) → placed m f (coded n) x ≡ true
-unfolding placed
-placed-else m f zero x p q = absurd (p refl)
-placed-else m f (suc zero) x p q = absurd (q refl)
-placed-else m f (suc (suc zero)) x p q = refl
-placed-else m f (suc (suc (suc zero))) x p q = refl
-placed-else m f (suc (suc (suc (suc zero)))) x p q = refl
-placed-else m f (suc (suc (suc (suc (suc zero))))) x p q = refl
-placed-else m f (suc (suc (suc (suc (suc (suc zero)))))) x p q = refl
-placed-else m f (suc (suc (suc (suc (suc (suc (suc n))))))) x p q = refl

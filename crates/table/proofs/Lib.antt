@@ -6,6 +6,8 @@ pub mod Tables
 pub mod Linked
 pub mod AnswerLaws
 mod BitLaws
+pub mod Lengths
+mod Accepting
 mod Records
 mod Windows
 mod Puts

@@ -6,21 +6,21 @@ use mathlib.Core.Option.{Option, none, some}
 use Prim.Native.Nat.{ℕ, suc, _+_, _*_, _-_, _<_, _≤_}
 use native.Mathlib.Numerals.{add-one}
 use native.Mathlib.Omega.{arith}
-use lib.Dec.{leb, ltb}
+use lib.Dec.{ltb}
 use lib.ListN.{length, drop, getElem?, length-append}
 use lib.Seq.{drop-drop}
-use borrow.Author.Tests.{leb-true, ltb-true, ltb-false}
-use Rattle.table.specs.Places.{longestRecord}
+use borrow.Author.Tests.{ltb-true, ltb-false}
 use Rattle.table.specs.Answers.{Refusal, unknownKind, outOfRange, misplaced, Result, good, refused, unless, then, answer, numbered, number}
-use Rattle.table.specs.Rows.{Row, width, ranged, placed, Kind, kinds, Words, each, known, fieldsOf, rowOf, rowSize, kindAt, kindCount}
+use Rattle.table.specs.Rows.{Row, ranged, placed, Kind, kinds, Words, each, known, fieldsOf, rowOf, rowSize, kindCount}
 use Rattle.table.specs.Plain.{split, rowsFrom, tableOf, rowWords}
-use Rattle.table.specs.Packed.{rowBits, rowsBits, kindWidth}
-use Rattle.table.specs.Private.Codes.{rowLength, verdict}
+use Rattle.table.specs.Packed.{rowsBits}
+use Rattle.table.specs.Lengths.{rowLength}
+use Rattle.table.specs.Private.Codes.{verdict}
 use Rattle.table.proofs.AnswerLaws.{no-zero}
 use Rattle.table.proofs.Tests.{Tried, passed, failed, try}
 use Rattle.table.proofs.Tables.{table-made}
-use Rattle.table.proofs.BitLaws.{length-toBits}
-use Rattle.table.proofs.Entries.{every, at, kinds-size, kind-there, kind-gone}
+use Rattle.table.proofs.Entries.{kind-gone}
+use Rattle.table.proofs.Lengths.{row-size}
 
 -- a result, or a refusal that names f
 pub data Outcome {A : Type 0} (f : ℕ) : Result A → Type 0 where
@@ -89,26 +89,6 @@ split-next m f words h =
     let q : rowSize * f + rowSize ≡ rowSize * suc f = omega arith in
     ap (λ (n : ℕ). split n (drop (rowSize * f) words)) p
     ∙ ap (λ (l : List ℕ). rowWords words f ∷ split (m - suc f) l) (drop-drop rowSize (rowSize * f) words ∙ ap (λ (n : ℕ). drop n words) q)
-
--- the size of a packed row
-pub row-size : (w : Words) → w .kind < kindCount → length (rowBits w) ≡ rowLength (w .kind)
-unfolding rowBits rowLength
-row-size w h =
-    let k : Kind = kindAt (w .kind) in
-    rw (kind-there (w .kind) h)
-    (simp (length-append, length-toBits) (omega arith))
-
--- no record is longer than 61 bits
-short : ℕ → Kind → Bool
-short n k = leb (kindWidth + width (k .one) + width (k .two) + width (k .three)) longestRecord
-
-all-short : every short 0 kinds ≡ true
-unfolding short kinds
-all-short = refl
-
-pub row-le : (n : ℕ) → n < kindCount → rowLength n ≤ longestRecord
-unfolding short rowLength
-row-le n h = leb-true _ longestRecord (at short kinds _ all-short n (omega (arith, kinds-size)))
 
 -- One row of a survey: row f of m, with the words w.
 module _ (m f : ℕ) (words : List ℕ) (w : Words) (is : w ≡ rowWords words f) (below : f < m) where

@@ -1,21 +1,125 @@
--- One row of the packed form, field after field. Assumes nothing.
-use mathlib.Core.Path.{_≡_, refl}
+-- One row of the packed form: its kind, and its fields, taken together and apart. Assumes nothing.
+use mathlib.Core.Path.{_≡_, refl, ap, _∙_}
 use mathlib.Core.Bool.{Bool}
 use mathlib.Core.List.{List}
-use Prim.Native.Nat.{ℕ, _+_, _<_, _≤_}
+use Prim.Native.Nat.{ℕ, _+_, _-_, _/_, _%_, _^_, _<_, _≤_}
+use native.Mathlib.Decide.{decLt}
 use native.Mathlib.Omega.{arith}
-use lib.ListN.{length}
+use lib.ListN.{length, getD, take, drop, length-take, length-drop}
+use lib.Seq.{take-take, drop-drop}
+use borrow.Author.Tests.{le-leb, lt-leb}
 use Rattle.table.specs.declared.Cursor.{Cursor}
+use Rattle.table.specs.declared.Record.{Record}
 use Rattle.table.specs.declared.Taking.the-variants.{Got, Short}
-use Rattle.table.specs.Answers.{cutShort, unknownKind, number}
-use Rattle.table.specs.Rows.{width, rowOf, kindAt, kindCount}
-use Rattle.table.specs.Packed.{takeFields, takeRow, kindWidth}
-use Rattle.table.specs.Private.Codes.{rowLength}
+use Rattle.table.specs.Answers.{good, refused, cutShort, unknownKind, number}
+use Rattle.table.specs.Rows.{Field, width, Words, rowOf, Kind, kindAt, kindCount}
+use Rattle.table.specs.Plain.{wordsOf}
+use Rattle.table.specs.Bits.{fromBits}
+use Rattle.table.specs.Packed.{takeField, takeFields, takeRow, kindWidth}
 use Rattle.table.specs.Places.{takeAt, lastPlace, longestRecord, takingParts}
+use Rattle.table.specs.Lengths.{rowLength, recordLengths}
+use Rattle.table.specs.Private.Codes.{code, widths, fieldsIn}
 use Rattle.table.specs.Private.Steps.{Found, Missing}
-use Rattle.table.proofs.Entries.{kind-there, kind-gone, width-le}
-use Rattle.table.proofs.Records.{row-le}
-use Rattle.table.proofs.Windows.{Had, had, too-short}
+use Rattle.table.proofs.BitLaws.{drop-take}
+use Rattle.table.proofs.Entries.{kind-there, kind-gone, code-lt, width-at}
+use Rattle.table.proofs.Lengths.{length-at, row-le}
+use Rattle.table.proofs.Windows.{divided, Had, had, too-short}
+
+-- ---- fields in a row
+
+field-there : (f w : ℕ) (bs : List Bool) → w ≤ length bs → takeField f w bs ≡ good (record { field = fromBits (take w bs); rest = drop w bs })
+unfolding takeField
+field-there f w bs h = rw (le-leb w (length bs) h)
+
+field-gone : (f w : ℕ) (bs : List Bool) → length bs < w → takeField f w bs ≡ refused cutShort f
+unfolding takeField
+field-gone f w bs h = rw (lt-leb w (length bs) h)
+
+-- too few bits for the three fields: one of them is not there
+fields-short : (m f n : ℕ) (k : Kind) (bs : List Bool) → length bs < width (k .one) + width (k .two) + width (k .three)
+    → takeFields m f n k bs ≡ refused cutShort f
+unfolding takeFields
+fields-short m f n k bs h =
+    let one : ℕ = width (k .one) in
+    let two : ℕ = width (k .two) in
+    let three : ℕ = width (k .three) in
+    let b1 : List Bool = drop one bs in
+    let b2 : List Bool = drop two b1 in
+    elim (decLt (length bs) one) [
+      | yes x ↦ rw (field-gone f one bs x)
+      | no x ↦ elim (decLt (length b1) two) [
+        | yes y ↦ rw (field-there f one bs (omega arith), field-gone f two b1 y)
+        | no y ↦ rw (
+          field-there f one bs (omega arith),
+          field-there f two b1 (omega arith),
+          field-gone f three b2 (omega (arith, length-drop one bs, length-drop two b1)),
+        )
+      ]
+    ]
+
+-- the w bits at a place of the first n bits
+piece : (bs : List Bool) (n at w r : ℕ) → at + w + r ≡ n → n ≤ length bs → fromBits (take n bs) / 2 ^ r % 2 ^ w ≡ fromBits (take w (drop at bs))
+piece bs n at w r e h =
+    let len : at + w + r ≡ length (take n bs) = rw (length-take n bs) (omega arith) in
+    let s : n ≡ at + (w + r) = omega arith in
+    divided (take n bs) at w r len
+    ∙ ap (λ (k : ℕ). fromBits (take w (drop at (take k bs)))) s
+    ∙ ap (λ (l : List Bool). fromBits (take w l)) (drop-take at (w + r) bs)
+    ∙ ap fromBits (take-take w (w + r) (drop at bs) (omega arith))
+
+-- the three fields that are taken one after the other
+abbrev apart : ℕ → Kind → List Bool → Words
+apart n k bs =
+    record {
+      kind = n;
+      one = fromBits (take (width (k .one)) bs);
+      two = fromBits (take (width (k .two)) (drop (width (k .one)) bs));
+      three = fromBits (take (width (k .three)) (drop (width (k .two)) (drop (width (k .one)) bs)));
+    }
+
+together : (n x size : ℕ) (bs : List Bool) → size ≡ width (kindAt n .one) + width (kindAt n .two) + width (kindAt n .three) → size ≤ length bs
+    → x ≡ fromBits (take size bs) → fieldsIn n x ≡ apart n (kindAt n) bs
+unfolding fieldsIn
+together n x size bs s h e =
+    let one : ℕ = width (kindAt n .one) in
+    let two : ℕ = width (kindAt n .two) in
+    let three : ℕ = width (kindAt n .three) in
+    rw (
+      e,
+      piece bs size 0 one (three + two) (omega arith) h,
+      piece bs size one two three (omega arith) h,
+      piece bs size (one + two) three 0 (omega arith) h,
+      drop-drop two one bs,
+    )
+
+-- ---- the code's lists
+
+-- a field by its number
+module _ (t : Field) (i : ℕ) (is : i ≡ code t) where
+  pub field-lt : i < 7
+  field-lt = rw is (code-lt t)
+
+  pub field-width : (l : List ℕ) → l ≡ widths → getD l i 0 ≡ width t
+  field-width l e = rw (e, is) (width-at t)
+
+-- a row is not shorter than its kind
+pub row-ge : (n : ℕ) → kindWidth ≤ rowLength n
+unfolding rowLength
+row-ge n = omega arith
+
+-- two fields have few bits enough to shift by
+pub two-widths : (n : ℕ) → n < kindCount → width (kindAt n .three) + width (kindAt n .two) < 64
+unfolding rowLength
+two-widths n known = omega (arith, row-le n known)
+
+module _ (lengths : List ℕ) (are : lengths ≡ recordLengths) (n : ℕ) (known : n < kindCount) where
+  pub entry-there : n < length lengths
+  entry-there = omega (arith, ap length are)
+
+  pub entry-is : getD lengths n 0 ≡ rowLength n
+  entry-is = ap (λ (l : List ℕ). getD l n 0) are ∙ length-at n known
+
+-- ---- the row
 
 module _ (bs : List Bool) (at : ℕ) (room : at + longestRecord ≤ lastPlace) (inside : at ≤ length bs) where
   pub no-kind : takeAt bs at kindWidth ≡ takingParts Short → Missing bs at (number cutShort)
@@ -27,68 +131,56 @@ module _ (bs : List Bool) (at : ℕ) (room : at + longestRecord ≤ lastPlace) (
     hk : Had bs at kindWidth n p
     hk = had bs at kindWidth n p k
 
+    pub kind-past : p .at ≡ at + kindWidth
+    kind-past = hk .past
+
     pub bad-kind : kindCount ≤ n → Missing bs at (number unknownKind)
     unfolding takeRow
     bad-kind h = record { why = unknownKind; is = refl; taken = λ m f. rw (hk .field f, kind-gone n h) }
 
     -- and is known
-    module _ (known : n < kindCount) where
-      lengths : kindWidth + width (kindAt n .one) + width (kindAt n .two) + width (kindAt n .three) ≤ longestRecord
+    module _ (known : n < kindCount) (end : ℕ) (is : end ≡ at + rowLength n) where
+      size : end ≡ at + (kindWidth + width (kindAt n .one) + width (kindAt n .two) + width (kindAt n .three))
       unfolding rowLength
-      lengths = row-le n known
+      size = is
 
-      pub no-one : takeAt bs (p .at) (width (kindAt n .one)) ≡ takingParts Short → Missing bs at (number cutShort)
-      unfolding takeRow takeFields
-      no-one e =
-          let l : p .at ≤ lastPlace = omega (arith, hk .past) in
-          let i : p .at ≤ length bs = omega (arith, hk .past, hk .within) in
-          record { why = cutShort; is = refl; taken = λ m f. rw (hk .field f, kind-there n known, too-short bs (p .at) (width (kindAt n .one)) l (width-le (kindAt n .one)) i e f) }
+      pub cut-row : length bs < end → Missing bs at (number cutShort)
+      unfolding takeRow
+      cut-row h =
+          let l : length (drop (p .at) bs) < width (kindAt n .one) + width (kindAt n .two) + width (kindAt n .three) =
+          omega (arith, length-drop (p .at) bs, hk .past, hk .within, size) in
+          record {
+            why = cutShort;
+            is = refl;
+            taken = λ m f. rw (hk .field f, kind-there n known, fields-short m f n (kindAt n) (drop (p .at) bs) l);
+          }
 
-      -- the first field was taken
-      module _ (x : ℕ) (q : Cursor) (one : takeAt bs (p .at) (width (kindAt n .one)) ≡ takingParts (Got x q)) where
-        h1 : Had bs (p .at) (width (kindAt n .one)) x q
-        h1 = had bs (p .at) (width (kindAt n .one)) x q one
-
-        pub no-two : takeAt bs (q .at) (width (kindAt n .two)) ≡ takingParts Short → Missing bs at (number cutShort)
-        unfolding takeRow takeFields
-        no-two e =
-            let l : q .at ≤ lastPlace = omega (arith, hk .past, h1 .past, lengths) in
-            let i : q .at ≤ length bs = omega (arith, h1 .past, h1 .within) in
-            record {
-              why = cutShort;
-              is = refl;
-              taken = λ m f. rw
-                  (hk .field f, kind-there n known, h1 .field f, too-short bs (q .at) (width (kindAt n .two)) l (width-le (kindAt n .two)) i e f);
-            }
-
-        -- the second field was taken
-        module _ (y : ℕ) (r : Cursor) (two : takeAt bs (q .at) (width (kindAt n .two)) ≡ takingParts (Got y r)) where
-          h2 : Had bs (q .at) (width (kindAt n .two)) y r
-          h2 = had bs (q .at) (width (kindAt n .two)) y r two
-
-          pub no-three : takeAt bs (r .at) (width (kindAt n .three)) ≡ takingParts Short → Missing bs at (number cutShort)
-          unfolding takeRow takeFields
-          no-three e =
-              let l : r .at ≤ lastPlace = omega (arith, hk .past, h1 .past, h2 .past, lengths) in
-              let i : r .at ≤ length bs = omega (arith, h2 .past, h2 .within) in
-              record {
-                why = cutShort;
-                is = refl;
-                taken = λ m f. rw (
-                  hk .field f,
-                  kind-there n known,
-                  h1 .field f,
-                  h2 .field f,
-                  too-short bs (r .at) (width (kindAt n .three)) l (width-le (kindAt n .three)) i e f,
-                );
-              }
-
-          pub found : (z : ℕ) (s : Cursor) → takeAt bs (r .at) (width (kindAt n .three)) ≡ takingParts (Got z s) → Found bs at (record { kind = n; one = x; two = y; three = z }) s
-          unfolding takeRow takeFields rowOf
-          found z s three =
-              let h3 : Had bs (r .at) (width (kindAt n .three)) z s = had bs (r .at) (width (kindAt n .three)) z s three in
-              record {
-                taken = λ m f. rw (hk .field f, kind-there n known, h1 .field f, h2 .field f, h3 .field f);
-                near = omega (arith, hk .past, h1 .past, h2 .past, h3 .past, lengths);
-                within = omega (arith, h3 .past, h3 .within);
-              }
+      pub found : (x : ℕ) (r : Record) → end ≤ length bs → x ≡ fromBits (take (end - p .at) (drop (p .at) bs)) → wordsOf r ≡ fieldsIn n x
+          → Found bs at r (record { at = end })
+      unfolding takeRow takeFields rowOf
+      found x r h e w =
+          let one : ℕ = width (kindAt n .one) in
+          let two : ℕ = width (kindAt n .two) in
+          let three : ℕ = width (kindAt n .three) in
+          let b : List Bool = drop (p .at) bs in
+          let b1 : List Bool = drop one b in
+          let b2 : List Bool = drop two b1 in
+          let s : end - p .at ≡ one + two + three = omega (arith, hk .past, size) in
+          let l : one + two + three ≤ length b = omega (arith, length-drop (p .at) bs, hk .past, size) in
+          let q : p .at + one + two + three ≡ end = omega (arith, hk .past, size) in
+          record {
+            taken = λ m f. rw (
+              w ∙ together n x (end - p .at) b s (omega arith) e,
+              hk .field f,
+              kind-there n known,
+              field-there f one b (omega arith),
+              field-there f two b1 (omega (arith, length-drop one b)),
+              field-there f three b2 (omega (arith, length-drop one b, length-drop two b1)),
+              drop-drop one (p .at) bs,
+              drop-drop two (p .at + one) bs,
+              drop-drop three (p .at + one + two) bs,
+              q,
+            );
+            near = omega (arith, is, row-le n known);
+            within = h;
+          }

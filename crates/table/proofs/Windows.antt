@@ -1,15 +1,15 @@
--- A field at a bit place is five bytes, shifted and masked. Assumes nothing.
+-- A field at a bit place is a part of eight bytes, shifted and masked. Assumes nothing.
 use mathlib.Core.Path.{_≡_, refl, sym, ap, _∙_}
 use mathlib.Core.Bool.{Bool, true, false, _&&_}
 use mathlib.Core.List.{List, [], _∷_, _++_, append-assoc}
 use Prim.Native.Nat.{ℕ, zero, suc, _+_, _-_, _*_, _/_, _%_, _^_, _≤_, _<_}
-use native.Mathlib.Nat.{one-mul, mod-lt, zero-lt-suc}
+use native.Mathlib.Nat.{one-mul, mod-lt, mod-one, zero-lt-suc, lt-of-lt-of-le}
 use native.Mathlib.Omega.{arith}
 use lib.Dec.{leb}
 use lib.Bits.{bitAnd, and-mask}
 use lib.ListN.{length, getD, take, drop, length-take, length-drop, take-append-drop}
 use lib.Seq.{drop-cons, drop-drop}
-use lib.Pow.{pow-pos, shl-exact, high, low}
+use lib.Pow.{pow-pos, pow-mono, shl-exact, high, low}
 use borrow.Author.Tests.{le-leb, lt-leb, leb-true, leb-false}
 use Rattle.table.specs.declared.Cursor.{Cursor}
 use Rattle.table.specs.declared.Taking.the-variants.{Got, Short}
@@ -28,7 +28,7 @@ middle a f z =
     rw (fromBits-append (a ++ f) z, high (fromBits (a ++ f)) (length z) (fromBits-lt z), fromBits-append a f)
     (low (fromBits a) (length f) (fromBits-lt f))
 
-divided : (bs : List Bool) (at w r : ℕ) → at + w + r ≡ length bs → fromBits bs / 2 ^ r % 2 ^ w ≡ fromBits (take w (drop at bs))
+pub divided : (bs : List Bool) (at w r : ℕ) → at + w + r ≡ length bs → fromBits bs / 2 ^ r % 2 ^ w ≡ fromBits (take w (drop at bs))
 divided bs at w r e =
     let rest = drop at bs in
     let all : (take at bs ++ take w rest) ++ drop w rest ≡ bs =
@@ -38,7 +38,7 @@ divided bs at w r e =
     let lz : length (drop w rest) ≡ r = simp length-drop (omega arith) in
     rw (all, lf, lz) at (middle (take at bs) (take w rest) (drop w rest))
 
--- ---- five bytes
+-- ---- eight bytes
 
 -- the n bytes from i on, with 0 for each byte past the end
 run : List ℕ → ℕ → ℕ → List ℕ
@@ -70,45 +70,67 @@ unfolding bits
 joined-byte x s h = rw (fromBits-append (toBits 8 x) (bits s), from-to 8 h, length-bits s)
 
 module _ (s : List ℕ) (bytes : (k : ℕ) → getD s k 0 < 256) where
-  window-run : (i : ℕ) → window s i ≡ fromBits (bits (run s 5 i))
+  window-run : (i : ℕ) → window s i ≡ fromBits (bits (run s 8 i))
   unfolding run fromBits bits
   window-run i =
       let g : ℕ → ℕ = λ k. getD s k 0 in
-      let e1 : i + 1 ≡ suc i = omega arith in
-      let e2 : i + 2 ≡ suc (suc i) = omega arith in
-      let e3 : i + 3 ≡ suc (suc (suc i)) = omega arith in
-      let e4 : i + 4 ≡ suc (suc (suc (suc i))) = omega arith in
+      let i1 : ℕ = suc i in
+      let i2 : ℕ = suc i1 in
+      let i3 : ℕ = suc i2 in
+      let i4 : ℕ = suc i3 in
+      let i5 : ℕ = suc i4 in
+      let i6 : ℕ = suc i5 in
+      let i7 : ℕ = suc i6 in
+      let e1 : i + 1 ≡ i1 = omega arith in
+      let e2 : i + 2 ≡ i2 = omega arith in
+      let e3 : i + 3 ≡ i3 = omega arith in
+      let e4 : i + 4 ≡ i4 = omega arith in
+      let e5 : i + 5 ≡ i5 = omega arith in
+      let e6 : i + 6 ≡ i6 = omega arith in
+      let e7 : i + 7 ≡ i7 = omega arith in
       rw (
         e1,
         e2,
         e3,
         e4,
-        joined-byte (g i) (run s 4 (suc i)) (bytes i),
-        joined-byte (g (suc i)) (run s 3 (suc (suc i))) (bytes (suc i)),
-        joined-byte (g (suc (suc i))) (run s 2 (suc (suc (suc i)))) (bytes (suc (suc i))),
-        joined-byte (g (suc (suc (suc i)))) (run s 1 (suc (suc (suc (suc i))))) (bytes (suc (suc (suc i)))),
-        joined-byte (g (suc (suc (suc (suc i))))) [] (bytes (suc (suc (suc (suc i))))),
+        e5,
+        e6,
+        e7,
+        joined-byte (g i) (run s 7 i1) (bytes i),
+        joined-byte (g i1) (run s 6 i2) (bytes i1),
+        joined-byte (g i2) (run s 5 i3) (bytes i2),
+        joined-byte (g i3) (run s 4 i4) (bytes i3),
+        joined-byte (g i4) (run s 3 i5) (bytes i4),
+        joined-byte (g i5) (run s 2 i6) (bytes i5),
+        joined-byte (g i6) (run s 1 i7) (bytes i6),
+        joined-byte (g i7) [] (bytes i7),
       ) (omega arith)
 
-  in-run : (i o w : ℕ) → o + w ≤ 40 → o + w + 8 * i ≤ 8 * length s → take w (drop o (bits (run s 5 i))) ≡ take w (drop (8 * i + o) (bits s))
+  in-run : (i o w : ℕ) → o + w ≤ 64 → o + w + 8 * i ≤ 8 * length s → take w (drop o (bits (run s 8 i))) ≡ take w (drop (8 * i + o) (bits s))
   in-run i o w h l =
-      sym (drop-take o w (bits (run s 5 i))) ∙ ap (drop o) (run-bits s 5 i (o + w) h l) ∙ drop-take o w (bits (drop i s))
+      sym (drop-take o w (bits (run s 8 i))) ∙ ap (drop o) (run-bits s 8 i (o + w) h l) ∙ drop-take o w (bits (drop i s))
       ∙ ap (λ (b : List Bool). take w (drop o b)) (sym (drop-bits i s)) ∙ ap (take w) (drop-drop o (8 * i) (bits s))
 
-  window-field : (at w : ℕ) → w ≤ 32 → at + w ≤ 8 * length s → window s (at / 8) / 2 ^ (40 - at % 8 - w) % 2 ^ w ≡ fromBits (take w (drop at (bits s)))
-  window-field at w h l =
-      let o = at % 8 in
+  -- what stands behind the field is 64 bits only where the field has none
+  pub window-field : (at w : ℕ) → w ≤ 56 → at + w ≤ 8 * length s
+      → window s (at / 8) / 2 ^ ((64 - at % 8 - w) % 64) % 2 ^ w ≡ fromBits (take w (drop at (bits s)))
+  unfolding fromBits
+  window-field at zero h l = mod-one (window s (at / 8) / 2 ^ ((64 - at % 8 - zero) % 64))
+  window-field at (suc v) h l =
+      let w : ℕ = suc v in
+      let o : ℕ = at % 8 in
       let ho : o < 8 = mod-lt at (zero-lt-suc 7) in
       let e : 8 * (at / 8) + o ≡ at = omega arith in
-      let len : o + w + (40 - o - w) ≡ length (bits (run s 5 (at / 8))) = rw (length-bits (run s 5 (at / 8)), length-run s 5 (at / 8)) (omega arith) in
-      rw (window-run (at / 8), divided (bits (run s 5 (at / 8))) o w (40 - o - w) len, in-run (at / 8) o w (omega arith) (omega arith), e)
+      let past : (64 - o - w) % 64 ≡ 64 - o - w = omega arith in
+      let len : o + w + (64 - o - w) ≡ length (bits (run s 8 (at / 8))) = rw (length-bits (run s 8 (at / 8)), length-run s 8 (at / 8)) (omega arith) in
+      rw (past, window-run (at / 8), divided (bits (run s 8 (at / 8))) o w (64 - o - w) len, in-run (at / 8) o w (omega arith) (omega arith), e)
 
 -- ---- the code's mask
 
-pub masked : (x w : ℕ) → w ≤ 32 → bitAnd x ((1 * 2 ^ w) % 2 ^ 64 - 1) ≡ x % 2 ^ w
+pub masked : (x w : ℕ) → w ≤ 56 → bitAnd x ((1 * 2 ^ w) % 2 ^ 64 - 1) ≡ x % 2 ^ w
 masked x w h = rw (shl-exact {a = 1} 1 w 64 (omega arith) (omega arith), one-mul) (and-mask x w)
 
-pub one-le-shifted : (w : ℕ) → w ≤ 32 → 1 ≤ (1 * 2 ^ w) % 2 ^ 64
+pub one-le-shifted : (w : ℕ) → w ≤ 56 → 1 ≤ (1 * 2 ^ w) % 2 ^ 64
 one-le-shifted w h = rw (shl-exact {a = 1} 1 w 64 (omega arith) (omega arith), one-mul) (pow-pos w)
 
 -- ---- what taking answers
@@ -125,11 +147,18 @@ pub take-short : (s : List ℕ) (at w : ℕ) → at ≤ lastPlace → w ≤ wide
 unfolding takeAt
 take-short s at w p q h = rw (length-bits s, le-leb at lastPlace p, le-leb w widest q, lt-leb (at + w) (8 * length s) (omega arith))
 
-pub take-got : (s : List ℕ) (at w v : ℕ) → ((k : ℕ) → getD s k 0 < 256) → at ≤ lastPlace → w ≤ widest → (at + w + 7) / 8 ≤ length s
-    → v ≡ window s (at / 8) / 2 ^ (40 - at % 8 - w) % 2 ^ w → takingParts (Got v (record { at = at + w })) ≡ takeAt (bits s) at w
+-- a field that may be taken fits a word
+pub number-lt : (s : List ℕ) (at w v : ℕ) → w ≤ widest → v ≡ fromBits (take w (drop at (bits s))) → v < 2 ^ 32
+number-lt s at w v q e =
+    let f = take w (drop at (bits s)) in
+    let l : length f ≤ 32 = rw (length-take w (drop at (bits s))) (omega arith) in
+    rw e (lt-of-lt-of-le (fromBits-lt f) (pow-mono l))
+
+pub take-got : (s : List ℕ) (at w v : ℕ) → at ≤ lastPlace → w ≤ widest → (at + w + 7) / 8 ≤ length s → v ≡ fromBits (take w (drop at (bits s)))
+    → takingParts (Got v (record { at = at + w })) ≡ takeAt (bits s) at w
 unfolding takeAt
-take-got s at w v bytes p q l e =
-    rw (length-bits s, le-leb at lastPlace p, le-leb w widest q, le-leb (at + w) (8 * length s) (omega arith), e, window-field s bytes at w q (omega arith))
+take-got s at w v p q l e =
+    rw (length-bits s, le-leb at lastPlace p, le-leb w widest q, le-leb (at + w) (8 * length s) (omega arith), e)
 
 -- What an answer tells of the bits that are left.
 pub record Had (bs : List Bool) (at w x : ℕ) (p : Cursor) : Type 0 where

@@ -1,50 +1,73 @@
 -- Writing the packed form: a row, the rows from one on, and the whole. Assumes nothing.
-use mathlib.Core.Path.{_≡_, refl, sym, ap, ap₂, _∙_}
+use mathlib.Core.Path.{_≡_, refl, sym, ap, ap₂, _∙_, subst}
 use mathlib.Core.Bool.{Bool, _&&_}
 use mathlib.Core.List.{List, [], _∷_, _++_, append-assoc, append-nil}
-use Prim.Native.Nat.{ℕ, zero, suc, _+_, _-_, _*_, _<_, _≤_}
-use native.Mathlib.Nat.{sub-zero}
+use Prim.Native.Nat.{ℕ, zero, suc, _+_, _-_, _*_, _%_, _^_, _<_, _≤_}
+use native.Mathlib.Nat.{sub-zero, lt-of-lt-of-le}
 use native.Mathlib.Numerals.{add-one}
 use native.Mathlib.Omega.{arith}
 use lib.Dec.{eqb}
 use lib.ListN.{length, getD, drop, length-append}
+use lib.Pow.{pow-mono}
 use borrow.Author.Tests.{le-leb, lt-leb}
 use Rattle.table.specs.declared.Answer.{Answer}
 use Rattle.table.specs.Answers.{Result, good, refused, then, answer, success, numbered, badCount, refusal, noRoom}
-use Rattle.table.specs.Rows.{Row, width, Words, rowOf, rowSize, kindAt, kindCount}
+use Rattle.table.specs.Rows.{Field, Row, width, Words, rowOf, rowSize, kindAt, kindCount}
 use Rattle.table.specs.Plain.{split, rowsFrom, countFits, tableOf, rowWords}
-use Rattle.table.specs.Bits.{toBits, bits, byteCount, bytes}
+use Rattle.table.specs.Bits.{toBits, byteCount, bytes}
 use Rattle.table.specs.Packed.{countWidth, kindWidth, rowBits, rowsBits, packed, writing, writeAnswer, bytesAfter}
-use Rattle.table.specs.Private.Codes.{rowLength, verdict, Ready}
-use Rattle.table.specs.Private.Laid.{putAt}
+use Rattle.table.specs.Lengths.{rowLength}
+use Rattle.table.specs.Private.Codes.{code, widths, verdict, Ready}
+use Rattle.table.specs.Private.Laid.{Begun, Put}
 use Rattle.table.proofs.Tests.{unless-good}
 use Rattle.table.proofs.Tables.{table-made}
 use Rattle.table.proofs.BitLaws.{length-toBits}
-use Rattle.table.proofs.Entries.{kind-there}
+use Rattle.table.proofs.Entries.{width-at, code-lt, kind-there}
+use Rattle.table.proofs.Lengths.{row-size}
 use Rattle.table.proofs.AnswerLaws.{no-zero}
-use Rattle.table.proofs.Records.{Outcome, fine, stopped, row-outcome, kind-lt, split-next, split-end, row-size, size-next, survey-next}
-use Rattle.table.proofs.Puts.{put-next}
-use Rattle.table.proofs.ByteLaws.{laid-bytes, length-bytes}
+use Rattle.table.proofs.Records.{Outcome, fine, stopped, row-outcome, kind-lt, split-next, split-end, size-next, survey-next}
+use Rattle.table.proofs.Puts.{more-bits, more-lt, put-none, put-put}
+use Rattle.table.proofs.ByteLaws.{begun-bytes, length-bytes}
 
--- ---- a field, and a row
+-- ---- a row as one number
 
--- one field more, as the code puts it
-pub field-more : (old b₁ b₂ f : List Bool) (at q w w′ v : ℕ) → at ≤ length old → b₁ ≡ putAt old at f → q ≡ at + length f → w ≡ w′
-    → b₂ ≡ putAt b₁ q (toBits w v) → b₂ ≡ putAt old at (f ++ toBits w′ v)
-field-more old b₁ b₂ f at q w w′ v h e q= w= e₂ =
-    e₂ ∙ put-next old b₁ f (toBits w v) at q h e q= ∙ ap (λ (n : ℕ). putAt old at (f ++ toBits n v)) w=
+-- a number of p bits
+pub record Number (p n : ℕ) (bs : List Bool) : Type 0 where
+  pub below : n < 2 ^ p
+  pub is : toBits p n ≡ bs
 
--- the bits of a row of a known kind
-pub row-bits : (w : Words) → w .kind < kindCount
-    → ((toBits kindWidth (w .kind) ++ toBits (width (kindAt (w .kind) .one)) (w .one)) ++ toBits (width (kindAt (w .kind) .two)) (w .two))
-    ++ toBits (width (kindAt (w .kind) .three)) (w .three) ≡ rowBits w
-unfolding rowBits
-row-bits w h = rw (kind-there (w .kind) h) (simp append-assoc)
+pub number-kind : (k : ℕ) → k < kindCount → Number kindWidth k (toBits kindWidth k)
+number-kind k h = record { below = omega arith; is = refl }
+
+-- one field more, as the code puts it behind: its width is in the list by the field's number
+module _ {p h f : ℕ} {bs : List Bool} (t : Field) (had : Number p h bs) (field : f ≡ code t) where
+  width-is : getD widths f 0 ≡ width t
+  width-is = ap (λ (k : ℕ). getD widths k 0) field ∙ width-at t
+
+  pub number-fits : p + width t ≤ 64 → (f < 7) × (h < 2 ^ (64 - getD widths f 0))
+  number-fits room = (rw field (code-lt t), lt-of-lt-of-le (had .below) (pow-mono (omega (arith, width-is))))
+
+  pub number-more : {n : ℕ} (x : ℕ) → n ≡ h * 2 ^ getD widths f 0 + x % 2 ^ getD widths f 0 → Number (p + width t) n (bs ++ toBits (width t) x)
+  number-more {n} x e =
+      rw (e, width-is)
+      (record {
+        below = more-lt p (width t) h x (had .below);
+        is = more-bits p (width t) h x ∙ ap (λ (l : List Bool). l ++ toBits (width t) x) (had .is);
+      })
+
+-- a row of a known kind
+pub number-row : {n : ℕ} (w : Words) → w .kind < kindCount
+    → Number (kindWidth + width (kindAt (w .kind) .one) + width (kindAt (w .kind) .two) + width (kindAt (w .kind) .three)) n
+    (((toBits kindWidth (w .kind) ++ toBits (width (kindAt (w .kind) .one)) (w .one)) ++ toBits (width (kindAt (w .kind) .two)) (w .two))
+    ++ toBits (width (kindAt (w .kind) .three)) (w .three))
+    → (n < 2 ^ rowLength (w .kind)) × (toBits (rowLength (w .kind)) n ≡ rowBits w)
+unfolding rowLength rowBits
+number-row w h d = (d .below, d .is ∙ rw (kind-there (w .kind) h) (simp append-assoc))
 
 -- ---- the rows from one on
 
 -- the rows after one that is accepted are accepted
-pub row-went : (m f : ℕ) (w : Words) (ws : List Words) → answer (λ rs. m) (rowsFrom m f (w ∷ ws)) ≡ success m → verdict (rowOf m f w) ≡ 0
+row-went : (m f : ℕ) (w : Words) (ws : List Words) → answer (λ rs. m) (rowsFrom m f (w ∷ ws)) ≡ success m → verdict (rowOf m f w) ≡ 0
 unfolding rowsFrom
 row-went m f w ws e = go (rowOf m f w) (row-outcome m f w) e
   where
@@ -52,51 +75,53 @@ row-went m f w ws e = go (rowOf m f w) (row-outcome m f w) e
     go r (fine x) e = refl
     go r (stopped why) e = ap (λ (a : Answer). a .number) e
 
--- the rows from row on are still to be put
-pub record Putting (m row at start : ℕ) (words out old : List ℕ) : Type 0 where
+-- the rows from row on are still to be put, behind those that are put behind the count
+pub record Putting (m row at size : ℕ) (words out old : List ℕ) : Type 0 where
   pub accepted : answer (λ rs. m) (rowsFrom m row (split (m - row) (drop (rowSize * row) words))) ≡ success m
-  pub size : at + length (rowsBits (split (m - row) (drop (rowSize * row) words))) ≡ start + length (rowsBits (split m words))
-  pub filled : putAt (bits out) at [] ≡ bits out
-  pub whole : putAt (bits out) at (rowsBits (split (m - row) (drop (rowSize * row) words))) ≡ putAt (bits old) start (rowsBits (split m words))
+  pub done : List Bool
+  pub place : at ≡ countWidth + length done
+  pub put : Put size countWidth done old out
+  pub left : done ++ rowsBits (split (m - row) (drop (rowSize * row) words)) ≡ rowsBits (split m words)
 
--- bits that were put are filled up
-put-filled : (old new f : List Bool) (at q : ℕ) → at ≤ length old → new ≡ putAt old at f → q ≡ at + length f → putAt new q [] ≡ new
-put-filled old new f at q h e p = put-next old new f [] at q h e p ∙ ap (putAt old at) (append-nil f) ∙ sym e
+pub putting-starts : (m at size : ℕ) (words old : List ℕ) → answer (λ rs. m) (rowsFrom m 0 (split m words)) ≡ success m
+    → at ≡ countWidth → Putting m 0 at size words old old
+putting-starts m at size words old a e =
+    record { accepted = rw sub-zero a; done = []; place = e; put = put-none size countWidth old; left = rw sub-zero }
 
-pub putting-starts : (m start : ℕ) (words old : List ℕ) (older f : List Bool) → answer (λ rs. m) (rowsFrom m 0 (split m words)) ≡ success m
-    → bits old ≡ putAt older 0 f → start ≡ 0 + length f → Putting m 0 start start words old old
-putting-starts m start words old older f a e p =
-    record { accepted = rw sub-zero a; size = rw sub-zero; filled = put-filled older (bits old) f 0 start (omega arith) e p; whole = rw sub-zero }
-
-module _ (m row at start : ℕ) (words out old : List ℕ) (pt : Putting m row at start words out old) where
-  pub putting-ends : row ≡ m → bits out ≡ putAt (bits old) start (rowsBits (split m words))
+module _ {m row at size : ℕ} {words out old : List ℕ} (pt : Putting m row at size words out old) where
+  pub putting-ends : row ≡ m → Put size countWidth (rowsBits (split m words)) old out
   unfolding rowsBits
   putting-ends e =
       let n : split (m - row) (drop (rowSize * row) words) ≡ [] = split-end m row words (omega arith) (omega arith) in
-      sym (pt .filled) ∙ (rw n at (pt .whole))
+      subst (λ (bs : List Bool). Put size countWidth bs old out) (sym (append-nil (pt .done)) ∙ (rw n at (pt .left))) (pt .put)
 
   module _ (w : Words) (is : w ≡ rowWords words row) (below : row < m) where
-    pub fine-row : verdict (rowOf m row w) ≡ 0
+    fine-row : verdict (rowOf m row w) ≡ 0
     fine-row = rw is (row-went m row (rowWords words row) _ (rw (split-next m row words below) at (pt .accepted)))
 
     pub known-row : w .kind < kindCount
     known-row = kind-lt m row w fine-row
 
-    pub room-row : at + rowLength (w .kind) ≤ start + length (rowsBits (split m words))
-    room-row = omega (arith, pt .size, size-next m row words w is below fine-row)
+    pub room-row : size ≡ byteCount (countWidth + length (rowsBits (split m words))) → at + rowLength (w .kind) ≤ 8 * size
+    room-row fits =
+        let rest = rowsBits (split (m - row) (drop (rowSize * row) words)) in
+        let all : length (pt .done) + length rest ≡ length (rowsBits (split m words)) = sym (length-append (pt .done) rest) ∙ ap length (pt .left) in
+        omega (arith, fits, all, pt .place, size-next m row words w is below fine-row)
 
-    pub putting-goes : (q : ℕ) (new : List ℕ) → at ≤ length (bits out) → q ≡ at + rowLength (w .kind) → bits new ≡ putAt (bits out) at (rowBits w)
-        → Putting m (row + 1) q start words new old
+    pub putting-goes : (q n : ℕ) (new : List ℕ) → q ≡ at + rowLength (w .kind) → toBits (rowLength (w .kind)) n ≡ rowBits w
+        → Put size at (toBits (rowLength (w .kind)) n) out new → Putting m (row + 1) q size words new old
     unfolding rowsBits
-    putting-goes q new i eq e =
-        let p : q ≡ at + length (rowBits w) = eq ∙ ap (λ (n : ℕ). at + n) (sym (row-size w known-row)) in
+    putting-goes q n new eq e put =
         let rest = split (m - (row + 1)) (drop (rowSize * (row + 1)) words) in
-        let n : w ∷ rest ≡ split (m - row) (drop (rowSize * row) words) = rw (add-one row, is) (sym (split-next m row words below)) in
+        let next : w ∷ rest ≡ split (m - row) (drop (rowSize * row) words) = rw (add-one row, is) (sym (split-next m row words below)) in
         record {
           accepted = survey-next m row words w is below fine-row ∙ pt .accepted;
-          size = omega (arith, eq, pt .size, size-next m row words w is below fine-row);
-          filled = put-filled (bits out) (bits new) (rowBits w) at q i e p;
-          whole = put-next (bits out) (bits new) (rowBits w) (rowsBits rest) at q i e p ∙ ap (λ (ws : List Words). putAt (bits out) at (rowsBits ws)) n ∙ pt .whole;
+          done = pt .done ++ rowBits w;
+          place = omega (arith, eq, pt .place, length-append (pt .done) (rowBits w), row-size w known-row);
+          put =
+              put-put size countWidth at (pt .done) (rowBits w) old out new (pt .place) (pt .put)
+              (subst (λ (bs : List Bool). Put size at bs out new) e put);
+          left = append-assoc (pt .done) (rowBits w) (rowsBits rest) ∙ ap (λ (ws : List Words). pt .done ++ rowsBits ws) next ∙ pt .left;
         }
 
 -- ---- the whole
@@ -113,15 +138,15 @@ pub packed-split : (m : ℕ) (words : List ℕ) → packed (split m words) ≡ b
 unfolding packed
 packed-split m words = rw (length-split m words)
 
-pub table-length : (m : ℕ) (words : List ℕ) → length (tableBits m words) ≡ countWidth + length (rowsBits (split m words))
+table-length : (m : ℕ) (words : List ℕ) → length (tableBits m words) ≡ countWidth + length (rowsBits (split m words))
 table-length m words = length-append (toBits countWidth m) (rowsBits (split m words)) ∙ ap (λ (n : ℕ). n + length (rowsBits (split m words))) (length-toBits countWidth m)
 
-pub packed-length : (m : ℕ) (words : List ℕ) → length (packed (split m words)) ≡ byteCount (countWidth + length (rowsBits (split m words)))
+packed-length : (m : ℕ) (words : List ℕ) → length (packed (split m words)) ≡ byteCount (countWidth + length (rowsBits (split m words)))
 packed-length m words =
     ap length (packed-split m words) ∙ length-bytes (byteCount (length (tableBits m words))) (tableBits m words) ∙ ap byteCount (table-length m words)
 
 -- an accepted table has rows
-pub table-good : (m : ℕ) (words : List ℕ) → answer (λ rs. m) (tableOf m words) ≡ success m → (rows : List Row) × (tableOf m words ≡ good rows)
+table-good : (m : ℕ) (words : List ℕ) → answer (λ rs. m) (tableOf m words) ≡ success m → (rows : List Row) × (tableOf m words ≡ good rows)
 table-good m words e = go (tableOf m words) refl e
   where
     go : (r : Result (List Row)) → tableOf m words ≡ r → answer (λ rs. m) r ≡ success m → (rows : List Row) × (tableOf m words ≡ good rows)
@@ -151,15 +176,14 @@ module _ (m size : ℕ) (words old : List ℕ) (ok : answer (λ rs. m) (tableOf 
       rw (table-good m words ok .1, lt-leb (length (packed (split m words))) (length old) (omega (arith, bytes-size))) (refl, refl)
 
   -- room for all bytes
-  pub write-done : (new : List ℕ) → size ≤ length old → ((k : ℕ) → getD new k 0 < 256) → ((k : ℕ) → getD old k 0 < 256)
-      → length new ≡ length old → bits new ≡ putAt (bits old) 0 (tableBits m words)
+  pub write-done : (new : List ℕ) → size ≤ length old → ((k : ℕ) → getD new k 0 < 256) → Begun size (tableBits m words) old new
       → (success size ≡ writeAnswer m words (length old)) × (new ≡ bytesAfter m words old)
-  unfolding writing putAt
-  write-done new h hn ho len e =
-      let n : byteCount (length (tableBits m words)) ≡ length (packed (split m words)) = ap byteCount (table-length m words) ∙ sym (packed-length m words) in
+  unfolding writing
+  write-done new h below b =
+      let n : size ≡ byteCount (length (tableBits m words)) = is ∙ ap byteCount (sym (table-length m words)) in
       let t : new ≡ packed (split m words) ++ drop (length (packed (split m words))) old =
-      laid-bytes (tableBits m words) new old hn ho len (omega (arith, n, bytes-size)) e
-      ∙ ap₂ (λ (a : List ℕ) (k : ℕ). a ++ drop k old) (sym (packed-split m words)) n in
+      begun-bytes (tableBits m words) new old below (omega (arith, n, b .size-kept)) (subst (λ (k : ℕ). Begun k (tableBits m words) old new) n b)
+      ∙ ap₂ (λ (a : List ℕ) (k : ℕ). a ++ drop k old) (sym (packed-split m words)) (sym (bytes-size ∙ n)) in
       rw (table-good m words ok .1, le-leb (length (packed (split m words))) (length old) (omega (arith, bytes-size))) (ap success (sym bytes-size), t)
 
 pub ready : (m : ℕ) (words : List ℕ) → answer (λ rs. m) (tableOf m words) ≡ success m → Ready m words

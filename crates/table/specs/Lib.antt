@@ -6,5 +6,6 @@ pub mod Links
 pub mod Bits
 pub mod Packed
 pub mod Places
+pub mod Lengths
 pub mod RoundTrip
 pub mod Private

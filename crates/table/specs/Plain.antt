@@ -1,8 +1,8 @@
 -- The plain form (the paper's word for the unpacked encoding): a count of flows, and four words a row.
 use Prim.Native.Nat.{ℕ, zero, suc, _*_}
-use mathlib.Core.Bool.{Bool, _&&_}
-use mathlib.Core.List.{List, [], _∷_}
-use lib.ListN.{length, getD, drop}
+use mathlib.Core.Bool.{Bool, cond, _&&_}
+use mathlib.Core.List.{List, [], _∷_, _++_}
+use lib.ListN.{length, getD, take, drop}
 use lib.Dec.{leb, eqb}
 use Rattle.table.specs.declared.Answer.{Answer}
 use Rattle.table.specs.declared.Record.{Record}
@@ -51,3 +51,7 @@ rowsIn (refused why f) = []
 -- what the test of a table in plain form answers
 abbrev pub plainAnswer : ℕ → List ℕ → Answer
 plainAnswer m words = answer length (tableOf m words)
+
+-- n words of one buffer over those of another, where both have as many
+abbrev pub copied : ℕ → List ℕ → List ℕ → List ℕ
+copied n from to = cond (leb n (length from) && leb n (length to)) (take n from ++ drop n to) to

@@ -2,11 +2,12 @@
 use super::Cursor;
 use super::Taking;
 ghost use mathlib.Core.Path.{_≡_};
-ghost use Prim.Native.Nat.{_+_, _*_, _/_, _<_, _≤_, _^_, _%_};
-ghost use lib.ListN.{getD, length};
-ghost use Rattle.table.specs.Bits.{bits, toBits, byteCount};
-ghost use Rattle.table.specs.Places.{takingParts, takeAt, lastPlace};
-ghost use Rattle.table.specs.Private.Laid.{window, whole, putAt, Lined};
+ghost use Prim.Native.Nat.{_+_, _*_, _<_, _≤_, _^_, _%_};
+ghost use lib.ListN.{getD, length, take, drop};
+ghost use mathlib.Core.List.{_++_};
+ghost use Rattle.table.specs.Bits.{bits, toBits, fromBits, byteCount};
+ghost use Rattle.table.specs.Places.{takingParts, takeAt, lastPlace, longestRecord};
+ghost use Rattle.table.specs.Private.Laid.{window, whole, nine, nineByte, Put};
 
 // The bits of the count of flows and of a row's kind, and the place of the first row.
 pub(crate) const COUNT_WIDTH: u32 = 8;
@@ -24,30 +25,58 @@ fn byte_at(s: &[u8], i: usize) -> u64
 
 // Eight bits behind high.
 fn join(high: u64, low: u64) -> u64
-    requires { ⌜ (high < 2 ^ 32) × (low < 2 ^ 8) ⌝ }
+    requires { ⌜ (high < 2 ^ 56) × (low < 2 ^ 8) ⌝ }
     ensures { λ r. ⌜ r ≡ high * 256 + low ⌝ }
 {
     (high << 8) | low
 }
 
-// The five bytes from i on.
+// The eight bytes from i on.
+fn eight(s: &[u8], i: usize) -> u64
+    requires { ⌜ i + 8 ≤ length (now s) ⌝ }
+    ensures { λ r. ⌜ r ≡ window (now (s .entry)) i ⌝ }
+{
+    let b = join(s[i] as u64, s[i + 1] as u64);
+    let c = join(b, s[i + 2] as u64);
+    let d = join(c, s[i + 3] as u64);
+    let e = join(d, s[i + 4] as u64);
+    let f = join(e, s[i + 5] as u64);
+    let g = join(f, s[i + 6] as u64);
+    join(g, s[i + 7] as u64)
+}
+
+// The eight bytes from i on, with 0 for each byte past the end.
 fn window_at(s: &[u8], i: usize) -> u64
     requires { ⌜ i < 65536 ⌝ }
     ensures { λ r. ⌜ r ≡ window (now (s .entry)) i ⌝ }
 {
-    let a = byte_at(s, i);
-    let b = join(a, byte_at(s, i + 1));
+    if i + 8 <= s.len() {
+        return eight(s, i);
+    }
+    let b = join(byte_at(s, i), byte_at(s, i + 1));
     let c = join(b, byte_at(s, i + 2));
     let d = join(c, byte_at(s, i + 3));
-    join(d, byte_at(s, i + 4))
+    let e = join(d, byte_at(s, i + 4));
+    let f = join(e, byte_at(s, i + 5));
+    let g = join(f, byte_at(s, i + 6));
+    join(g, byte_at(s, i + 7))
 }
 
 // The w low bits of x.
-fn low_bits(x: u64, w: usize) -> u32
-    requires { ⌜ w ≤ 32 ⌝ }
-    ensures { λ r. ⌜ (r ≡ x % 2 ^ w) × (r < 2 ^ w) ⌝ }
+fn low_bits(x: u64, w: usize) -> u64
+    requires { ⌜ w ≤ 56 ⌝ }
+    ensures { λ r. ⌜ r ≡ x % 2 ^ w ⌝ }
 {
-    (x & ((1u64 << w) - 1)) as u32
+    x & ((1u64 << w) - 1)
+}
+
+// The w bits at a place as a number.
+pub(crate) fn number_at(s: &[u8], at: usize, w: usize) -> u64
+    requires { ⌜ (at ≤ lastPlace) × (w ≤ 56) × (at + w ≤ 8 * length (now s)) ⌝ }
+    ensures { λ r. ⌜ r ≡ fromBits (take w (drop at (bits (now (s .entry))))) ⌝ }
+{
+    let past = (64 - at % 8 - w) % 64;
+    low_bits(window_at(s, at / 8) >> past, w)
 }
 
 // How many bytes n bits take.
@@ -66,22 +95,43 @@ pub(crate) fn up(n: usize) -> usize
     8 * byte_count(n)
 }
 
-// Byte k of x, the last byte being 0.
-fn byte_of(x: u64, k: usize) -> u8
-    requires { ⌜ k < 8 ⌝ }
-    ensures { λ r. ⌜ r ≡ x / 2 ^ (8 * k) % 256 ⌝ }
+// Byte k of nine that stand as one number: x has the first eight, y is the last.
+fn byte_of(x: u64, y: u8, k: usize) -> u8
+    requires { ⌜ k < 9 ⌝ }
+    ensures { λ r. ⌜ r ≡ nineByte (x * 256 + y) k ⌝ }
 {
-    ((x >> (8 * k)) % 256) as u8
+    if k == 8 {
+        return y;
+    }
+    ((x >> (56 - 8 * k)) % 256) as u8
 }
 
-// The bytes from at / 8 on as one number: the bits before the place at, the w low bits of v, and zero bits up to a whole byte.
-fn lined(s: &[u8], at: usize, w: usize, v: u32) -> u64
-    requires { ⌜ (at ≤ lastPlace) × (w ≤ 32) × (at + w ≤ 8 * length (now s)) ⌝ }
-    ensures { λ r. ⌜ Lined (now (s .entry)) at w v r ⌝ }
+// Stores the nine bytes from i on.
+fn store_nine(out: &mut [u8], i: usize, x: u64, y: u8)
+    requires { ⌜ i + 9 ≤ length (now out) ⌝ }
+    ensures { λ u. ⌜ now (out .exit) ≡ take i (now (out .entry)) ++ (nine (x * 256 + y) ++ drop (i + 9) (now (out .entry))) ⌝ }
 {
-    let before = byte_at(s, at / 8) >> (8 - at % 8);
-    let field = low_bits(v as u64, w) as u64;
-    ((before << w) | field) << (up(at + w) - (at + w))
+    out[i] = byte_of(x, y, 0);
+    out[i + 1] = byte_of(x, y, 1);
+    out[i + 2] = byte_of(x, y, 2);
+    out[i + 3] = byte_of(x, y, 3);
+    out[i + 4] = byte_of(x, y, 4);
+    out[i + 5] = byte_of(x, y, 5);
+    out[i + 6] = byte_of(x, y, 6);
+    out[i + 7] = byte_of(x, y, 7);
+    out[i + 8] = byte_of(x, y, 8);
+}
+
+// Stores the first n of them.
+fn store_some(out: &mut [u8], i: usize, n: usize, x: u64, y: u8)
+    requires { ⌜ (n ≤ 9) × (i + n ≤ length (now out)) ⌝ }
+    ensures { λ u. ⌜ now (out .exit) ≡ take i (now (out .entry)) ++ (take n (nine (x * 256 + y)) ++ drop (i + n) (now (out .entry))) ⌝ }
+{
+    let mut k: usize = 0;
+    while k < n {
+        out[i + k] = byte_of(x, y, k);
+        k += 1;
+    }
 }
 
 impl Cursor {
@@ -113,24 +163,24 @@ impl Cursor {
         if s.len() < byte_count(at + w) {
             return Taking::Short;
         }
-        let past = 40 - at % 8 - w;
-        let v = low_bits(window_at(s, at / 8) >> past, w);
-        Taking::Got(v, Cursor { at: at + w })
+        Taking::Got(number_at(s, at, w) as u32, Cursor { at: at + w })
     }
 
-    // Puts the width low bits of v, fills the last byte up with zero bits, and hands back the place after the field.
-    pub(crate) fn put(self, out: &mut [u8], width: u32, v: u32) -> Cursor
-        requires { ⌜ (self .at ≤ lastPlace) × (width ≤ 32) × (self .at + width ≤ 8 * length (now out)) ⌝ }
-        ensures { λ r. ⌜ (r .at ≡ self .at + width) × (bits (now (out .exit)) ≡ putAt (bits (now (out .entry))) (self .at) (toBits width v)) ⌝ }
+    // Puts a number of w bits into the first size bytes of out, and hands back the place after it.
+    pub(crate) fn put(self, out: &mut [u8], size: usize, w: usize, v: u64) -> Cursor
+        requires { ⌜ (self .at ≤ lastPlace) × (1 ≤ w) × (w ≤ longestRecord) × (v < 2 ^ w) × (self .at + w ≤ 8 * size) × (size ≤ length (now out)) ⌝ }
+        ensures { λ r. ⌜ (r .at ≡ self .at + w) × Put size (self .at) (toBits w v) (now (out .entry)) (now (out .exit)) ⌝ }
     {
         let at = self.at;
-        let w = width as usize;
-        let x = lined(out, at, w, v);
-        let end = byte_count(at + w);
-        let mut i = at / 8;
-        while i < end {
-            out[i] = byte_of(x, end - 1 - i);
-            i += 1;
+        let i = at / 8;
+        let before = (out[i] as u64) >> (8 - at % 8);
+        let field = v << (64 - w);
+        let x = ((before << 1) << (63 - at % 8)) | (field >> (at % 8));
+        let y = ((field << (8 - at % 8)) % 256) as u8;
+        if i + 9 <= size {
+            store_nine(out, i, x, y);
+        } else {
+            store_some(out, i, byte_count(at + w) - i, x, y);
         }
         Cursor { at: at + w }
     }

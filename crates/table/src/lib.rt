@@ -2,7 +2,7 @@
 ghost use mathlib.Core.Path.{_≡_};
 ghost use lib.ListN.{getD, length};
 ghost use Rattle.table.specs.Answers.{numbered, parts, success};
-ghost use Rattle.table.specs.Plain.{rowWords, wordsOf, plainAnswer};
+ghost use Rattle.table.specs.Plain.{rowWords, wordsOf, plainAnswer, copied};
 ghost use Rattle.table.specs.Private.Codes.{told};
 ghost use Rattle.table.specs.Packed.{readAnswer, wordsAfter, writeAnswer, bytesAfter};
 
@@ -103,6 +103,9 @@ pub const ROW_SIZE: usize = 4;
 
 pub const MAX_FLOWS: u32 = 64;
 
+// The words of the most flows.
+const WORDS: usize = ROW_SIZE * (MAX_FLOWS as usize);
+
 // The numbers of the refusals.
 pub const NO_ROOM: u32 = 10;
 
@@ -153,11 +156,36 @@ pub fn record_at(words: &[u32], row: u32) -> Record
     ensures { λ r. ⌜ wordsOf r ≡ rowWords (now (words .entry)) row ⌝ }
 {
     let i = ROW_SIZE * (row as usize);
+    if i + ROW_SIZE <= words.len() {
+        return Record {
+            kind: words[i],
+            one: words[i + 1],
+            two: words[i + 2],
+            three: words[i + 3],
+        };
+    }
     Record {
         kind: word_at(words, i),
         one: word_at(words, i + 1),
         two: word_at(words, i + 2),
         three: word_at(words, i + 3),
+    }
+}
+
+// Copies the first n words, where both have as many.
+pub fn copy(n: usize, from: &[u32], to: &mut [u32])
+    ensures { λ _. ⌜ now (to .exit) ≡ copied n (now (from .entry)) (now (to .entry)) ⌝ }
+{
+    if from.len() < n {
+        return;
+    }
+    if to.len() < n {
+        return;
+    }
+    let mut i: usize = 0;
+    while i < n {
+        to[i] = from[i];
+        i += 1;
     }
 }
 
@@ -183,17 +211,19 @@ pub fn read(packed: &[u8], words: &mut [u32]) -> Reading
     ensures answered { λ r. ⌜ parts r ≡ readAnswer (now (packed .entry)) (length (now (words .entry))) ⌝ }
     ensures stored { λ r. ⌜ now (words .exit) ≡ wordsAfter (now (packed .entry)) (now (words .entry)) ⌝ }
 {
-    let found = unpack::inspect(packed);
+    let mut rows = [0u32; WORDS];
+    let found = unpack::unpack(packed, &mut rows);
     let Reading::Table { count } = found else {
         return found;
     };
-    if words.len() < ROW_SIZE * (count as usize) {
+    let size = ROW_SIZE * (count as usize);
+    if words.len() < size {
         return Reading::Refused {
             number: NO_ROOM,
             row: 0,
         };
     }
-    unpack::store_rows(packed, count, words);
+    copy(size, &rows, words);
     Reading::Table { count }
 }
 
@@ -219,6 +249,6 @@ pub fn write(count: u32, words: &[u32], packed: &mut [u8]) -> Answer
     if packed.len() < bytes {
         return Answer::refusal(NO_ROOM, 0);
     }
-    pack::put_table(count, words, packed);
+    pack::put_table(count, words, packed, bytes);
     Answer::success(bytes as u32)
 }

@@ -4,41 +4,41 @@ use super::MAX_FLOWS;
 use super::ROW_SIZE;
 use super::Survey;
 use super::bits::FIRST_ROW;
-use super::bits::KIND_WIDTH;
 use super::bits::byte_count;
 use super::record_at;
-use super::rows::judge;
-use super::rows::width_of;
+use super::rows::BOUND;
+use super::rows::FIELDS;
+use super::rows::LEAST;
+use super::rows::LENGTH;
+use super::rows::accepts;
+use super::rows::why;
 ghost use mathlib.Core.Path.{_≡_};
 ghost use Prim.Native.Nat.{_+_, _*_, _<_, _≤_};
 ghost use lib.ListN.{length};
 ghost use Rattle.table.specs.Rows.{kindCount, maxFlows, rowSize};
 ghost use Rattle.table.specs.Answers.{answer};
 ghost use Rattle.table.specs.Plain.{split, rowsFrom, countFits, tableOf};
-ghost use Rattle.table.specs.Private.Codes.{rowLength, told, Sized};
-
-// The bits of a row of a known kind in packed form.
-fn row_length(kind: u32) -> usize
-    requires { ⌜ kind < kindCount ⌝ }
-    ensures { λ r. ⌜ r ≡ rowLength kind ⌝ }
-{
-    (KIND_WIDTH + width_of(kind, 0) + width_of(kind, 1) + width_of(kind, 2)) as usize
-}
+ghost use Rattle.table.specs.Private.Codes.{told, Sized};
 
 // The rows of a table of count flows, from the first on.
 fn survey_rows(count: u32, words: &[u32]) -> Survey
     requires { ⌜ (count ≤ maxFlows) × (length (now words) ≡ rowSize * count) ⌝ }
     ensures { λ r. ⌜ (answer (λ rs. count) (rowsFrom count 0 (split count (now (words .entry)))) ≡ told count r) × Sized (split count (now (words .entry))) r ⌝ }
 {
+    let fields = FIELDS;
+    let least = LEAST;
+    let lengths = LENGTH;
+    let mut bound = BOUND;
+    bound[1] = count as u64;
     let mut bits: usize = FIRST_ROW;
     let mut row: u32 = 0;
     while row < count {
+        bound[0] = row as u64;
         let r = record_at(words, row);
-        let n = judge(r, row, count);
-        if n != 0 {
-            return Survey::Refused(n, row);
+        if !accepts(r, &fields, &least, &bound) {
+            return Survey::Refused(why(r), row);
         }
-        bits += row_length(r.kind);
+        bits += lengths[r.kind as usize] as usize;
         row += 1;
     }
     Survey::Fits(byte_count(bits))

@@ -1,15 +1,16 @@
-// The rows of a table: their fields by kind, and a field's range, width and place.
+// The rows of a table: the constant lists by kind and by field, and the tests of a row. The lists are lent to whatever uses them, so that
+// they are laid down once a call.
 use super::KINDS;
 use super::MISPLACED;
 use super::OUT_OF_RANGE;
 use super::Record;
 use super::UNKNOWN_KIND;
 ghost use mathlib.Core.Path.{_≡_};
-ghost use Prim.Native.Nat.{_<_, _≤_};
-ghost use lib.ListN.{getD};
-ghost use Rattle.table.specs.Rows.{unused, width, ranged, placed, each, rowOf, kindAt, kindCount};
+ghost use Prim.Native.Nat.{_<_};
+ghost use lib.ListN.{getD, length};
+ghost use Rattle.table.specs.Rows.{unused, each, kindAt, kindCount};
 ghost use Rattle.table.specs.Plain.{wordsOf};
-ghost use Rattle.table.specs.Private.Codes.{coded, fieldList, verdict};
+ghost use Rattle.table.specs.Private.Codes.{code, fieldList, kindFields, leasts, bounded, Within, Accepted, Fault};
 
 const OPERAND: u32 = 0;
 
@@ -26,14 +27,37 @@ const VALUE: u32 = 5;
 const UNUSED: u32 = 6;
 
 // By field: the least and the greatest number that it holds, and its bits in packed form.
-const LEAST: [u32; 7] = [0, 0, 1, 1, 0, 0, 0];
+pub(crate) const LEAST: [u32; 7] = [0, 0, 1, 1, 0, 0, 0];
 
-const MOST: [u32; 7] = [63, 63, 63, 4095, 4095, 4294967295, 0];
+pub(crate) const MOST: [u32; 7] = [63, 63, 63, 4095, 4095, 4294967295, 0];
 
-const WIDTH: [u32; 7] = [6, 6, 6, 12, 12, 32, 0];
+pub(crate) const WIDTH: [u32; 7] = [6, 6, 6, 12, 12, 32, 0];
+
+// By field: one more than its greatest number.
+pub(crate) const BOUND: [u64; 7] = [64, 64, 64, 4096, 4096, 4294967296, 1];
+
+// By kind: the bits of a row in packed form.
+pub(crate) const LENGTH: [u32; KINDS as usize] = [
+    29, // input
+    61, // constant
+    17, // add
+    17, // subtract
+    17, // less
+    17, // equal
+    17, // larger
+    49, // register
+    29, // faster
+    17, // slower
+    23, // later
+    55, // head
+    11, // tail
+    17, // when
+    17, // when-not
+    23, // merge
+];
 
 // By kind: its three fields as digits to base 8, the first one lowest.
-const FIELDS: [u32; KINDS as usize] = [
+pub(crate) const FIELDS: [u32; KINDS as usize] = [
     PERIOD + 8 * TICKS + 64 * UNUSED, // input
     VALUE + 8 * PERIOD + 64 * TICKS, // constant
     OPERAND + 8 * OPERAND + 64 * UNUSED, // add
@@ -53,83 +77,56 @@ const FIELDS: [u32; KINDS as usize] = [
 ];
 
 // The field of a known kind at a place.
-pub(crate) fn field_of(kind: u32, place: usize) -> u32
-    requires { ⌜ (kind < kindCount) × (place < 3) ⌝ }
-    ensures { λ r. ⌜ (r < 7) × (coded r ≡ getD (fieldList (kindAt kind)) place unused) ⌝ }
+pub(crate) fn field_of(kind: u32, place: usize, fields: &[u32]) -> usize
+    requires { ⌜ (kind < kindCount) × (place < 3) × (now fields ≡ kindFields) ⌝ }
+    ensures { λ r. ⌜ r ≡ code (getD (fieldList (kindAt kind)) place unused) ⌝ }
 {
-    (FIELDS[kind as usize] >> (3 * place)) % 8
+    ((fields[kind as usize] >> (3 * place)) % 8) as usize
 }
 
-// The bits of a field of a known kind.
-pub(crate) fn width_of(kind: u32, place: usize) -> u32
-    requires { ⌜ (kind < kindCount) × (place < 3) ⌝ }
-    ensures { λ r. ⌜ (r ≤ 32) × (r ≡ width (getD (fieldList (kindAt kind)) place unused)) ⌝ }
+// Whether x is neither below a field's least number nor at its bound or above.
+fn within(x: u32, field: usize, least: &[u32], bound: &[u64]) -> bool
+    requires { ⌜ (field < 7) × (now least ≡ leasts) × (length (now bound) ≡ 7) ⌝ }
+    ensures { λ r. ⌜ Within (now (bound .entry)) field x r ⌝ }
 {
-    WIDTH[field_of(kind, place) as usize]
-}
-
-// Whether x is in the field's range.
-fn in_range(field: u32, x: u32) -> bool
-    requires { ⌜ field < 7 ⌝ }
-    ensures { λ r. ⌜ r ≡ ranged (coded field) x ⌝ }
-{
-    let i = field as usize;
-    if x < LEAST[i] {
+    if x < least[field] {
         return false;
     }
-    x <= MOST[i]
+    (x as u64) < bound[field]
 }
 
-// Whether x is a lower flow where the field is an operand, and a flow of the table where it is a source.
-fn in_place(field: u32, x: u32, row: u32, count: u32) -> bool
-    ensures { λ r. ⌜ r ≡ placed count row (coded field) x ⌝ }
+// Whether each field of a row of a known kind is within its bounds.
+fn all_within(r: Record, fields: &[u32], least: &[u32], bound: &[u64]) -> bool
+    requires { ⌜ (r .kind < kindCount) × (now fields ≡ kindFields) × (now least ≡ leasts) × (length (now bound) ≡ 7) ⌝ }
+    ensures { λ t. ⌜ t ≡ each (bounded (now (bound .entry))) (kindAt (r .kind)) (wordsOf r) ⌝ }
 {
-    if field == OPERAND {
-        return x < row;
-    }
-    if field == SOURCE {
-        return x < count;
-    }
-    true
-}
-
-// Whether each field of a row of a known kind is in its range.
-fn all_in_range(r: Record) -> bool
-    requires { ⌜ r .kind < kindCount ⌝ }
-    ensures { λ t. ⌜ t ≡ each ranged (kindAt (r .kind)) (wordsOf r) ⌝ }
-{
-    if in_range(field_of(r.kind, 0), r.one) {
-        if in_range(field_of(r.kind, 1), r.two) {
-            return in_range(field_of(r.kind, 2), r.three);
+    if within(r.one, field_of(r.kind, 0, fields), least, bound) {
+        if within(r.two, field_of(r.kind, 1, fields), least, bound) {
+            return within(r.three, field_of(r.kind, 2, fields), least, bound);
         }
     }
     false
 }
 
-// Whether each field of a row of a known kind is in its place.
-fn all_in_place(r: Record, row: u32, count: u32) -> bool
-    requires { ⌜ r .kind < kindCount ⌝ }
-    ensures { λ t. ⌜ t ≡ each (placed count row) (kindAt (r .kind)) (wordsOf r) ⌝ }
+// Whether a row is accepted, by the bounds of the row and the count.
+pub(crate) fn accepts(r: Record, fields: &[u32], least: &[u32], bound: &[u64]) -> bool
+    requires { ⌜ (now fields ≡ kindFields) × (now least ≡ leasts) × (length (now bound) ≡ 7) ⌝ }
+    ensures { λ t. ⌜ Accepted (now (bound .entry)) (wordsOf r) t ⌝ }
 {
-    if in_place(field_of(r.kind, 0), r.one, row, count) {
-        if in_place(field_of(r.kind, 1), r.two, row, count) {
-            return in_place(field_of(r.kind, 2), r.three, row, count);
-        }
+    if KINDS <= r.kind {
+        return false;
     }
-    false
+    all_within(r, fields, least, bound)
 }
 
-// Why a row is refused, and 0 where it is not.
-pub(crate) fn judge(r: Record, row: u32, count: u32) -> u32
-    ensures { λ n. ⌜ n ≡ verdict (rowOf count row (wordsOf r)) ⌝ }
+// Why a row that is not accepted is refused.
+pub(crate) fn why(r: Record) -> u32
+    ensures { λ n. ⌜ Fault (wordsOf r) n ⌝ }
 {
     if KINDS <= r.kind {
         return UNKNOWN_KIND;
     }
-    if all_in_range(r) {
-        if all_in_place(r, row, count) {
-            return 0;
-        }
+    if all_within(r, &FIELDS, &LEAST, &BOUND) {
         return MISPLACED;
     }
     OUT_OF_RANGE

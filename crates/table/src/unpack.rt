@@ -1,4 +1,4 @@
-// Reading the packed form: a pass that judges, and a pass that stores.
+// Reading the packed form: one pass over the rows, which judges and stores them.
 use super::BAD_COUNT;
 use super::BAD_FILLING;
 use super::CUT_SHORT;
@@ -15,27 +15,61 @@ use super::bits::COUNT_WIDTH;
 use super::bits::FIRST_ROW;
 use super::bits::KIND_WIDTH;
 use super::bits::byte_count;
+use super::bits::number_at;
 use super::bits::up;
 use super::held::first_field;
 use super::plain::count_fits;
-use super::rows::judge;
-use super::rows::width_of;
+use super::rows::BOUND;
+use super::rows::FIELDS;
+use super::rows::LEAST;
+use super::rows::LENGTH;
+use super::rows::MOST;
+use super::rows::WIDTH;
+use super::rows::accepts;
+use super::rows::field_of;
+use super::rows::why;
 ghost use mathlib.Core.Path.{_≡_};
 ghost use mathlib.Core.List.{_++_};
-ghost use Prim.Native.Nat.{_+_, _*_, _<_, _≤_};
-ghost use lib.ListN.{length, take, drop};
-ghost use Rattle.table.specs.Answers.{answer, parts, leaves};
-ghost use Rattle.table.specs.Plain.{joined};
+ghost use Prim.Native.Nat.{_+_, _*_, _/_, _<_, _≤_, _^_, _%_};
+ghost use lib.ListN.{getD, length, take, drop};
+ghost use Rattle.table.specs.Plain.{wordsOf};
 ghost use Rattle.table.specs.Bits.{bits};
-ghost use Rattle.table.specs.Rows.{maxFlows, rowSize};
-ghost use Rattle.table.specs.Packed.{filling, takeRows, unpacked, countWidth};
+ghost use Rattle.table.specs.Rows.{kindCount, maxFlows, rowSize};
+ghost use Rattle.table.specs.Packed.{filling, unpacked, countWidth};
 ghost use Rattle.table.specs.Places.{lastPlace, longestRecord};
-ghost use Rattle.table.specs.Private.Steps.{Stepped, Scanned, plainWords, AllTaken};
+ghost use Rattle.table.specs.Lengths.{recordLengths};
+ghost use Rattle.table.specs.Private.Codes.{kindFields, mosts, widths, fieldsIn};
+ghost use Rattle.table.specs.Private.Steps.{Stepped, Scanned, Unpacked, plainWords};
+
+// The field of a number whose shift low bits stand behind it.
+fn part(x: u64, shift: u32, field: usize, most: &[u32]) -> u32
+    requires { ⌜ (shift < 64) × (field < 7) × (now most ≡ mosts) ⌝ }
+    ensures { λ r. ⌜ r ≡ x / 2 ^ shift % 2 ^ getD widths field 0 ⌝ }
+{
+    ((x >> shift) & (most[field] as u64)) as u32
+}
+
+// The words of a row of a known kind from the number that its fields are in packed form.
+fn record_of(kind: u32, x: u64, fields: &[u32], most: &[u32], width: &[u32]) -> Record
+    requires { ⌜ (kind < kindCount) × (now fields ≡ kindFields) × (now most ≡ mosts) × (now width ≡ widths) ⌝ }
+    ensures { λ r. ⌜ wordsOf r ≡ fieldsIn kind x ⌝ }
+{
+    let b = field_of(kind, 1, fields);
+    let c = field_of(kind, 2, fields);
+    let two = width[c];
+    let one = two + width[b];
+    Record {
+        kind,
+        one: part(x, one, field_of(kind, 0, fields), most),
+        two: part(x, two, b, most),
+        three: part(x, 0, c, most),
+    }
+}
 
 impl Cursor {
-    // The words of the row at the cursor, with the place after it: its kind, which is to be known, and its fields.
-    fn row(self, s: &[u8]) -> Step
-        requires { ⌜ (self .at + longestRecord ≤ lastPlace) × (self .at ≤ length (bits (now s))) ⌝ }
+    // The words of the row at the cursor, with the place after it: its kind, which is to be known, and its fields, which are to be there.
+    fn row(self, s: &[u8], fields: &[u32], most: &[u32], width: &[u32], lengths: &[u32]) -> Step
+        requires { ⌜ (self .at + longestRecord ≤ lastPlace) × (self .at ≤ length (bits (now s))) × (now fields ≡ kindFields) × (now most ≡ mosts) × (now width ≡ widths) × (now lengths ≡ recordLengths) ⌝ }
         ensures { λ r. ⌜ Stepped (bits (now (s .entry))) (self .at) r ⌝ }
     {
         let Taking::Got(kind, first) = self.take(s, KIND_WIDTH) else {
@@ -44,42 +78,50 @@ impl Cursor {
         if KINDS <= kind {
             return Step::Refused(UNKNOWN_KIND);
         }
-        let Taking::Got(one, second) = first.take(s, width_of(kind, 0)) else {
+        let end = self.at + (lengths[kind as usize] as usize);
+        if s.len() < byte_count(end) {
             return Step::Refused(CUT_SHORT);
-        };
-        let Taking::Got(two, third) = second.take(s, width_of(kind, 1)) else {
-            return Step::Refused(CUT_SHORT);
-        };
-        let Taking::Got(three, next) = third.take(s, width_of(kind, 2)) else {
-            return Step::Refused(CUT_SHORT);
-        };
-        Step::Row(
-            Record {
-                kind,
-                one,
-                two,
-                three,
-            },
-            next,
-        )
+        }
+        let x = number_at(s, first.at, end - first.at);
+        Step::Row(record_of(kind, x, fields, most, width), Cursor { at: end })
     }
 }
 
-// The rows of a table of count flows: the place after them, or the first refusal with its row.
-fn scan_rows(s: &[u8], count: u32) -> Scan
-    requires { ⌜ (count ≤ maxFlows) × (countWidth ≤ length (bits (now s))) ⌝ }
-    ensures { λ r. ⌜ Scanned (bits (now (s .entry))) count r ⌝ }
+// The four words of a row at its place.
+fn store_row(words: &mut [u32], row: u32, r: Record)
+    requires { ⌜ rowSize * row + rowSize ≤ length (now words) ⌝ }
+    ensures { λ u. ⌜ now (words .exit) ≡ take (rowSize * row) (now (words .entry)) ++ (plainWords r ++ drop (rowSize * row + rowSize) (now (words .entry))) ⌝ }
 {
+    let i = ROW_SIZE * (row as usize);
+    words[i] = r.kind;
+    words[i + 1] = r.one;
+    words[i + 2] = r.two;
+    words[i + 3] = r.three;
+}
+
+// The rows of a table of count flows, their words stored: the place after them, or the first refusal with its row.
+fn scan_rows(s: &[u8], count: u32, words: &mut [u32]) -> Scan
+    requires { ⌜ (count ≤ maxFlows) × (countWidth ≤ length (bits (now s))) × (rowSize * count ≤ length (now words)) ⌝ }
+    ensures { λ r. ⌜ Scanned (bits (now (s .entry))) count (now (words .exit)) r ⌝ }
+{
+    let fields = FIELDS;
+    let least = LEAST;
+    let most = MOST;
+    let width = WIDTH;
+    let lengths = LENGTH;
+    let mut bound = BOUND;
+    bound[1] = count as u64;
     let mut cursor = Cursor { at: FIRST_ROW };
     let mut row: u32 = 0;
     while row < count {
-        let step = cursor.row(s);
+        bound[0] = row as u64;
+        let step = cursor.row(s, &fields, &most, &width, &lengths);
         match step {
             Step::Row(r, next) => {
-                let n = judge(r, row, count);
-                if n != 0 {
-                    return Scan::Stopped(n, row);
+                if !accepts(r, &fields, &least, &bound) {
+                    return Scan::Stopped(why(r), row);
                 }
+                store_row(words, row, r);
                 cursor = next;
                 row += 1;
             }
@@ -106,9 +148,10 @@ fn ends(s: &[u8], at: usize) -> bool
     fill == 0
 }
 
-// The count, the rows and the end: what reading comes to, whatever room there is.
-pub(crate) fn inspect(s: &[u8]) -> Reading
-    ensures { λ r. ⌜ answer length (unpacked (now (s .entry))) ≡ parts r ⌝ }
+// The count, the rows and the end, whatever room there is: what reading comes to, with the words of the rows stored.
+pub(crate) fn unpack(s: &[u8], words: &mut [u32]) -> Reading
+    requires { ⌜ rowSize * maxFlows ≤ length (now words) ⌝ }
+    ensures { λ r. ⌜ Unpacked (unpacked (now (s .entry))) (now (words .exit)) r ⌝ }
 {
     let Taking::Got(count, _) = first_field(s, COUNT_WIDTH) else {
         return Reading::Refused {
@@ -122,7 +165,7 @@ pub(crate) fn inspect(s: &[u8]) -> Reading
             row: 0,
         };
     }
-    let scan = scan_rows(s, count);
+    let scan = scan_rows(s, count, words);
     match scan {
         Scan::Stopped(number, row) => Reading::Refused { number, row },
         Scan::End(p) => {
@@ -136,34 +179,5 @@ pub(crate) fn inspect(s: &[u8]) -> Reading
                 }
             }
         }
-    }
-}
-
-// The four words of a row at its place.
-fn store_row(words: &mut [u32], row: u32, r: Record)
-    requires { ⌜ rowSize * row + rowSize ≤ length (now words) ⌝ }
-    ensures { λ u. ⌜ now (words .exit) ≡ take (rowSize * row) (now (words .entry)) ++ (plainWords r ++ drop (rowSize * row + rowSize) (now (words .entry))) ⌝ }
-{
-    let i = ROW_SIZE * (row as usize);
-    words[i] = r.kind;
-    words[i + 1] = r.one;
-    words[i + 2] = r.two;
-    words[i + 3] = r.three;
-}
-
-// The words of the rows of a table that is not refused.
-pub(crate) fn store_rows(s: &[u8], count: u32, words: &mut [u32])
-    requires { ⌜ (count ≤ maxFlows) × (rowSize * count ≤ length (now words)) × AllTaken (bits (now s)) count ⌝ }
-    ensures { λ u. ⌜ now (words .exit) ≡ leaves joined (takeRows count count 0 (drop countWidth (bits (now (s .entry))))) (now (words .entry)) ⌝ }
-{
-    let mut cursor = Cursor { at: FIRST_ROW };
-    let mut row: u32 = 0;
-    while row < count {
-        let Step::Row(r, next) = cursor.row(s) else {
-            return;
-        };
-        store_row(words, row, r);
-        cursor = next;
-        row += 1;
     }
 }

@@ -10,6 +10,47 @@ use Rattle.table.proofs.record_at.Tie as tie
 mul-i : tie.Need-mul-i
 mul-i c = search needs
 
+add-if1 : tie.Need-add-if1
+add-if1 c = search needs
+
+mul-t7 : tie.Need-mul-t7
+mul-t7 c = search needs
+
+shared-slice-read-t9 : tie.Need-shared-slice-read-t9
+shared-slice-read-t9 c = search needs
+
+add-t10 : tie.Need-add-t10
+add-t10 c = search needs
+
+mul-t11 : tie.Need-mul-t11
+mul-t11 c = search needs
+
+shared-slice-read-t13 : tie.Need-shared-slice-read-t13
+shared-slice-read-t13 c = search needs
+
+add-t14 : tie.Need-add-t14
+add-t14 c = search needs
+
+mul-t15 : tie.Need-mul-t15
+mul-t15 c = search needs
+
+shared-slice-read-t17 : tie.Need-shared-slice-read-t17
+shared-slice-read-t17 c = search needs
+
+add-t18 : tie.Need-add-t18
+add-t18 c = search needs
+
+mul-t19 : tie.Need-mul-t19
+mul-t19 c = search needs
+
+shared-slice-read-t21 : tie.Need-shared-slice-read-t21
+shared-slice-read-t21 c = search needs
+
+returns : tie.Need-returns
+returns c =
+    let start = c .before .before .before .before .before .before in
+    four-read (now (start .args .words)) (rowSize * start .args .row)
+
 word-at-requires : tie.Need-word-at-requires
 word-at-requires c κs = search needs
 
@@ -31,12 +72,12 @@ add-word-at-3 c = search needs
 word-at-requires-4 : tie.Need-word-at-requires-4
 word-at-requires-4 c κs = search needs
 
-returns : tie.Need-returns
-returns c =
+returns-2 : tie.Need-returns-2
+returns-2 c =
     let after-word-at3 = c .before in
     let after-word-at2 = after-word-at3 .before in
     let after-word-at = after-word-at2 .before in
-    let start = after-word-at .before .before in
+    let start = after-word-at .before .before .before in
     rw (c .word-at4 .ensures, after-word-at3 .word-at3 .ensures, after-word-at2 .word-at2 .ensures, after-word-at .word-at .ensures)
     (four-read (now (start .args .words)) (rowSize * start .args .row))
 
@@ -45,6 +86,19 @@ record-at-spec =
     tie.close
     (tie.spec
     mul-i
+    add-if1
+    mul-t7
+    shared-slice-read-t9
+    add-t10
+    mul-t11
+    shared-slice-read-t13
+    add-t14
+    mul-t15
+    shared-slice-read-t17
+    add-t18
+    mul-t19
+    shared-slice-read-t21
+    returns
     word-at-requires
     add-word-at
     word-at-requires-2
@@ -52,4 +106,4 @@ record-at-spec =
     word-at-requires-3
     add-word-at-3
     word-at-requires-4
-    returns)
+    returns-2)

@@ -55,7 +55,7 @@ put-table-requires c κs =
     let a = start .args in
     let g = after-found .found .given in
     let z = subst (Sized (split (a .count) (now (a .words)))) (g .1) (after-survey .survey .ensures .1) in
-    (ready (a .count) (now (a .words)) (after-survey .survey .ensures .0 ∙ ap (told (a .count)) (g .1)), omega (arith, z .0, else1 .if1 .left))
+    (ready (a .count) (now (a .words)) (after-survey .survey .ensures .0 ∙ ap (told (a .count)) (g .1)), z .0, else1 .if1 .left)
 
 cast-success : tie.Need-cast-success
 cast-success c =
@@ -80,15 +80,13 @@ returns-3 c =
     let else1 = after-put-table .before .before in
     let after-found = else1 .before .before in
     let after-survey = after-found .before .before in
-    let after-slice-known = after-survey .before in
-    let start = after-slice-known .before .before in
+    let start = after-survey .before .before .before in
     let a = start .args in
     let g = after-found .found .given in
     let z = subst (Sized (split (a .count) (now (a .words)))) (g .1) (after-survey .survey .ensures .1) in
     let p = after-put-table .put-table in
     let d = write-done (a .count) (g .0 .0) (now (a .words)) (now (a .packed)) (after-survey .survey .ensures .0 ∙ ap (told (a .count)) (g .1)) (z .0)
-    (p .last .1 .1 .0) (else1 .if1 .left) (λ k. omega (arith, after-slice-known2 .slice-known2 .given k))
-    (λ k. omega (arith, after-slice-known .slice-known .given k)) (p .kept .1 .1 .0) (p .ensures) in
+    (p .last .1 .1 .0) (else1 .if1 .left) (λ k. omega (arith, after-slice-known2 .slice-known2 .given k)) (p .ensures) in
     (c .success .ensures ∙ d .0, d .1)
 
 pub write-spec : {M : Type 1} → statement M

@@ -1,14 +1,24 @@
--- Bytes joined to a number, and a field put at a bit place.
+-- Bytes joined to a number, and numbers put into bytes at a bit place.
 use mathlib.Core.Path.{_≡_}
-use Prim.Native.Nat.{ℕ, _+_, _-_, _*_, _/_}
+use Prim.Native.Nat.{ℕ, _+_, _-_, _*_, _/_, _%_, _^_}
 use mathlib.Core.Bool.{Bool, false}
-use mathlib.Core.List.{List, _++_}
+use mathlib.Core.List.{List, [], _∷_, _++_}
 use lib.ListN.{length, getD, take, drop, replicate}
-use Rattle.table.specs.Bits.{bits, toBits, byteCount}
+use Rattle.table.specs.Bits.{bits, byteCount}
 
--- the five bytes from i on as one number, with 0 for each byte past the end
+-- the eight bytes from i on as one number, with 0 for each byte past the end
 abbrev pub window : List ℕ → ℕ → ℕ
-window s i = (((getD s i 0 * 256 + getD s (i + 1) 0) * 256 + getD s (i + 2) 0) * 256 + getD s (i + 3) 0) * 256 + getD s (i + 4) 0
+window s i =
+    ((((((getD s i 0 * 256 + getD s (i + 1) 0) * 256 + getD s (i + 2) 0) * 256 + getD s (i + 3) 0) * 256 + getD s (i + 4) 0) * 256 + getD s (i + 5) 0) * 256
+    + getD s (i + 6) 0) * 256 + getD s (i + 7) 0
+
+-- a number as nine bytes, the first one highest
+abbrev pub nineByte : ℕ → ℕ → ℕ
+nineByte v k = v / 2 ^ (64 - 8 * k) % 256
+
+abbrev pub nine : ℕ → List ℕ
+nine v =
+    nineByte v 0 ∷ nineByte v 1 ∷ nineByte v 2 ∷ nineByte v 3 ∷ nineByte v 4 ∷ nineByte v 5 ∷ nineByte v 6 ∷ nineByte v 7 ∷ nineByte v 8 ∷ []
 
 -- n bits, filled up to whole bytes
 abbrev pub whole : ℕ → ℕ
@@ -18,15 +28,12 @@ whole n = 8 * byteCount n
 abbrev pub fill : ℕ → List Bool
 fill n = replicate (whole n - n) false
 
--- the bits bs, zero bits up to a whole byte, and what stood after that in old
-unfoldable pub laid : List Bool → List Bool → List Bool
-laid bs old = bs ++ (fill (length bs) ++ drop (whole (length bs)) old)
+-- out begins with the bits bs and zero bits up to a whole byte; from size on it is as in old
+pub record Begun (size : ℕ) (bs : List Bool) (old out : List ℕ) : Type 0 where
+  pub front : take (whole (length bs)) (bits out) ≡ bs ++ fill (length bs)
+  pub behind : drop size out ≡ drop size old
+  pub size-kept : length out ≡ length old
 
--- old with the bits f put at a place: what is before stays, and the last byte is filled up with zero bits
-unfoldable pub putAt : List Bool → ℕ → List Bool → List Bool
-putAt old at f = laid (take at old ++ f) old
-
--- the bytes before at / 8, and then the bits of r, are the bits before the place at, the w low bits of v, and zero bits up to a whole byte
-unfoldable pub Lined : List ℕ → ℕ → ℕ → ℕ → ℕ → Type 0
-Lined s at w v r =
-    bits (take (at / 8) s) ++ toBits (8 * (byteCount (at + w) - at / 8)) r ≡ take at (bits s) ++ (toBits w v ++ fill (at + w))
+-- bits were put at a place, behind those that stood before it
+abbrev pub Put : ℕ → ℕ → List Bool → List ℕ → List ℕ → Type 0
+Put size at f out new = (bs : List Bool) (old : List ℕ) → length bs ≡ at → Begun size bs old out → Begun size (bs ++ f) old new

@@ -1,118 +1,125 @@
 -- `table::Cursor::put` meets its contract. Assumes nothing.
-use mathlib.Core.Path.{_≡_, refl, _∙_}
-use mathlib.Core.List.{_++_}
-use Prim.Native.Nat.{_+_, _-_, _*_, _≤_}
+use mathlib.Core.Path.{refl, ap, _∙_}
+use mathlib.Core.List.{List, _++_}
+use mathlib.Core.Logic.{⊎-elim}
+use Prim.Native.Nat.{ℕ, _+_, _-_, _/_, _%_, _<_}
+use native.Mathlib.Nat.{mod-lt, zero-lt-suc}
 use native.Mathlib.Omega.{arith}
-use lib.ListN.{length, take, drop, length-set}
-use lib.Seq.{drop-set-lt}
+use lib.ListN.{length, getD, take, drop}
 use denote.Ref.{now}
-use Rattle.table.specs.Bits.{bits, toBits, byteCount}
-use Rattle.table.specs.Private.Laid.{fill, Lined}
-use Rattle.table.proofs.Puts.{stored, put-done, drop-more}
+use Rattle.table.specs.Private.Laid.{nine}
+use Rattle.table.proofs.Puts.{nine-word, put-law}
 use borrow.Author.Needs.{needs}
 use Rattle.table.proofs.Cursor.put.Statement.{statement}
 use Rattle.table.proofs.Cursor.put.Tie as tie
 
-abbrev Inv-loop : tie.InvT-loop
-Inv-loop out₀ width v at w x end i₀ out i =
-    (i₀ ≤ i) × (i ≤ end) × (length out ≡ length out₀) × (drop i out ≡ drop i out₀)
-    × (bits (take i out) ++ toBits (8 * (end - i)) x ≡ take at (bits out₀) ++ (toBits w v ++ fill (at + w)))
+slice-read-before : tie.Need-slice-read-before
+slice-read-before c = search needs
 
-abbrev μ-loop : tie.MeasureT-loop
-μ-loop out₀ width v at w x end i₀ out i = end - i
+cast-before : tie.Need-cast-before
+cast-before c =
+    let start = c .before .before in
+    omega (arith, c .slice-known2 .given (start .args .self .at / 8))
 
-lined-requires : tie.Need-lined-requires Inv-loop μ-loop
-lined-requires c κs = search needs
+sub-before : tie.Need-sub-before
+sub-before c = search needs
 
-add-byte-count : tie.Need-add-byte-count Inv-loop μ-loop
-add-byte-count c = omega arith
+shr-before : tie.Need-shr-before
+shr-before c = search needs
 
-byte-count-requires : tie.Need-byte-count-requires Inv-loop μ-loop
+sub-field : tie.Need-sub-field
+sub-field c = search needs
+
+shl-field : tie.Need-shl-field
+shl-field c = search needs
+
+sub-x : tie.Need-sub-x
+sub-x c = search needs
+
+shl-x : tie.Need-shl-x
+shl-x c = search needs
+
+shr-x : tie.Need-shr-x
+shr-x c = search needs
+
+sub-y : tie.Need-sub-y
+sub-y c = search needs
+
+shl-y : tie.Need-shl-y
+shl-y c = search needs
+
+cast-y : tie.Need-cast-y
+cast-y c = search needs
+
+add-if1 : tie.Need-add-if1
+add-if1 c = search needs
+
+store-nine-requires : tie.Need-store-nine-requires
+store-nine-requires c κs = search needs
+
+add-byte-count : tie.Need-add-byte-count
+add-byte-count c = search needs
+
+byte-count-requires : tie.Need-byte-count-requires
 byte-count-requires c κs = search needs
 
-loop-holds : tie.Need-loop-holds Inv-loop μ-loop
-unfolding Lined
-loop-holds c = (search needs, search needs, refl, refl, rw (c .byte-count .ensures) (c .before .lined .ensures))
+sub-store-some : tie.Need-sub-store-some
+sub-store-some c = search needs
 
-sub-byte-of : tie.Need-sub-byte-of Inv-loop μ-loop
-sub-byte-of c = omega arith
+store-some-requires : tie.Need-store-some-requires
+store-some-requires c κs = search needs
 
-sub-byte-of-2 : tie.Need-sub-byte-of-2 Inv-loop μ-loop
-sub-byte-of-2 c = omega arith
+add-t16 : tie.Need-add-t16
+add-t16 c = search needs
 
-byte-of-requires : tie.Need-byte-of-requires Inv-loop μ-loop
-byte-of-requires c κs = search needs
+same-length : tie.Need-same-length
+same-length c = ⊎-elim (λ w. ap length (w .5) ∙ w .2 .kept .0) (λ w. ap length (w .6) ∙ w .3 .kept .0) (c .if1 .came)
 
-slice-write-out : tie.Need-slice-write-out Inv-loop μ-loop
-slice-write-out c = omega arith
-
-add-i : tie.Need-add-i Inv-loop μ-loop
-add-i c = omega arith
-
-loop-less : tie.Need-loop-less Inv-loop μ-loop
-loop-less c = omega arith
-
-loop-again : tie.Need-loop-again Inv-loop μ-loop
-loop-again c =
-    let at-loop = c .before .before in
-    let after-byte-count = at-loop .before in
-    let after-lined = after-byte-count .before in
-    let start = after-lined .before .before .before in
-    let a = start .args in
-    let l = at-loop .loop in
-    let at = a .self .at in
-    let end = after-byte-count .byte-count .result in
-    let x = after-lined .lined .result in
-    let r = 8 * (end - 1 - l .i) in (
-      search needs,
-      search needs,
-      length-set (l .out) (l .i) (c .byte-of .result) ∙ l .inv .2,
-      drop-set-lt (l .i + 1) (l .out) (l .i) (c .byte-of .result) (omega arith) ∙ drop-more (l .out) (now (a .out)) (l .i) (l .inv .3),
-      rw (c .byte-of .ensures)
-          (stored (l .out) (l .i) r (8 * (end - (l .i + 1))) (8 * (end - l .i)) x
-          (take at (bits (now (a .out))) ++ (toBits (a .width) (a .v) ++ fill (at + a .width)))
-          (omega arith) (omega arith) (omega arith) (l .inv .4)),
-    )
-
-add-t12 : tie.Need-add-t12 Inv-loop μ-loop
-add-t12 c = omega arith
-
-same-length : tie.Need-same-length Inv-loop μ-loop
-same-length c = search needs
-
-returns : tie.Need-returns Inv-loop μ-loop
+returns : tie.Need-returns
 returns c =
-    let at-loop = c .before in
-    let after-byte-count = at-loop .before in
-    let after-lined = after-byte-count .before in
-    let start = after-lined .before .before .before in
+    let after-slice-known2 = c .before in
+    let start = after-slice-known2 .before .before in
     let a = start .args in
-    let l = at-loop .loop in
+    let p = start .pre in
+    let out : List ℕ = now (a .out) in
     let at = a .self .at in
-    let end = after-byte-count .byte-count in
-    let e : l .i ≡ byteCount (at + a .width) = omega arith in (
+    let i = at / 8 in
+    let b : getD out i 0 < 256 = omega (arith, after-slice-known2 .slice-known2 .given i) in
+    let e = nine-word (getD out i 0) (at % 8) (a .w) (a .v) b (mod-lt at (zero-lt-suc 7)) (omega arith) (p .3) in (
       refl,
-      put-done (now (a .out)) (l .out) at (a .width) (a .v) (after-lined .lined .result) (l .i) (8 * (end .result - l .i))
-          (start .pre .2) e (omega arith) (l .inv .4) (l .inv .3),
+      ⊎-elim
+          (λ w. put-law (a .size) at (a .w) (a .v) 9 out (p .3) (p .4) (p .5) (omega arith) (omega arith) (omega (arith, w .0 .taken)) (c .if1 .out)
+          (w .5 ∙ w .2 .ensures ∙ ap (λ (v : ℕ). take i out ++ (nine v ++ drop (i + 9) out)) e))
+          (λ w.
+          let n = w .2 .result - i in
+          let end = w .2 .ensures in
+          put-law (a .size) at (a .w) (a .v) n out (p .3) (p .4) (p .5) (omega (arith, end)) (omega (arith, end, w .0 .left)) (omega (arith, end)) (c .if1 .out)
+          (w .6 ∙ w .3 .ensures ∙ ap (λ (v : ℕ). take i out ++ (take n (nine v) ++ drop (i + n) out)) e))
+          (c .if1 .came),
     )
 
 pub put-spec : {M : Type 1} → statement M
 put-spec =
     tie.close
     (tie.spec
-    Inv-loop
-    μ-loop
-    lined-requires
+    slice-read-before
+    cast-before
+    sub-before
+    shr-before
+    sub-field
+    shl-field
+    sub-x
+    shl-x
+    shr-x
+    sub-y
+    shl-y
+    cast-y
+    add-if1
+    store-nine-requires
     add-byte-count
     byte-count-requires
-    loop-holds
-    sub-byte-of
-    sub-byte-of-2
-    byte-of-requires
-    slice-write-out
-    add-i
-    loop-less
-    loop-again
-    add-t12
+    sub-store-some
+    store-some-requires
+    add-t16
     same-length
     returns)

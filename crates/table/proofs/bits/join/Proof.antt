@@ -9,7 +9,7 @@ use Rattle.table.proofs.bits.join.Tie as tie
 
 returns : tie.Need-returns
 returns c =
-    ap (λ (n : ℕ). bitOr n (c .args .low)) (shl-exact {a = c .args .high} 32 8 64 (c .pre .0) (lit≤ tt))
+    ap (λ (n : ℕ). bitOr n (c .args .low)) (shl-exact {a = c .args .high} 56 8 64 (c .pre .0) (lit≤ tt))
     ∙ or-shifted (c .args .high) 8 (c .args .low) (c .pre .1)
 
 pub join-spec : {M : Type 1} → statement M

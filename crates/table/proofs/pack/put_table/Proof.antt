@@ -1,34 +1,44 @@
 -- `table::pack::put_table` meets its contract. Assumes nothing.
-use mathlib.Core.Path.{_≡_, refl, ap, _∙_}
-use Prim.Native.Nat.{ℕ, _+_, _-_, _*_, _≤_, _<_}
+use mathlib.Core.Path.{_≡_, refl, _∙_, subst}
+use mathlib.Core.List.{List, _++_}
+use Prim.Native.Nat.{ℕ, _+_, _-_, _*_, _≤_}
 use native.Mathlib.Omega.{arith}
 use lib.ListN.{length}
 use denote.Ref.{now}
 use Rattle.table.specs.Plain.{split, wordsOf}
-use Rattle.table.specs.Bits.{bits, toBits}
+use Rattle.table.specs.Bits.{toBits}
 use Rattle.table.specs.Packed.{countWidth, rowsBits}
 use Rattle.table.specs.Places.{longestRecord}
-use Rattle.table.specs.Private.Laid.{putAt}
-use Rattle.table.proofs.BitLaws.{length-toBits, length-bits}
-use Rattle.table.proofs.Records.{row-le}
-use Rattle.table.proofs.Puts.{put-next}
+use Rattle.table.specs.Lengths.{rowLength}
+use Rattle.table.specs.Private.Laid.{Put}
+use Rattle.table.proofs.BitLaws.{length-toBits}
+use Rattle.table.proofs.Lengths.{length-at, row-le}
+use Rattle.table.proofs.Puts.{put-put, put-first}
 use Rattle.table.proofs.WriteLaws.{Putting, putting-starts, putting-ends, known-row, room-row, putting-goes}
 use borrow.Author.Needs.{needs}
 use Rattle.table.proofs.pack.put_table.Statement.{statement}
 use Rattle.table.proofs.pack.put_table.Tie as tie
 
 abbrev Inv-loop : tie.InvT-loop
-Inv-loop count words out₀ cursor₀ row₀ out cursor row =
-    (row ≤ count) × (cursor .at ≤ 8 + longestRecord * row) × (length out ≡ length out₀) × Putting count row (cursor .at) (cursor₀ .at) words out out₀
+Inv-loop count words out₀ size fields most width lengths cursor₀ row₀ out cursor row =
+    (row ≤ count) × (cursor .at ≤ 8 + longestRecord * row) × (length out ≡ length out₀) × Putting count row (cursor .at) size words out out₀
 
 abbrev μ-loop : tie.MeasureT-loop
-μ-loop count words out₀ cursor₀ row₀ out cursor row = count - row
+μ-loop count words out₀ size fields most width lengths cursor₀ row₀ out cursor row = count - row
 
 new-requires : tie.Need-new-requires Inv-loop μ-loop
 new-requires c κs = search needs
 
+cast-put : tie.Need-cast-put Inv-loop μ-loop
+cast-put c = search needs
+
 put-requires : tie.Need-put-requires Inv-loop μ-loop
-put-requires c κs = search needs
+put-requires c κs =
+    let after-new = c .before in
+    let start = after-new .before .before .before in
+    let p = start .pre in
+    let n = after-new .new .ensures in
+    (omega (arith, n), omega arith, omega arith, omega (arith, p .0 .few), omega (arith, n, p .1), p .2)
 
 loop-holds : tie.Need-loop-holds Inv-loop μ-loop
 loop-holds c =
@@ -37,70 +47,109 @@ loop-holds c =
     let start = after-new .before .before .before in
     let a = start .args in
     let p = after-put .put in
-    let n = after-new .new .ensures in
-    let e : p .result .at ≡ 0 + length (toBits countWidth (a .count)) = omega (arith, p .ensures .0, n, length-toBits countWidth (a .count)) in (
+    let e : p .result .at ≡ countWidth = omega (arith, p .ensures .0, after-new .new .ensures) in (
       search needs,
-      omega (arith, p .ensures .0, n),
+      omega (arith, e),
       refl,
-      putting-starts (a .count) (p .result .at) (now (a .words)) (p .last .1 .0) (bits (now (a .out))) (toBits countWidth (a .count)) (start .pre .0 .accepted)
-          (p .ensures .1 ∙ ap (λ (x : ℕ). putAt (bits (now (a .out))) x (toBits countWidth (a .count))) n) e,
+      putting-starts (a .count) (p .result .at) (a .size) (now (a .words)) (p .last .1 .0) (start .pre .0 .accepted) e,
     )
 
 record-at-requires : tie.Need-record-at-requires Inv-loop μ-loop
 record-at-requires c κs = search needs
 
-put-row-requires : tie.Need-put-row-requires Inv-loop μ-loop
-put-row-requires c κs =
-    let after-record-at = c .before in
+slice-aggregate-number-of : tie.Need-slice-aggregate-number-of Inv-loop μ-loop
+slice-aggregate-number-of c = search needs
+
+slice-aggregate-number-of-2 : tie.Need-slice-aggregate-number-of-2 Inv-loop μ-loop
+slice-aggregate-number-of-2 c = search needs
+
+slice-aggregate-number-of-3 : tie.Need-slice-aggregate-number-of-3 Inv-loop μ-loop
+slice-aggregate-number-of-3 c = search needs
+
+number-of-requires : tie.Need-number-of-requires Inv-loop μ-loop
+number-of-requires c κs =
+    let after-record-at = c .before .before .before in
     let in-loop = after-record-at .before in
-    let at-loop = in-loop .before in
-    let after-put = at-loop .before .before .before in
-    let after-new = after-put .before .before in
-    let start = after-new .before .before .before in
-    let a = start .args in
-    let p = start .pre in
-    let l = at-loop .loop in
+    let l = in-loop .before .loop in
     let r = after-record-at .record-at in
-    let f : l .row < a .count = in-loop .loop-test .taken in
-    let q = after-put .put in
     let w = wordsOf (r .result) in
-    let k = known-row (a .count) (l .row) (l .cursor .at) (q .result .at) (now (a .words)) (l .out) (q .last .1 .0) (l .inv .3) w (r .ensures) f in
-    let m = room-row (a .count) (l .row) (l .cursor .at) (q .result .at) (now (a .words)) (l .out) (q .last .1 .0) (l .inv .3) w (r .ensures) f in (
-      omega (arith, l .inv .1, p .0 .few, f),
-      k,
-      omega (arith, m, p .1, q .kept .1 .0, l .inv .2, q .ensures .0, after-new .new .ensures),
+    let k = known-row (l .inv .3) w (r .ensures) (in-loop .loop-test .taken) in
+    (k, refl, refl, refl)
+
+cast-put-2 : tie.Need-cast-put-2 Inv-loop μ-loop
+cast-put-2 c = search needs
+
+mul-put : tie.Need-mul-put Inv-loop μ-loop
+mul-put c = search needs
+
+array-read-put : tie.Need-array-read-put Inv-loop μ-loop
+array-read-put c =
+    let after-record-at = c .before .before .before .before .before .before in
+    let in-loop = after-record-at .before in
+    let l = in-loop .before .loop in
+    let r = after-record-at .record-at in
+    let w = wordsOf (r .result) in
+    let k = known-row (l .inv .3) w (r .ensures) (in-loop .loop-test .taken) in
+    omega (arith, k)
+
+cast-put-3 : tie.Need-cast-put-3 Inv-loop μ-loop
+cast-put-3 c =
+    let after-record-at = c .before .before .before .before .before .before in
+    let in-loop = after-record-at .before in
+    let l = in-loop .before .loop in
+    let r = after-record-at .record-at in
+    let w = wordsOf (r .result) in
+    let k = known-row (l .inv .3) w (r .ensures) (in-loop .loop-test .taken) in
+    omega (arith, length-at (w .kind) k, row-le (w .kind) k)
+
+put-requires-2 : tie.Need-put-requires-2 Inv-loop μ-loop
+unfolding rowLength
+put-requires-2 c κs =
+    let after-record-at = c .before .before .before .before .before .before in
+    let in-loop = after-record-at .before in
+    let l = in-loop .before .loop in
+    let r = after-record-at .record-at in
+    let w = wordsOf (r .result) in
+    let k = known-row (l .inv .3) w (r .ensures) (in-loop .loop-test .taken) in
+    let after-put = in-loop .before .before .before .before in
+    let start = after-put .before .before .before .before .before in
+    let p = start .pre in
+    let e = length-at (w .kind) k in
+    let q = after-put .put in
+    let room = room-row (l .inv .3) w (r .ensures) (in-loop .loop-test .taken) (p .1) in (
+      omega (arith, l .inv .1, p .0 .few, in-loop .loop-test .taken),
+      omega (arith, e),
+      omega (arith, e, row-le (w .kind) k),
+      rw e (c .before .before .number-of .ensures .0),
+      omega (arith, e, room),
+      omega (arith, p .2, q .kept .1 .0, l .inv .2),
     )
 
 add-row : tie.Need-add-row Inv-loop μ-loop
-add-row c = omega arith
+add-row c =
+    let in-loop = c .before .before .before .before .before .before .before .before .before .before in
+    omega (arith, in-loop .loop-test .taken)
 
 loop-less : tie.Need-loop-less Inv-loop μ-loop
 loop-less c = omega arith
 
 loop-again : tie.Need-loop-again Inv-loop μ-loop
 loop-again c =
-    let after-put-row = c .before .before in
-    let after-record-at = after-put-row .before .before in
+    let after-record-at = c .before .before .before .before .before .before .before .before .before in
     let in-loop = after-record-at .before in
-    let at-loop = in-loop .before in
-    let after-put = at-loop .before .before .before in
-    let after-new = after-put .before .before in
-    let start = after-new .before .before .before in
-    let a = start .args in
-    let p = start .pre in
-    let l = at-loop .loop in
+    let l = in-loop .before .loop in
     let r = after-record-at .record-at in
-    let f : l .row < a .count = in-loop .loop-test .taken in
-    let q = after-put .put in
-    let t = after-put-row .put-row in
     let w = wordsOf (r .result) in
-    let k = known-row (a .count) (l .row) (l .cursor .at) (q .result .at) (now (a .words)) (l .out) (q .last .1 .0) (l .inv .3) w (r .ensures) f in
-    let m = room-row (a .count) (l .row) (l .cursor .at) (q .result .at) (now (a .words)) (l .out) (q .last .1 .0) (l .inv .3) w (r .ensures) f in (
+    let k = known-row (l .inv .3) w (r .ensures) (in-loop .loop-test .taken) in
+    let n = c .before .before .before .before .before .number-of in
+    let t = c .before .before .put2 in
+    let e = length-at (w .kind) k in
+    let size = in-loop .before .before .before .before .before .before .before .before .before .args .size in (
       search needs,
-      omega (arith, l .inv .1, t .ensures .0, row-le (w .kind) k),
+      omega (arith, l .inv .1, t .ensures .0, e, row-le (w .kind) k),
       t .kept .1 .0 ∙ l .inv .2,
-      putting-goes (a .count) (l .row) (l .cursor .at) (q .result .at) (now (a .words)) (l .out) (q .last .1 .0) (l .inv .3) w (r .ensures) f (t .result .at) (t .last .1 .0)
-          (omega (arith, length-bits (l .out), m, p .1, q .kept .1 .0, l .inv .2, q .ensures .0, after-new .new .ensures)) (t .ensures .0) (t .ensures .1),
+      putting-goes (l .inv .3) w (r .ensures) (in-loop .loop-test .taken) (t .result .at) (n .result) (t .last .1 .0) (omega (arith, t .ensures .0, e)) (n .ensures .1)
+          (subst (λ (x : ℕ). Put size (l .cursor .at) (toBits x (n .result)) (l .out) (t .last .1 .0)) e (t .ensures .1)),
     )
 
 same-length : tie.Need-same-length Inv-loop μ-loop
@@ -115,12 +164,13 @@ returns c =
     let a = start .args in
     let l = at-loop .loop in
     let q = after-put .put in
-    let n = after-new .new .ensures in
-    let old = bits (now (a .out)) in
     let f = toBits countWidth (a .count) in
-    putting-ends (a .count) (l .row) (l .cursor .at) (q .result .at) (now (a .words)) (l .out) (q .last .1 .0) (l .inv .3) (omega arith)
-    ∙ put-next old (bits (q .last .1 .0)) f (rowsBits (split (a .count) (now (a .words)))) 0 (q .result .at) (omega arith)
-    (q .ensures .1 ∙ ap (λ (x : ℕ). putAt old x f) n) (omega (arith, q .ensures .0, n, length-toBits countWidth (a .count)))
+    let g = rowsBits (split (a .count) (now (a .words))) in
+    let mid : List ℕ = q .last .1 .0 in
+    put-first (a .size) (f ++ g) (now (a .out)) (l .out)
+    (put-put (a .size) 0 countWidth f g (now (a .out)) mid (l .out) (omega (arith, length-toBits countWidth (a .count)))
+    (subst (λ (x : ℕ). Put (a .size) x f (now (a .out)) mid) (after-new .new .ensures) (q .ensures .1))
+    (putting-ends (l .inv .3) (omega arith)))
 
 pub put-table-spec : {M : Type 1} → statement M
 put-table-spec =
@@ -129,10 +179,19 @@ put-table-spec =
     Inv-loop
     μ-loop
     new-requires
+    cast-put
     put-requires
     loop-holds
     record-at-requires
-    put-row-requires
+    slice-aggregate-number-of
+    slice-aggregate-number-of-2
+    slice-aggregate-number-of-3
+    number-of-requires
+    cast-put-2
+    mul-put
+    array-read-put
+    cast-put-3
+    put-requires-2
     add-row
     loop-less
     loop-again

@@ -1,75 +1,127 @@
 -- `table::plain::survey_rows` meets its contract. Assumes nothing.
-use mathlib.Core.List.{[]}
-use Rattle.table.specs.Places.{longestRecord}
-use Rattle.table.specs.Rows.{rowOf, rowSize}
-use Rattle.table.specs.Private.Codes.{verdict}
-use mathlib.Core.Path.{_≡_, sym, _∙_}
-use Prim.Native.Nat.{_+_, _-_, _*_, _≤_, _<_}
+use mathlib.Core.List.{List, []}
+use mathlib.Core.Path.{_≡_, refl, sym, _∙_, ap}
+use Prim.Native.Nat.{ℕ, _+_, _-_, _*_, _≤_, _<_}
 use native.Mathlib.Nat.{sub-zero}
 use native.Mathlib.Omega.{arith}
 use denote.Ref.{now}
-use lib.ListN.{length, drop}
+use lib.Dec.{eqb}
+use lib.ListN.{length, drop, set, getD}
+use borrow.Author.Tests.{eqb-true, not-true, not-false}
 use borrow.Author.Needs.{needs}
 use Rattle.table.specs.Answers.{answer}
+use Rattle.table.specs.Rows.{rowOf, rowSize, kindCount}
 use Rattle.table.specs.Plain.{split, rowsFrom, wordsOf}
 use Rattle.table.specs.Packed.{rowsBits}
-use Rattle.table.proofs.Records.{kind-lt, row-le, survey-stop, survey-next, size-next, split-end}
+use Rattle.table.specs.Places.{longestRecord}
+use Rattle.table.specs.Lengths.{recordLengths}
+use Rattle.table.specs.Private.Codes.{bounds, verdict}
+use Rattle.table.proofs.Accepting.{not-zero}
+use Rattle.table.proofs.Lengths.{length-at, row-le}
+use Rattle.table.proofs.Records.{kind-lt, survey-stop, survey-next, size-next, split-end}
 use Rattle.table.proofs.plain.survey_rows.Statement.{statement}
 use Rattle.table.proofs.plain.survey_rows.Tie as tie
 
 abbrev Inv-loop : tie.InvT-loop
-Inv-loop count words bits₀ row₀ bits row =
-    (row ≤ count) × (bits ≤ 8 + longestRecord * row)
+Inv-loop count words fields least lengths bound₀ bits₀ row₀ bound bits row =
+    (row ≤ count) × (bits ≤ 8 + longestRecord * row) × (set bound 0 row ≡ bounds count row)
     × (answer (λ rs. count) (rowsFrom count row (split (count - row) (drop (rowSize * row) words))) ≡ answer (λ rs. count) (rowsFrom count 0 (split count words)))
     × (bits + length (rowsBits (split (count - row) (drop (rowSize * row) words))) ≡ 8 + length (rowsBits (split count words)))
 
 abbrev μ-loop : tie.MeasureT-loop
-μ-loop count words bits₀ row₀ bits row = count - row
+μ-loop count words fields least lengths bound₀ bits₀ row₀ bound bits row = count - row
+
+array-write-bound : tie.Need-array-write-bound Inv-loop μ-loop
+array-write-bound c = search needs
 
 loop-holds : tie.Need-loop-holds Inv-loop μ-loop
-loop-holds c = (search needs, search needs, rw sub-zero, rw sub-zero)
+loop-holds c = (search needs, search needs, refl, rw sub-zero, rw sub-zero)
+
+cast-bound : tie.Need-cast-bound Inv-loop μ-loop
+cast-bound c = search needs
+
+array-write-bound-2 : tie.Need-array-write-bound-2 Inv-loop μ-loop
+array-write-bound-2 c = search needs
 
 record-at-requires : tie.Need-record-at-requires Inv-loop μ-loop
 record-at-requires c κs = search needs
 
-judge-requires : tie.Need-judge-requires Inv-loop μ-loop
-judge-requires c κs = search needs
+slice-aggregate-accepts : tie.Need-slice-aggregate-accepts Inv-loop μ-loop
+slice-aggregate-accepts c = search needs
+
+slice-aggregate-accepts-2 : tie.Need-slice-aggregate-accepts-2 Inv-loop μ-loop
+slice-aggregate-accepts-2 c = search needs
+
+slice-aggregate-accepts-3 : tie.Need-slice-aggregate-accepts-3 Inv-loop μ-loop
+slice-aggregate-accepts-3 c = ap length (sym (c .before .before .before .before .before .loop .inv .2))
+
+accepts-requires : tie.Need-accepts-requires Inv-loop μ-loop
+accepts-requires c κs = (refl, refl, ap length (c .before .before .before .before .before .loop .inv .2))
+
+-- the test tells whether the row is accepted
+tells : (c : tie.After-accepts Inv-loop μ-loop) → (
+    let after-record-at = c .before .before .before .before in
+    let at-loop = after-record-at .before .before in
+    let start = at-loop .before .before in
+    c .accepts .result ≡ eqb (verdict (rowOf (start .args .count) (at-loop .loop .row) (wordsOf (after-record-at .record-at .result)))) 0)
+tells c =
+    let in-loop = c .before .before .before .before .before in
+    let at-loop = in-loop .before in
+    let start = at-loop .before .before in
+    let a = start .args in
+    let l = at-loop .loop in
+    c .accepts .ensures (a .count) (l .row) (start .pre .0) (omega (arith, start .pre .0, in-loop .loop-test .taken)) (l .inv .2)
+
+why-requires : tie.Need-why-requires Inv-loop μ-loop
+why-requires c κs = search needs
 
 returns : tie.Need-returns Inv-loop μ-loop
 returns c =
-    let after-judge = c .before in
-    let after-record-at = after-judge .before in
+    let then1 = c .before in
+    let after-accepts = then1 .before in
+    let after-record-at = after-accepts .before .before .before .before in
     let in-loop = after-record-at .before in
     let at-loop = in-loop .before in
     let start = at-loop .before .before in
     let a = start .args in
-    let l = at-loop .loop in (
-      sym (l .inv .2) ∙ survey-stop (a .count) (l .row) (now (a .words)) (wordsOf (after-record-at .record-at .result)) (after-record-at .record-at .ensures)
-          (in-loop .loop-test .taken) (after-judge .judge .result) (after-judge .judge .ensures) (c .if1 .taken),
+    let l = at-loop .loop in
+    let n = sym (tells after-accepts) ∙ not-true (after-accepts .accepts .result) (then1 .if1 .taken) in (
+      sym (l .inv .3) ∙ survey-stop (a .count) (l .row) (now (a .words)) (wordsOf (after-record-at .record-at .result)) (after-record-at .record-at .ensures)
+          (in-loop .loop-test .taken) (c .why .result) (c .why .ensures (a .count) (l .row) n) (not-zero (c .why .result) _ (c .why .ensures (a .count) (l .row) n) n),
       tt,
     )
 
-row-length-requires : tie.Need-row-length-requires Inv-loop μ-loop
-row-length-requires c κs =
-    let after-judge = c .before in
-    let after-record-at = after-judge .before in
-    let at-loop = after-record-at .before .before in
-    let start = at-loop .before .before in
-    let a = start .args in
-    let l = at-loop .loop in
-    kind-lt (a .count) (l .row) (wordsOf (after-record-at .record-at .result)) (sym (after-judge .judge .ensures) ∙ c .if1 .left)
-
-accepted : (c : tie.After-row-length Inv-loop μ-loop) → (
-    let after-record-at = c .before .before .before in
+accepted : (c : tie.After-struct-known Inv-loop μ-loop) → (
+    let after-record-at = c .before .before .before .before .before .before in
     let at-loop = after-record-at .before .before in
     let start = at-loop .before .before in
     verdict (rowOf (start .args .count) (at-loop .loop .row) (wordsOf (after-record-at .record-at .result))) ≡ 0)
-accepted c = sym (c .before .before .judge .ensures) ∙ c .before .if1 .left
+accepted c =
+    let else1 = c .before in
+    let after-accepts = else1 .before in
+    eqb-true _ 0 (sym (tells after-accepts) ∙ not-false (after-accepts .accepts .result) (else1 .if1 .left))
 
-longest : (c : tie.After-row-length Inv-loop μ-loop) → c .row-length .result ≤ longestRecord
-longest c =
-    let after-record-at = c .before .before .before in
-    rw (c .row-length .ensures) (row-le _ (kind-lt _ _ (wordsOf (after-record-at .record-at .result)) (accepted c)))
+known : (c : tie.After-struct-known Inv-loop μ-loop) → c .before .before .before .before .before .before .record-at .result .kind < kindCount
+known c =
+    let after-record-at = c .before .before .before .before .before .before in
+    let at-loop = after-record-at .before .before in
+    let start = at-loop .before .before in
+    kind-lt (start .args .count) (at-loop .loop .row) (wordsOf (after-record-at .record-at .result)) (accepted c)
+
+longest : (c : tie.After-struct-known Inv-loop μ-loop) → getD recordLengths (c .before .before .before .before .before .before .record-at .result .kind) 0 ≤ longestRecord
+longest c = rw (length-at _ (known c)) (row-le _ (known c))
+
+cast-bits : tie.Need-cast-bits Inv-loop μ-loop
+cast-bits c = search needs
+
+mul-bits : tie.Need-mul-bits Inv-loop μ-loop
+mul-bits c = search needs
+
+array-read-bits : tie.Need-array-read-bits Inv-loop μ-loop
+array-read-bits c = known c
+
+cast-bits-2 : tie.Need-cast-bits-2 Inv-loop μ-loop
+cast-bits-2 c = omega (arith, longest c)
 
 add-bits : tie.Need-add-bits Inv-loop μ-loop
 add-bits c = omega (arith, longest c)
@@ -82,7 +134,7 @@ loop-less c = omega arith
 
 loop-again : tie.Need-loop-again Inv-loop μ-loop
 loop-again c =
-    let after-record-at = c .before .before .before in
+    let after-record-at = c .before .before .before .before .before .before in
     let in-loop = after-record-at .before in
     let at-loop = in-loop .before in
     let start = at-loop .before .before in
@@ -92,8 +144,9 @@ loop-again c =
     let f : l .row < a .count = in-loop .loop-test .taken in (
       search needs,
       omega (arith, longest c),
-      survey-next (a .count) (l .row) (now (a .words)) (wordsOf (r .result)) (r .ensures) f (accepted c) ∙ l .inv .2,
-      omega (arith, c .row-length .ensures, size-next (a .count) (l .row) (now (a .words)) (wordsOf (r .result)) (r .ensures) f (accepted c), l .inv .3),
+      ap (λ (b : List ℕ). set b 0 (l .row + 1)) (l .inv .2),
+      survey-next (a .count) (l .row) (now (a .words)) (wordsOf (r .result)) (r .ensures) f (accepted c) ∙ l .inv .3,
+      omega (arith, length-at (r .result .kind) (known c), size-next (a .count) (l .row) (now (a .words)) (wordsOf (r .result)) (r .ensures) f (accepted c), l .inv .4),
     )
 
 byte-count-requires : tie.Need-byte-count-requires Inv-loop μ-loop
@@ -108,7 +161,7 @@ returns-2 c =
     let a = start .args in
     let l = at-loop .loop in
     let e : split (a .count - l .row) (drop (rowSize * l .row) (now (a .words))) ≡ [] = split-end (a .count) (l .row) (now (a .words)) (l .inv .0) (after-loop .loop-test .left) in
-    (sym (rw e at (l .inv .2)), omega (arith, c .byte-count .ensures, rw e at (l .inv .3)))
+    (sym (rw e at (l .inv .3)), omega (arith, c .byte-count .ensures, rw e at (l .inv .4)))
 
 pub survey-rows-spec : {M : Type 1} → statement M
 survey-rows-spec =
@@ -116,11 +169,21 @@ survey-rows-spec =
     (tie.spec
     Inv-loop
     μ-loop
+    array-write-bound
     loop-holds
+    cast-bound
+    array-write-bound-2
     record-at-requires
-    judge-requires
+    slice-aggregate-accepts
+    slice-aggregate-accepts-2
+    slice-aggregate-accepts-3
+    accepts-requires
+    why-requires
     returns
-    row-length-requires
+    cast-bits
+    mul-bits
+    array-read-bits
+    cast-bits-2
     add-bits
     add-row
     loop-less
