@@ -9,7 +9,7 @@ use native.Mathlib.Numerals.{add-one}
 use native.Mathlib.Omega.{arith}
 use lib.Dec.{eqb}
 use lib.ListN.{length, take, drop, length-append, replicate}
-use lib.Seq.{drop-append-add, drop-nil, take-nil}
+use lib.Seq.{drop-append-add, take-append-add, drop-nil, take-nil}
 use lib.Pow.{pow-add, shr-shr, mod-pow-add, mod-mod-pow, high, field as pow-field}
 use lib.Arith.{digits-lt}
 use Rattle.table.specs.Bits.{bit, toBits, fromBits, bits}
@@ -112,6 +112,15 @@ drop-bits (suc i) [] = drop-nil (8 * suc i)
 drop-bits (suc i) (x ∷ s) =
     let e : 8 * suc i ≡ length (toBits 8 x) + 8 * i = omega (arith, length-toBits 8 x) in
     rw (e, drop-append-add (toBits 8 x) (bits s) (8 * i)) (drop-bits i s)
+
+-- the bits of the first bytes
+pub take-bits : (i : ℕ) (s : List ℕ) → take (8 * i) (bits s) ≡ bits (take i s)
+unfolding bits
+take-bits zero s = refl
+take-bits (suc i) [] = take-nil (8 * suc i)
+take-bits (suc i) (x ∷ s) =
+    let e : 8 * suc i ≡ length (toBits 8 x) + 8 * i = omega (arith, length-toBits 8 x) in
+    rw (e, take-append-add (toBits 8 x) (bits s) (8 * i), take-bits i s)
 
 -- ---- parts of lists
 

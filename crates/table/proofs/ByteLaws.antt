@@ -5,10 +5,10 @@ use mathlib.Core.List.{List, [], _∷_, _++_, append-assoc}
 use Prim.Native.Nat.{ℕ, zero, suc, _+_, _-_, _*_, _<_, _≤_}
 use native.Mathlib.Omega.{arith}
 use lib.ListN.{length, getD, take, drop, replicate, length-append, length-drop, length-replicate, take-append-drop, replicate-append-replicate}
-use lib.Seq.{take-at, drop-at, take-nil, take-append-le, take-append-add, length-take-le}
+use lib.Seq.{take-at, drop-at, take-append-le, length-take-le}
 use Rattle.table.specs.Bits.{toBits, fromBits, bits, nextByte, bytesFrom, byteCount, bytes}
 use Rattle.table.specs.Private.Laid.{whole, fill, Begun}
-use Rattle.table.proofs.BitLaws.{length-toBits, from-to, to-from-at, take-append, drop-append}
+use Rattle.table.proofs.BitLaws.{length-toBits, from-to, to-from-at, take-bits, take-append, drop-append}
 
 -- ---- zero bits
 
@@ -67,15 +67,6 @@ each-below zero s h k = omega arith
 each-below (suc n) [] h k = omega arith
 each-below (suc n) (x ∷ s) h zero = h 0
 each-below (suc n) (x ∷ s) h (suc k) = each-below n s (λ j. h (suc j)) k
-
--- the bits of the first bytes
-pub take-bits : (i : ℕ) (s : List ℕ) → take (8 * i) (bits s) ≡ bits (take i s)
-unfolding bits
-take-bits zero s = refl
-take-bits (suc i) [] = take-nil (8 * suc i)
-take-bits (suc i) (x ∷ s) =
-    let e : 8 * suc i ≡ length (toBits 8 x) + 8 * i = omega (arith, length-toBits 8 x) in
-    rw (e, take-append-add (toBits 8 x) (bits s) (8 * i), take-bits i s)
 
 -- the bits of whole bytes
 bits-bytes : (n : ℕ) (bs : List Bool) → length bs ≡ 8 * n → bits (bytesFrom n bs) ≡ bs

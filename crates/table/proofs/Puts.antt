@@ -12,8 +12,8 @@ use lib.Arith.{digits-lt}
 use lib.Bits.{bitOr, or-shifted}
 use Rattle.table.specs.Bits.{toBits, bits, byteCount}
 use Rattle.table.specs.Private.Laid.{nineByte, nine, whole, fill, Begun, Put}
-use Rattle.table.proofs.BitLaws.{length-toBits, toBits-append, toBits-behind, toBits-low, zeros, bits-append, length-bits}
-use Rattle.table.proofs.ByteLaws.{take-zeros, take-bits}
+use Rattle.table.proofs.BitLaws.{length-toBits, toBits-append, toBits-behind, toBits-low, zeros, bits-append, length-bits, take-bits}
+use Rattle.table.proofs.ByteLaws.{take-zeros}
 
 -- ---- the number that is stored
 

@@ -1,25 +1,26 @@
 -- A field at a bit place is a part of eight bytes, shifted and masked. Assumes nothing.
-use mathlib.Core.Path.{_≡_, refl, sym, ap, _∙_}
+use mathlib.Core.Path.{_≡_, refl, sym, ap, ap₂, _∙_}
 use mathlib.Core.Bool.{Bool, true, false, _&&_}
-use mathlib.Core.List.{List, [], _∷_, _++_, append-assoc}
-use Prim.Native.Nat.{ℕ, zero, suc, _+_, _-_, _*_, _/_, _%_, _^_, _≤_, _<_}
-use native.Mathlib.Nat.{one-mul, mod-lt, mod-one, zero-lt-suc, lt-of-lt-of-le}
+use mathlib.Core.List.{List, [], _∷_, _++_, append-assoc, append-nil}
+use Prim.Native.Nat.{ℕ, _+_, _-_, _*_, _/_, _%_, _^_, _≤_, _<_}
+use native.Mathlib.Nat.{one-mul, lt-of-lt-of-le}
+use native.Mathlib.Numerals.{add-one}
 use native.Mathlib.Omega.{arith}
 use lib.Dec.{leb}
 use lib.Bits.{bitAnd, and-mask}
 use lib.ListN.{length, getD, take, drop, length-take, length-drop, take-append-drop}
-use lib.Seq.{drop-cons, drop-drop}
+use lib.Seq.{drop-drop, take-suc, take-take, getD-drop, length-take-le}
 use lib.Pow.{pow-pos, pow-mono, shl-exact, high, low}
 use borrow.Author.Tests.{le-leb, lt-leb, leb-true, leb-false}
 use Rattle.table.specs.declared.Cursor.{Cursor}
 use Rattle.table.specs.declared.Taking.the-variants.{Got, Short}
-use Rattle.table.specs.Bits.{toBits, fromBits, bits}
+use Rattle.table.specs.Bits.{toBits, fromBits, bits, byteCount}
 use Rattle.table.specs.Places.{takeAt, lastPlace, widest, FieldAt, takingParts}
 use Rattle.table.specs.Private.Laid.{window}
 use Rattle.table.specs.Answers.{good, refused, cutShort, unless}
 use Rattle.table.specs.Packed.{takeField}
 use Rattle.table.proofs.Tests.{and-right, not-good, good-inj, unless-good}
-use Rattle.table.proofs.BitLaws.{length-toBits, fromBits-append, fromBits-lt, from-to, length-bits, drop-bits, take-append, drop-take}
+use Rattle.table.proofs.BitLaws.{length-toBits, fromBits-append, fromBits-lt, from-to, bits-append, length-bits, drop-bits, take-bits, drop-take}
 
 -- ---- a field in the middle of bits, by division
 
@@ -40,90 +41,43 @@ divided bs at w r e =
 
 -- ---- eight bytes
 
--- the n bytes from i on, with 0 for each byte past the end
-run : List ℕ → ℕ → ℕ → List ℕ
-run s zero i = []
-run s (suc n) i = getD s i 0 ∷ run s n (suc i)
-
-length-run : (s : List ℕ) (n i : ℕ) → length (run s n i) ≡ n
-unfolding run
-length-run s zero i = refl
-length-run s (suc n) i = ap suc (length-run s n (suc i))
-
-run-bits : (s : List ℕ) (m i n : ℕ) → n ≤ 8 * m → n + 8 * i ≤ 8 * length s → take n (bits (run s m i)) ≡ take n (bits (drop i s))
-unfolding run bits
-run-bits s zero i zero h l = refl
-run-bits s zero i (suc n) h l = absurd (omega arith)
-run-bits s (suc m) i zero h l = refl
-run-bits s (suc m) i (suc n) h l =
-    let x = getD s i 0 in
-    rw (
-      drop-cons s i 0 (omega arith),
-      take-append (suc n) (toBits 8 x) (bits (run s m (suc i))),
-      take-append (suc n) (toBits 8 x) (bits (drop (suc i) s)),
-      length-toBits 8 x,
-      run-bits s m (suc i) (suc n - 8) (omega arith) (omega arith),
-    )
-
-joined-byte : (x : ℕ) (s : List ℕ) → x < 256 → fromBits (bits (x ∷ s)) ≡ x * 2 ^ (8 * length s) + fromBits (bits s)
+-- one byte more
+pub joined-more : (s : List ℕ) (i k : ℕ) → i + k < length s → getD s (i + k) 0 < 256
+    → fromBits (bits (take (k + 1) (drop i s))) ≡ fromBits (bits (take k (drop i s))) * 256 + getD s (i + k) 0
 unfolding bits
-joined-byte x s h = rw (fromBits-append (toBits 8 x) (bits s), from-to 8 h, length-bits s)
+joined-more s i k l h =
+    let b = getD s (i + k) 0 in
+    let below : k < length (drop i s) = omega (arith, length-drop i s) in
+    let e : take (k + 1) (drop i s) ≡ take k (drop i s) ++ (b ∷ []) =
+    ap (λ (n : ℕ). take n (drop i s)) (add-one k) ∙ take-suc (drop i s) k 0 below ∙ ap (λ (x : ℕ). take k (drop i s) ++ (x ∷ [])) (getD-drop i s k 0) in
+    ap (λ (x : List ℕ). fromBits (bits x)) e ∙ ap fromBits (bits-append (take k (drop i s)) (b ∷ []) ∙ ap (λ (x : List Bool). bits (take k (drop i s)) ++ x) (append-nil (toBits 8 b)))
+    ∙ fromBits-append (bits (take k (drop i s))) (toBits 8 b) ∙ ap₂ (λ (n x : ℕ). fromBits (bits (take k (drop i s))) * 2 ^ n + x) (length-toBits 8 b) (from-to 8 h)
 
-module _ (s : List ℕ) (bytes : (k : ℕ) → getD s k 0 < 256) where
-  window-run : (i : ℕ) → window s i ≡ fromBits (bits (run s 8 i))
-  unfolding run fromBits bits
-  window-run i =
-      let g : ℕ → ℕ = λ k. getD s k 0 in
-      let i1 : ℕ = suc i in
-      let i2 : ℕ = suc i1 in
-      let i3 : ℕ = suc i2 in
-      let i4 : ℕ = suc i3 in
-      let i5 : ℕ = suc i4 in
-      let i6 : ℕ = suc i5 in
-      let i7 : ℕ = suc i6 in
-      let e1 : i + 1 ≡ i1 = omega arith in
-      let e2 : i + 2 ≡ i2 = omega arith in
-      let e3 : i + 3 ≡ i3 = omega arith in
-      let e4 : i + 4 ≡ i4 = omega arith in
-      let e5 : i + 5 ≡ i5 = omega arith in
-      let e6 : i + 6 ≡ i6 = omega arith in
-      let e7 : i + 7 ≡ i7 = omega arith in
-      rw (
-        e1,
-        e2,
-        e3,
-        e4,
-        e5,
-        e6,
-        e7,
-        joined-byte (g i) (run s 7 i1) (bytes i),
-        joined-byte (g i1) (run s 6 i2) (bytes i1),
-        joined-byte (g i2) (run s 5 i3) (bytes i2),
-        joined-byte (g i3) (run s 4 i4) (bytes i3),
-        joined-byte (g i4) (run s 3 i5) (bytes i4),
-        joined-byte (g i5) (run s 2 i6) (bytes i5),
-        joined-byte (g i6) (run s 1 i7) (bytes i6),
-        joined-byte (g i7) [] (bytes i7),
-      ) (omega arith)
+-- before the eighth byte there is room for one more
+pub joined-lt : (s : List ℕ) (i k : ℕ) → k < 8 → fromBits (bits (take k (drop i s))) < 2 ^ 56
+joined-lt s i k h =
+    let l : length (bits (take k (drop i s))) ≤ 56 = rw (length-bits (take k (drop i s)), length-take k (drop i s)) (omega arith) in
+    lt-of-lt-of-le (fromBits-lt (bits (take k (drop i s)))) (pow-mono l)
 
-  in-run : (i o w : ℕ) → o + w ≤ 64 → o + w + 8 * i ≤ 8 * length s → take w (drop o (bits (run s 8 i))) ≡ take w (drop (8 * i + o) (bits s))
-  in-run i o w h l =
-      sym (drop-take o w (bits (run s 8 i))) ∙ ap (drop o) (run-bits s 8 i (o + w) h l) ∙ drop-take o w (bits (drop i s))
-      ∙ ap (λ (b : List Bool). take w (drop o b)) (sym (drop-bits i s)) ∙ ap (take w) (drop-drop o (8 * i) (bits s))
+-- a window's bits
+window-bits : (s : List ℕ) (n : ℕ) → bits (window s n) ≡ drop (8 * (n - 8)) (take (8 * n) (bits s))
+window-bits s n = sym (drop-bits (n - 8) (take n s)) ∙ ap (drop (8 * (n - 8))) (sym (take-bits n s))
 
-  -- what stands behind the field is 64 bits only where the field has none
-  pub window-field : (at w : ℕ) → w ≤ 56 → at + w ≤ 8 * length s
-      → window s (at / 8) / 2 ^ ((64 - at % 8 - w) % 64) % 2 ^ w ≡ fromBits (take w (drop at (bits s)))
-  unfolding fromBits
-  window-field at zero h l = mod-one (window s (at / 8) / 2 ^ ((64 - at % 8 - zero) % 64))
-  window-field at (suc v) h l =
-      let w : ℕ = suc v in
-      let o : ℕ = at % 8 in
-      let ho : o < 8 = mod-lt at (zero-lt-suc 7) in
-      let e : 8 * (at / 8) + o ≡ at = omega arith in
-      let past : (64 - o - w) % 64 ≡ 64 - o - w = omega arith in
-      let len : o + w + (64 - o - w) ≡ length (bits (run s 8 (at / 8))) = rw (length-bits (run s 8 (at / 8)), length-run s 8 (at / 8)) (omega arith) in
-      rw (past, window-run (at / 8), divided (bits (run s 8 (at / 8))) o w (64 - o - w) len, in-run (at / 8) o w (omega arith) (omega arith), e)
+-- a field is in the window that ends with its last byte
+pub window-field : (s : List ℕ) (at w n : ℕ) → w ≤ 56 → at + w ≤ 8 * length s → n ≡ byteCount (at + w)
+    → fromBits (bits (window s n)) / 2 ^ (8 * n - (at + w)) % 2 ^ w ≡ fromBits (take w (drop at (bits s)))
+window-field s at w n h l e =
+    let j : ℕ = 8 * (n - 8) in
+    let bs : List Bool = bits s in
+    let front : List Bool = take (8 * n) bs in
+    let len : at - j + w + (8 * n - (at + w)) ≡ length (drop j front) =
+    omega (arith, length-drop j front, length-take-le (8 * n) bs (omega (arith, length-bits s))) in
+    let there : j + (at - j) ≡ at = omega arith in
+    let whole : at + (8 * n - at) ≡ 8 * n = omega arith in
+    ap (λ (x : List Bool). fromBits x / 2 ^ (8 * n - (at + w)) % 2 ^ w) (window-bits s n) ∙ divided (drop j front) (at - j) w (8 * n - (at + w)) len
+    ∙ ap (λ (x : List Bool). fromBits (take w x))
+    (drop-drop (at - j) j front ∙ ap (λ (k : ℕ). drop k front) there ∙ ap (λ (k : ℕ). drop at (take k bs)) (sym whole) ∙ drop-take at (8 * n - at) bs)
+    ∙ ap fromBits (take-take w (8 * n - at) (drop at bs) (omega arith))
 
 -- ---- the code's mask
 

@@ -16,13 +16,6 @@ pub(crate) const KIND_WIDTH: u32 = 5;
 
 pub(crate) const FIRST_ROW: usize = 8;
 
-// The byte at i, and 0 past the end.
-fn byte_at(s: &[u8], i: usize) -> u64
-    ensures { λ r. ⌜ (r ≡ getD (now (s .entry)) i 0) × (r < 256) ⌝ }
-{
-    if i < s.len() { s[i] as u64 } else { 0 }
-}
-
 // Eight bits behind high.
 fn join(high: u64, low: u64) -> u64
     requires { ⌜ (high < 2 ^ 56) × (low < 2 ^ 8) ⌝ }
@@ -31,35 +24,29 @@ fn join(high: u64, low: u64) -> u64
     (high << 8) | low
 }
 
-// The eight bytes from i on.
-fn eight(s: &[u8], i: usize) -> u64
-    requires { ⌜ i + 8 ≤ length (now s) ⌝ }
-    ensures { λ r. ⌜ r ≡ window (now (s .entry)) i ⌝ }
+// The n bytes from i on as one number.
+fn joined(s: &[u8], i: usize, n: usize) -> u64
+    requires { ⌜ (n ≤ 8) × (i + n ≤ length (now s)) ⌝ }
+    ensures { λ r. ⌜ r ≡ fromBits (bits (take n (drop i (now (s .entry))))) ⌝ }
 {
-    let b = join(s[i] as u64, s[i + 1] as u64);
-    let c = join(b, s[i + 2] as u64);
-    let d = join(c, s[i + 3] as u64);
-    let e = join(d, s[i + 4] as u64);
-    let f = join(e, s[i + 5] as u64);
-    let g = join(f, s[i + 6] as u64);
-    join(g, s[i + 7] as u64)
+    let mut x: u64 = 0;
+    let mut k: usize = 0;
+    while k < n {
+        x = join(x, s[i + k] as u64);
+        k += 1;
+    }
+    x
 }
 
-// The eight bytes from i on, with 0 for each byte past the end.
-fn window_at(s: &[u8], i: usize) -> u64
-    requires { ⌜ i < 65536 ⌝ }
-    ensures { λ r. ⌜ r ≡ window (now (s .entry)) i ⌝ }
+// The last eight of the first n bytes as one number; all of them where there are fewer.
+fn window_to(s: &[u8], n: usize) -> u64
+    requires { ⌜ n ≤ length (now s) ⌝ }
+    ensures { λ r. ⌜ r ≡ fromBits (bits (window (now (s .entry)) n)) ⌝ }
 {
-    if i + 8 <= s.len() {
-        return eight(s, i);
+    if 8 <= n {
+        return joined(s, n - 8, 8);
     }
-    let b = join(byte_at(s, i), byte_at(s, i + 1));
-    let c = join(b, byte_at(s, i + 2));
-    let d = join(c, byte_at(s, i + 3));
-    let e = join(d, byte_at(s, i + 4));
-    let f = join(e, byte_at(s, i + 5));
-    let g = join(f, byte_at(s, i + 6));
-    join(g, byte_at(s, i + 7))
+    joined(s, 0, n)
 }
 
 // The w low bits of x.
@@ -75,8 +62,8 @@ pub(crate) fn number_at(s: &[u8], at: usize, w: usize) -> u64
     requires { ⌜ (at ≤ lastPlace) × (w ≤ 56) × (at + w ≤ 8 * length (now s)) ⌝ }
     ensures { λ r. ⌜ r ≡ fromBits (take w (drop at (bits (now (s .entry))))) ⌝ }
 {
-    let past = (64 - at % 8 - w) % 64;
-    low_bits(window_at(s, at / 8) >> past, w)
+    let end = byte_count(at + w);
+    low_bits(window_to(s, end) >> (8 * end - (at + w)), w)
 }
 
 // How many bytes n bits take.

@@ -6,11 +6,9 @@ use mathlib.Core.List.{List, [], _∷_, _++_}
 use lib.ListN.{length, getD, take, drop, replicate}
 use Rattle.table.specs.Bits.{bits, byteCount}
 
--- the eight bytes from i on as one number, with 0 for each byte past the end
-abbrev pub window : List ℕ → ℕ → ℕ
-window s i =
-    ((((((getD s i 0 * 256 + getD s (i + 1) 0) * 256 + getD s (i + 2) 0) * 256 + getD s (i + 3) 0) * 256 + getD s (i + 4) 0) * 256 + getD s (i + 5) 0) * 256
-    + getD s (i + 6) 0) * 256 + getD s (i + 7) 0
+-- the last eight of the first n bytes; all of them where there are fewer
+abbrev pub window : List ℕ → ℕ → List ℕ
+window s n = drop (n - 8) (take n s)
 
 -- a number as nine bytes, the first one highest
 abbrev pub nineByte : ℕ → ℕ → ℕ
