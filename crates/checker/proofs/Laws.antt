@@ -1,16 +1,17 @@
 -- Numbers and lists of words. Assumes nothing.
-use mathlib.Core.Path.{_≡_, sym, _∙_, ap, subst⁻¹}
+use mathlib.Core.Path.{_≡_, sym, _∙_, ap₂, subst⁻¹}
 use Prim.Native.Nat.{ℕ, suc, _+_, _*_, _^_, _≤_, _<_}
 use native.Mathlib.Nat.{mul-le-mul-left, mul-lt-mul-of-pos-right, lt-of-le-of-lt, le-of-lt}
 use native.Mathlib.Omega.{arith}
 use lib.Pow.{pow-pos, pow-add}
-use lib.ListN.{length, take, drop, set, getD, length-append, length-drop}
-use native.Mathlib.Numerals.{add-one}
-use lib.Seq.{sets-eq, getD-drop, length-take-le, drop-cons, take-suc, append-snoc, set-at}
+use lib.ListN.{length, take, drop, set, getD}
+use lib.Seq.{sets-eq, getD-drop}
 use mathlib.Core.List.{List, _++_, append-assoc}
+use mathlib.Core.Bool.{_&&_}
+use lib.Dec.{eqb}
 use Rattle.checker.specs.Answers.{clockSize}
 use Rattle.checker.specs.declared.Clock.{Clock as Kept}
-use Rattle.checker.specs.Private.Kept.{clockIn, words}
+use Rattle.checker.specs.Private.Kept.{clockIn, words, same}
 
 -- a product fits twice the width of its factors
 pub below : (k : ℕ) {a b : ℕ} → a < 2 ^ k → b < 2 ^ k → a * b < 2 ^ (k + k)
@@ -47,14 +48,10 @@ clock-read l i =
     let e : i ≡ i + 0 = omega arith in
     rw (getD-drop i l 0 0, getD-drop i l 1 0, getD-drop i l 2 0, getD-drop i l 3 0, getD-drop i l 4 0, getD-drop i l 5 0, getD-drop i l 6 0, ← e)
 
--- words that are copied one by one
-pub copy-length : (from to : List ℕ) (i : ℕ) → i ≤ length from → i ≤ length to → length (take i from ++ drop i to) ≡ length to
-copy-length from to i p q = length-append (take i from) (drop i to) ∙ omega (arith, length-take-le i from p, length-drop i to)
-
-pub copy-more : (from to : List ℕ) (i : ℕ) → i < length from → i < length to
-    → set (take i from ++ drop i to) i (getD from i 0) ≡ take (i + 1) from ++ drop (i + 1) to
-copy-more from to i p q =
-    rw (add-one i, drop-cons to i 0 q)
-    (set-at (take i from) (getD to i 0) (drop (suc i) to) (getD from i 0) i (length-take-le i from (omega arith))
-    ∙ sym (append-snoc (take i from) (getD from i 0) (drop (suc i) to))
-    ∙ ap (λ (l : List ℕ). l ++ drop (suc i) to) (sym (take-suc from i 0 p)))
+-- whether two clocks are equal by the words that are read
+pub same-read : (l : List ℕ) (a b : ℕ)
+    → same (clockIn (drop a l)) (clockIn (drop b l))
+    ≡ ((eqb (getD l a 0) (getD l b 0) && (eqb (getD l (a + 1) 0) (getD l (b + 1) 0) && eqb (getD l (a + 2) 0) (getD l (b + 2) 0)))
+    && (eqb (getD l (a + 3) 0) (getD l (b + 3) 0) && (eqb (getD l (a + 4) 0) (getD l (b + 4) 0) && (eqb (getD l (a + 5) 0) (getD l (b + 5) 0) && eqb (getD l (a + 6) 0) (getD l (b + 6) 0)))))
+unfolding same
+same-read l a b = sym (ap₂ same (clock-read l a) (clock-read l b))

@@ -1,7 +1,6 @@
 // The check: each flow's clock, or a refusal.
 mod rules;
 
-use rules::combined;
 use rules::condition;
 use rules::every;
 use rules::faster;
@@ -24,7 +23,7 @@ ghost use Rattle.table.specs.Rows.{badRegister, maxFlows};
 ghost use Rattle.table.specs.Plain.{rowWords, tableOf, rowsIn};
 ghost use Rattle.checker.specs.Rules.{clocksFrom, clocksOf};
 ghost use Rattle.checker.specs.Answers.{clockSize, checkAnswer, clocksAfter};
-ghost use Rattle.checker.specs.Private.Kept.{clockIn, words, rule, fitsIn, sourceIn, place, Assigned};
+ghost use Rattle.checker.specs.Private.Kept.{clockIn, words, same, combined, rule, fitsIn, sourceIn, place, Assigned};
 
 // A clock as the check keeps it: its words, of which the conditions that are not used are 0.
 struct Clock {
@@ -66,6 +65,58 @@ fn clock_at(kept: &[u32], f: u32) -> Clock
     }
 }
 
+// Whether the clocks whose words begin at a and at b are equal. A word is looked at only where those before it agree.
+fn same_words(kept: &[u32], a: usize, b: usize) -> bool
+    requires { ⌜ (a + clockSize ≤ length (now kept)) × (b + clockSize ≤ length (now kept)) ⌝ }
+    ensures { λ r. ⌜ r ≡ same (clockIn (drop a (now (kept .entry)))) (clockIn (drop b (now (kept .entry)))) ⌝ }
+{
+    if kept[a] != kept[b] {
+        return false;
+    }
+    if kept[a + 1] != kept[b + 1] {
+        return false;
+    }
+    if kept[a + 2] != kept[b + 2] {
+        return false;
+    }
+    if kept[a + 3] != kept[b + 3] {
+        return false;
+    }
+    if kept[a + 4] != kept[b + 4] {
+        return false;
+    }
+    if kept[a + 5] != kept[b + 5] {
+        return false;
+    }
+    kept[a + 6] == kept[b + 6]
+}
+
+// Whether the clocks kept of two flows are equal.
+fn same_at(kept: &[u32], f: u32, g: u32) -> bool
+    ensures { λ r. ⌜ r ≡ same (clockIn (drop (clockSize * f) (now (kept .entry)))) (clockIn (drop (clockSize * g) (now (kept .entry)))) ⌝ }
+{
+    let a = CLOCK_SIZE * (f as usize);
+    let b = CLOCK_SIZE * (g as usize);
+    if kept.len() < a + CLOCK_SIZE {
+        return same(clock_at(kept, f), clock_at(kept, g));
+    }
+    if kept.len() < b + CLOCK_SIZE {
+        return same(clock_at(kept, f), clock_at(kept, g));
+    }
+    same_words(kept, a, b)
+}
+
+// Kinds 2 to 6.
+fn combined(kept: &[u32], f: u32, g: u32) -> Verdict
+    ensures { λ r. ⌜ r ≡ combined (clockIn (drop (clockSize * f) (now (kept .entry)))) (clockIn (drop (clockSize * g) (now (kept .entry)))) ⌝ }
+{
+    if same_at(kept, f, g) {
+        Verdict::Is(clock_at(kept, f))
+    } else {
+        Verdict::Refused(table::CLOCKS_DIFFER)
+    }
+}
+
 // A row's clock from the clocks kept: one decision over the kind.
 fn rule(kind: u32, p: u32, q: u32, r: u32, kept: &[u32]) -> Verdict
     ensures { λ v. ⌜ v ≡ rule (λ (f : ℕ). clockIn (drop (clockSize * f) (now (kept .entry)))) kind p q r ⌝ }
@@ -73,7 +124,7 @@ fn rule(kind: u32, p: u32, q: u32, r: u32, kept: &[u32]) -> Verdict
     match kind {
         0 => Verdict::Is(every(p, q)),
         1 => Verdict::Is(every(q, r)),
-        2..=6 => combined(clock_at(kept, p), clock_at(kept, q)),
+        2..=6 => combined(kept, p, q),
         7 => Verdict::Is(clock_at(kept, q)),
         8 => faster(clock_at(kept, p), q, r),
         9 => slower(clock_at(kept, p), q),
@@ -170,18 +221,6 @@ fn judge(n: u32, words: &[u32], kept: &mut [u32]) -> Answer
     }
 }
 
-// Copies the first n words.
-fn copy(n: usize, from: &[u32], to: &mut [u32])
-    requires { ⌜ (n ≤ length (now from)) × (n ≤ length (now to)) ⌝ }
-    ensures { λ _. ⌜ now (to .exit) ≡ take n (now (from .entry)) ++ drop n (now (to .entry)) ⌝ }
-{
-    let mut i: usize = 0;
-    while i < n {
-        to[i] = from[i];
-        i += 1;
-    }
-}
-
 // The clocks of a table in plain form: their words flow after flow, or the first refusal, which leaves the buffer as it was.
 pub fn check(count: u32, words: &[u32], clocks: &mut [u32]) -> Answer
     ensures answered { λ r. ⌜ r ≡ checkAnswer count (now (words .entry)) (length (now (clocks .entry))) ⌝ }
@@ -200,6 +239,6 @@ pub fn check(count: u32, words: &[u32], clocks: &mut [u32]) -> Answer
     if answer.number != 0 {
         return answer;
     }
-    copy(size, &kept, clocks);
+    table::copy(size, &kept, clocks);
     answer
 }

@@ -8,7 +8,7 @@ use table::NOT_PLAIN;
 ghost use mathlib.Core.Path.{_≡_};
 ghost use Prim.Native.Nat.{_+_, _*_, _%_};
 ghost use Rattle.table.specs.Bits.{bit};
-ghost use Rattle.checker.specs.Private.Kept.{every, sameShape, same, limited, put, under, combined, faster, slower, later, head, tail, sampled, extends, merged};
+ghost use Rattle.checker.specs.Private.Kept.{every, sameShape, same, limited, put, under, faster, slower, later, head, tail, sampled, extends, merged};
 
 // The most that a derived period or phase may be.
 const MOST: u64 = 4095;
@@ -85,17 +85,6 @@ fn limited(period: u64, phase: u64) -> Verdict
         return Verdict::Refused(BEYOND_LIMITS);
     }
     Verdict::Is(every(period as u32, phase as u32))
-}
-
-// Kinds 2 to 6.
-pub fn combined(a: Clock, b: Clock) -> Verdict
-    ensures { λ r. ⌜ r ≡ combined a b ⌝ }
-{
-    if same(a, b) {
-        Verdict::Is(a)
-    } else {
-        Verdict::Refused(CLOCKS_DIFFER)
-    }
 }
 
 // Kind 8: k copies of a, g ticks apart.

@@ -1,15 +1,14 @@
 -- The test of a row by bounds: one comparison from below and one from above a field. Assumes nothing.
-use mathlib.Core.Path.{_≡_, refl, sym, _∙_, ap, ap₂}
+use mathlib.Core.Path.{_≡_, refl, sym, _∙_, ap}
 use mathlib.Core.Bool.{Bool, true, false, _&&_, false≢true}
 use Prim.Native.Nat.{ℕ, suc, _+_, _<_, _≤_}
 use native.Mathlib.Omega.{arith}
 use lib.Dec.{leb, ltb, eqb}
-use lib.ListN.{getD}
 use borrow.Author.Tests.{leb-true, ltb-true, le-leb, lt-ltb}
 use Rattle.table.specs.Answers.{number, unknownKind, outOfRange, misplaced}
 use Rattle.table.specs.Rows.{Field, operand, source, copies, period, ticks, value, unused, ranged, placed, each, Kind, kindAt, kindCount, maxFlows, Words, rowOf, fieldsOf}
 use Rattle.table.specs.Private.Codes.{bounds, bounded, verdict}
-use Rattle.table.proofs.Tests.{and-left, and-right, and-both, same-test}
+use Rattle.table.proofs.Tests.{and-right, and-both, same-test}
 use Rattle.table.proofs.Entries.{kind-there, kind-gone}
 
 -- ---- one field
@@ -41,7 +40,7 @@ bounded-range value x = ap (λ (b : Bool). leb 0 x && b) (below-or-at x 42949672
 bounded-range unused x = ap (λ (b : Bool). leb 0 x && b) (below-or-at x 0)
 
 -- the bounds of row f of m hold range and place
-pub bounded-both : (m f : ℕ) → m ≤ maxFlows → f ≤ maxFlows → (t : Field) (x : ℕ) → bounded (bounds m f) t x ≡ (ranged t x && placed m f t x)
+bounded-both : (m f : ℕ) → m ≤ maxFlows → f ≤ maxFlows → (t : Field) (x : ℕ) → bounded (bounds m f) t x ≡ (ranged t x && placed m f t x)
 unfolding ranged placed
 bounded-both m f hm hf operand x = below-both (leb 0 x) x f 63 hf
 bounded-both m f hm hf source x = below-both (leb 0 x) x m 63 hm

@@ -69,15 +69,6 @@ width-at unused = refl
 pub most-at : (n : ℕ) → n < 7 → getD mosts n 0 ≡ 2 ^ getD widths n 0 - 1
 most-at n h = tabled (λ n. 2 ^ getD widths n 0 - 1) mosts refl n h
 
-pub width-le : (t : Field) → width t ≤ 32
-width-le operand = omega arith
-width-le source = omega arith
-width-le copies = omega arith
-width-le period = omega arith
-width-le ticks = omega arith
-width-le value = omega arith
-width-le unused = omega arith
-
 pub code-lt : (t : Field) → code t < 7
 code-lt operand = omega arith
 code-lt source = omega arith
@@ -86,6 +77,14 @@ code-lt period = omega arith
 code-lt ticks = omega arith
 code-lt value = omega arith
 code-lt unused = omega arith
+
+-- a field by its number
+module _ (t : Field) (i : ℕ) (is : i ≡ code t) where
+  pub field-lt : i < 7
+  field-lt = rw is (code-lt t)
+
+  pub field-width : (l : List ℕ) → l ≡ widths → getD l i 0 ≡ width t
+  field-width l e = rw (e, is) (width-at t)
 
 -- The list by kind: the numbers of the three fields as digits to base 8.
 abbrev fieldCode : ℕ → ℕ → ℕ

@@ -1,12 +1,12 @@
 -- The constant list of record lengths is that of the definitions, by one computed test of all its entries. Assumes nothing.
 use mathlib.Core.Path.{_≡_, refl, sym, _∙_}
-use mathlib.Core.Bool.{Bool, true}
-use Prim.Native.Nat.{ℕ, _+_, _<_, _≤_}
+use mathlib.Core.Bool.{true}
+use Prim.Native.Nat.{ℕ, _<_, _≤_}
 use native.Mathlib.Omega.{arith}
 use lib.Dec.{eqb, leb}
 use lib.ListN.{length, getD, length-append}
 use borrow.Author.Tests.{leb-true}
-use Rattle.table.specs.Rows.{width, Kind, kinds, kindAt, kindCount, Words}
+use Rattle.table.specs.Rows.{Kind, kinds, kindAt, kindCount, Words}
 use Rattle.table.specs.Packed.{rowBits}
 use Rattle.table.specs.Places.{longestRecord}
 use Rattle.table.specs.Lengths.{rowLength, recordLengths, Lengths}

@@ -5,8 +5,8 @@ use mathlib.Core.List.{List, [], _∷_, _++_, append-assoc, append-nil}
 use Prim.Native.Nat.{ℕ, zero, suc, _+_, _-_, _*_, _/_, _%_, _^_, _≤_, _<_}
 use native.Mathlib.Nat.{add-zero, mul-assoc, mod-lt, mod-eq-of-lt}
 use native.Mathlib.Omega.{arith}
-use lib.ListN.{length, getD, take, drop, set, length-append, take-append-drop, replicate}
-use lib.Seq.{drop-cons, drop-drop, take-append-le, take-append-add, take-take, take-at, length-take-le, sets-eq, paste, length-paste, drop-paste}
+use lib.ListN.{length, getD, take, drop, length-append, take-append-drop, replicate}
+use lib.Seq.{drop-cons, drop-drop, take-append-le, take-append-add, take-take, take-at, length-take-le, paste, length-paste, drop-paste}
 use lib.Pow.{pow-pos, pow-add, shl-lt, shr-lt, shl-exact, shl-shr, shr-shr, split, high, low, mod-pow-add, mod-mod-pow}
 use lib.Arith.{digits-lt}
 use lib.Bits.{bitOr, or-shifted}
@@ -122,22 +122,6 @@ nine-at v (suc (suc (suc (suc (suc (suc zero)))))) h = refl
 nine-at v (suc (suc (suc (suc (suc (suc (suc zero))))))) h = refl
 nine-at v (suc (suc (suc (suc (suc (suc (suc (suc zero)))))))) h = refl
 nine-at v (suc (suc (suc (suc (suc (suc (suc (suc (suc k))))))))) h = absurd (omega arith)
-
--- nine bytes that are set one after the other
-pub nine-set : (out : List ℕ) (i v : ℕ) → i + 9 ≤ length out
-    → set (set (set (set (set (set (set (set (set out i (nineByte v 0)) (i + 1) (nineByte v 1)) (i + 2) (nineByte v 2)) (i + 3) (nineByte v 3)) (i + 4) (nineByte v 4))
-    (i + 5) (nineByte v 5)) (i + 6) (nineByte v 6)) (i + 7) (nineByte v 7)) (i + 8) (nineByte v 8)
-    ≡ take i out ++ (nine v ++ drop (i + 9) out)
-nine-set out i v h =
-    let e1 : i + 1 ≡ suc i = omega arith in
-    let e2 : i + 2 ≡ suc (suc i) = omega arith in
-    let e3 : i + 3 ≡ suc (suc (suc i)) = omega arith in
-    let e4 : i + 4 ≡ suc (suc (suc (suc i))) = omega arith in
-    let e5 : i + 5 ≡ suc (suc (suc (suc (suc i)))) = omega arith in
-    let e6 : i + 6 ≡ suc (suc (suc (suc (suc (suc i))))) = omega arith in
-    let e7 : i + 7 ≡ suc (suc (suc (suc (suc (suc (suc i)))))) = omega arith in
-    let e8 : i + 8 ≡ suc (suc (suc (suc (suc (suc (suc (suc i))))))) = omega arith in
-    rw (e1, e2, e3, e4, e5, e6, e7, e8) (sets-eq (nine v) out i h ∙ append-assoc (take i out) (nine v) (drop (i + 9) out))
 
 -- one byte more in front
 byte-more : (r v : ℕ) (s : List ℕ) → bits s ≡ toBits r v → bits (v / 2 ^ r % 256 ∷ s) ≡ toBits (8 + r) v

@@ -5,24 +5,24 @@ use mathlib.Core.List.{List}
 use Prim.Native.Nat.{ℕ, _+_, _-_, _/_, _%_, _^_, _<_, _≤_}
 use native.Mathlib.Decide.{decLt}
 use native.Mathlib.Omega.{arith}
-use lib.ListN.{length, getD, take, drop, length-take, length-drop}
+use lib.ListN.{length, take, drop, length-take, length-drop}
 use lib.Seq.{take-take, drop-drop}
 use borrow.Author.Tests.{le-leb, lt-leb}
 use Rattle.table.specs.declared.Cursor.{Cursor}
 use Rattle.table.specs.declared.Record.{Record}
 use Rattle.table.specs.declared.Taking.the-variants.{Got, Short}
 use Rattle.table.specs.Answers.{good, refused, cutShort, unknownKind, number}
-use Rattle.table.specs.Rows.{Field, width, Words, rowOf, Kind, kindAt, kindCount}
+use Rattle.table.specs.Rows.{width, Words, rowOf, Kind, kindAt, kindCount}
 use Rattle.table.specs.Plain.{wordsOf}
 use Rattle.table.specs.Bits.{fromBits}
 use Rattle.table.specs.Packed.{takeField, takeFields, takeRow, kindWidth}
 use Rattle.table.specs.Places.{takeAt, lastPlace, longestRecord, takingParts}
-use Rattle.table.specs.Lengths.{rowLength, recordLengths}
-use Rattle.table.specs.Private.Codes.{code, widths, fieldsIn}
+use Rattle.table.specs.Lengths.{rowLength}
+use Rattle.table.specs.Private.Codes.{fieldsIn}
 use Rattle.table.specs.Private.Steps.{Found, Missing}
 use Rattle.table.proofs.BitLaws.{drop-take}
-use Rattle.table.proofs.Entries.{kind-there, kind-gone, code-lt, width-at}
-use Rattle.table.proofs.Lengths.{length-at, row-le}
+use Rattle.table.proofs.Entries.{kind-there, kind-gone}
+use Rattle.table.proofs.Lengths.{row-le}
 use Rattle.table.proofs.Windows.{divided, Had, had, too-short}
 
 -- ---- fields in a row
@@ -94,14 +94,6 @@ together n x size bs s h e =
 
 -- ---- the code's lists
 
--- a field by its number
-module _ (t : Field) (i : ℕ) (is : i ≡ code t) where
-  pub field-lt : i < 7
-  field-lt = rw is (code-lt t)
-
-  pub field-width : (l : List ℕ) → l ≡ widths → getD l i 0 ≡ width t
-  field-width l e = rw (e, is) (width-at t)
-
 -- a row is not shorter than its kind
 pub row-ge : (n : ℕ) → kindWidth ≤ rowLength n
 unfolding rowLength
@@ -111,13 +103,6 @@ row-ge n = omega arith
 pub two-widths : (n : ℕ) → n < kindCount → width (kindAt n .three) + width (kindAt n .two) < 64
 unfolding rowLength
 two-widths n known = omega (arith, row-le n known)
-
-module _ (lengths : List ℕ) (are : lengths ≡ recordLengths) (n : ℕ) (known : n < kindCount) where
-  pub entry-there : n < length lengths
-  entry-there = omega (arith, ap length are)
-
-  pub entry-is : getD lengths n 0 ≡ rowLength n
-  entry-is = ap (λ (l : List ℕ). getD l n 0) are ∙ length-at n known
 
 -- ---- the row
 

@@ -3,7 +3,7 @@ use super::Cursor;
 use super::Taking;
 ghost use mathlib.Core.Path.{_≡_};
 ghost use Prim.Native.Nat.{_+_, _*_, _<_, _≤_, _^_, _%_};
-ghost use lib.ListN.{getD, length, take, drop};
+ghost use lib.ListN.{length, take, drop};
 ghost use mathlib.Core.List.{_++_};
 ghost use Rattle.table.specs.Bits.{bits, toBits, fromBits, byteCount};
 ghost use Rattle.table.specs.Places.{takingParts, takeAt, lastPlace, longestRecord};
@@ -93,24 +93,8 @@ fn byte_of(x: u64, y: u8, k: usize) -> u8
     ((x >> (56 - 8 * k)) % 256) as u8
 }
 
-// Stores the nine bytes from i on.
-fn store_nine(out: &mut [u8], i: usize, x: u64, y: u8)
-    requires { ⌜ i + 9 ≤ length (now out) ⌝ }
-    ensures { λ u. ⌜ now (out .exit) ≡ take i (now (out .entry)) ++ (nine (x * 256 + y) ++ drop (i + 9) (now (out .entry))) ⌝ }
-{
-    out[i] = byte_of(x, y, 0);
-    out[i + 1] = byte_of(x, y, 1);
-    out[i + 2] = byte_of(x, y, 2);
-    out[i + 3] = byte_of(x, y, 3);
-    out[i + 4] = byte_of(x, y, 4);
-    out[i + 5] = byte_of(x, y, 5);
-    out[i + 6] = byte_of(x, y, 6);
-    out[i + 7] = byte_of(x, y, 7);
-    out[i + 8] = byte_of(x, y, 8);
-}
-
-// Stores the first n of them.
-fn store_some(out: &mut [u8], i: usize, n: usize, x: u64, y: u8)
+// Stores the first n of the nine bytes from i on.
+fn store(out: &mut [u8], i: usize, n: usize, x: u64, y: u8)
     requires { ⌜ (n ≤ 9) × (i + n ≤ length (now out)) ⌝ }
     ensures { λ u. ⌜ now (out .exit) ≡ take i (now (out .entry)) ++ (take n (nine (x * 256 + y)) ++ drop (i + n) (now (out .entry))) ⌝ }
 {
@@ -158,6 +142,7 @@ impl Cursor {
         requires { ⌜ (self .at ≤ lastPlace) × (1 ≤ w) × (w ≤ longestRecord) × (v < 2 ^ w) × (self .at + w ≤ 8 * size) × (size ≤ length (now out)) ⌝ }
         ensures { λ r. ⌜ (r .at ≡ self .at + w) × Put size (self .at) (toBits w v) (now (out .entry)) (now (out .exit)) ⌝ }
     {
+        // The bits before the place and the number as nine bytes: eight in x, the last in y.
         let at = self.at;
         let i = at / 8;
         let before = (out[i] as u64) >> (8 - at % 8);
@@ -165,9 +150,9 @@ impl Cursor {
         let x = ((before << 1) << (63 - at % 8)) | (field >> (at % 8));
         let y = ((field << (8 - at % 8)) % 256) as u8;
         if i + 9 <= size {
-            store_nine(out, i, x, y);
+            store(out, i, 9, x, y);
         } else {
-            store_some(out, i, byte_count(at + w) - i, x, y);
+            store(out, i, byte_count(at + w) - i, x, y);
         }
         Cursor { at: at + w }
     }

@@ -8,6 +8,7 @@ use super::rows::LENGTH;
 use super::rows::MOST;
 use super::rows::WIDTH;
 use super::rows::field_of;
+use super::rows::length_of;
 ghost use mathlib.Core.Path.{_≡_};
 ghost use mathlib.Core.List.{_++_};
 ghost use Prim.Native.Nat.{_+_, _-_, _*_, _<_, _≤_, _^_, _%_};
@@ -58,7 +59,8 @@ pub(crate) fn put_table(count: u32, words: &[u32], out: &mut [u8], size: usize)
     while row < count {
         let r = record_at(words, row);
         let n = number_of(r, &fields, &most, &width);
-        cursor = cursor.put(out, size, lengths[r.kind as usize] as usize, n);
+        let w = length_of(r.kind, &lengths);
+        cursor = cursor.put(out, size, w, n);
         row += 1;
     }
 }

@@ -11,11 +11,12 @@ use super::rows::FIELDS;
 use super::rows::LEAST;
 use super::rows::LENGTH;
 use super::rows::accepts;
+use super::rows::length_of;
 use super::rows::why;
 ghost use mathlib.Core.Path.{_≡_};
 ghost use Prim.Native.Nat.{_+_, _*_, _<_, _≤_};
 ghost use lib.ListN.{length};
-ghost use Rattle.table.specs.Rows.{kindCount, maxFlows, rowSize};
+ghost use Rattle.table.specs.Rows.{maxFlows, rowSize};
 ghost use Rattle.table.specs.Answers.{answer};
 ghost use Rattle.table.specs.Plain.{split, rowsFrom, countFits, tableOf};
 ghost use Rattle.table.specs.Private.Codes.{told, Sized};
@@ -38,7 +39,7 @@ fn survey_rows(count: u32, words: &[u32]) -> Survey
         if !accepts(r, &fields, &least, &bound) {
             return Survey::Refused(why(r), row);
         }
-        bits += lengths[r.kind as usize] as usize;
+        bits += length_of(r.kind, &lengths);
         row += 1;
     }
     Survey::Fits(byte_count(bits))

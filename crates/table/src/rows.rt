@@ -1,5 +1,5 @@
-// The rows of a table: the constant lists by kind and by field, and the tests of a row. The lists are lent to whatever uses them, so that
-// they are laid down once a call.
+// The rows of a table: the constant lists by field and by kind, and the tests of a row. A constant list is laid down anew wherever it is
+// named: so the loops over rows name each list once, before they begin, and lend it.
 use super::KINDS;
 use super::MISPLACED;
 use super::OUT_OF_RANGE;
@@ -10,6 +10,7 @@ ghost use Prim.Native.Nat.{_<_};
 ghost use lib.ListN.{getD, length};
 ghost use Rattle.table.specs.Rows.{unused, each, kindAt, kindCount};
 ghost use Rattle.table.specs.Plain.{wordsOf};
+ghost use Rattle.table.specs.Lengths.{rowLength, recordLengths};
 ghost use Rattle.table.specs.Private.Codes.{code, fieldList, kindFields, leasts, bounded, Within, Accepted, Fault};
 
 const OPERAND: u32 = 0;
@@ -75,6 +76,14 @@ pub(crate) const FIELDS: [u32; KINDS as usize] = [
     OPERAND + 8 * OPERAND + 64 * UNUSED, // when-not
     OPERAND + 8 * OPERAND + 64 * OPERAND, // merge
 ];
+
+// The bits of a row of a known kind in packed form.
+pub(crate) fn length_of(kind: u32, lengths: &[u32]) -> usize
+    requires { ⌜ (kind < kindCount) × (now lengths ≡ recordLengths) ⌝ }
+    ensures { λ r. ⌜ r ≡ rowLength kind ⌝ }
+{
+    lengths[kind as usize] as usize
+}
 
 // The field of a known kind at a place.
 pub(crate) fn field_of(kind: u32, place: usize, fields: &[u32]) -> usize

@@ -27,6 +27,7 @@ use super::rows::MOST;
 use super::rows::WIDTH;
 use super::rows::accepts;
 use super::rows::field_of;
+use super::rows::length_of;
 use super::rows::why;
 ghost use mathlib.Core.Path.{_≡_};
 ghost use mathlib.Core.List.{_++_};
@@ -78,7 +79,7 @@ impl Cursor {
         if KINDS <= kind {
             return Step::Refused(UNKNOWN_KIND);
         }
-        let end = self.at + (lengths[kind as usize] as usize);
+        let end = self.at + length_of(kind, lengths);
         if s.len() < byte_count(end) {
             return Step::Refused(CUT_SHORT);
         }

@@ -1,11 +1,16 @@
 -- `checker::check` meets its contract. Assumes nothing.
+use mathlib.Core.Bool.{true}
 use mathlib.Core.List.{List}
 use mathlib.Core.Path.{_≡_, sym, _∙_, ap}
+use Prim.Native.Nat.{_*_}
 use native.Mathlib.Omega.{arith}
+use lib.Dec.{leb}
 use lib.ListN.{length}
 use denote.Ref.{now}
+use borrow.Author.Tests.{le-leb}
 use borrow.Author.Needs.{needs}
 use Rattle.checker.specs.Rules.{clocksOf}
+use Rattle.checker.specs.Answers.{clockSize}
 use Rattle.table.proofs.Tables.{table-made}
 use Rattle.table.specs.Answers.{good, answer, noRoom}
 use Rattle.table.specs.Rows.{Row}
@@ -93,20 +98,7 @@ slice-aggregate-copy : tie.Need-slice-aggregate-copy
 slice-aggregate-copy c = search needs
 
 copy-requires : tie.Need-copy-requires
-copy-requires c κs =
-    let after-judge = c .before .before .before .before .before in
-    let else2 = after-judge .before .before in
-    let else1 = else2 .before in
-    let after-examine = else1 .before .before in
-    let start = after-examine .before .before .before in
-    let a = start .args in
-    let ws = now (a .words) in
-    let old = now (a .clocks) in
-    let x = after-examine .examine in
-    let z = answer-zero length (tableOf (a .count) ws) (ap (λ w. w .number) (sym (x .ensures)) ∙ else1 .if1 .left) in
-    let g : tableOf (a .count) ws ≡ good (rowsIn (tableOf (a .count) ws)) = rows-good (a .count) ws (z .0) (z .1) in
-    let t = table-made (a .count) ws (rowsIn (tableOf (a .count) ws)) g in
-    (omega (arith, t .few, after-judge .judge .kept .1 .1 .0), else2 .if2 .left)
+copy-requires c κs = search needs
 
 same-length : tie.Need-same-length
 same-length c = search needs
@@ -131,7 +123,10 @@ returns-4 c =
     let rows : List Row = rowsIn (tableOf (a .count) ws) in
     let y = answer-zero length (clocksOf rows) (ap (λ w. w .number) (sym (j .ensures .0)) ∙ else3 .if3 .left) in
     let w = check-clocks (a .count) ws (length old) g (else2 .if2 .left) in
-    (j .ensures .0 ∙ ap (answer length) (sym w), whole-copied (a .count) ws old _ _ _ rows (y .0) t (y .1) w (j .ensures .1 (y .0) (y .1) .0) (after-copy .copy .ensures))
+    let n = clockSize * a .count in
+    let here : leb n (length (j .last .1 .1 .0)) ≡ true = le-leb n (length (j .last .1 .1 .0)) (omega (arith, t .few, j .kept .1 .1 .0)) in
+    let there : leb n (length old) ≡ true = le-leb n (length old) (else2 .if2 .left) in
+    (j .ensures .0 ∙ ap (answer length) (sym w), whole-copied (a .count) ws old _ _ _ rows (y .0) t (y .1) w (j .ensures .1 (y .0) (y .1) .0) (rw (here, there) at (after-copy .copy .ensures)))
 
 pub check-spec : {M : Type 1} → statement M
 check-spec =

@@ -83,12 +83,6 @@ clock-at-requires-13 c κs = search needs
 merged-requires : tie.Need-merged-requires
 merged-requires c κs = search needs
 
-clock-at-requires-14 : tie.Need-clock-at-requires-14
-clock-at-requires-14 c κs = search needs
-
-clock-at-requires-15 : tie.Need-clock-at-requires-15
-clock-at-requires-15 c κs = search needs
-
 combined-requires : tie.Need-combined-requires
 combined-requires c κs = search needs
 
@@ -153,17 +147,13 @@ returns-11 c =
 
 returns-12 : tie.Need-returns-12
 returns-12 c =
-    let after-clock-at15 = c .before in
-    let after-clock-at14 = after-clock-at15 .before in
-    let at-match-rest = after-clock-at14 .before .before in
+    let at-match-rest = c .before .before in
     let start = at-match-rest .before .before in
     let a = start .args in
     let n = at-match-rest .match .rest in
     rw (
       rule-combine _ (a .kind) (a .p) (a .q) (a .r) (n .0 .0 .0 .0 .0 .0 .0 .0 .0 .0 .1) (n .0 .0 .0 .0 .0 .0 .0 .0 .0 .1) (omega arith),
       c .combined .ensures,
-      after-clock-at15 .clock-at15 .ensures,
-      after-clock-at14 .clock-at14 .ensures,
     )
 
 returns-13 : tie.Need-returns-13
@@ -205,8 +195,6 @@ rule-spec =
     clock-at-requires-12
     clock-at-requires-13
     merged-requires
-    clock-at-requires-14
-    clock-at-requires-15
     combined-requires
     returns
     returns-2

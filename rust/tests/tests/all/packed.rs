@@ -88,3 +88,41 @@ fn every_cut_and_every_bit() {
     }
     assert!(tally.count("read", 16) > 0, "{tally}");
 }
+
+/// The bits of a packed row, kinds 0 to 15.
+const LENGTHS: [usize; 16] = [29, 61, 17, 17, 17, 17, 17, 49, 29, 17, 23, 55, 11, 17, 17, 23];
+
+/// A row of each kind behind 0 to 15 inputs, that is at each place of a byte, within the first eight bytes and past
+/// them; every field with each number next to a limit of some field. What is accepted has the length of its kind, is
+/// read back, and does not go into a byte less.
+#[test]
+fn every_kind_at_every_place() {
+    let mut rng = Rng::new(14);
+    let mut tally = Tally::default();
+    let mut accepted = [0; 16];
+    let numbers = [0, 1, 63, 64, 4095, 4096, u32::MAX];
+    for (kind, inputs) in (0..16).flat_map(|kind| (0..16).map(move |inputs| (kind, inputs))) {
+        for choice in 0..numbers.len().pow(3) {
+            let field = |place: u32| numbers[choice / numbers.len().pow(place) % numbers.len()];
+            let mut rows = vec![[0, 4095, 4095, 0]; inputs];
+            rows.push([kind as u32, field(0), field(1), field(2)]);
+            let plan = Plan::of(&rows);
+            let written = write(&ALL, &plan, 520);
+            tally.add("write", written.parts.0);
+            if written.parts.0 != 0 {
+                assert_eq!(written.parts.1, inputs as u32, "the row itself is refused: {plan:?}");
+                assert!(written.is_untouched());
+                continue;
+            }
+            let bytes = (8 + LENGTHS[0] * inputs + LENGTHS[kind]).div_ceil(8);
+            assert_eq!(written.parts.3 as usize, bytes, "{plan:?}");
+            assert_eq!(write(&ALL, &plan, bytes - 1).parts, (10, 0, 0, 0));
+            read_and_back(&mut rng, &ALL, &written.bytes[..bytes], &mut tally);
+            accepted[kind] += 1;
+        }
+    }
+    assert!(accepted.iter().all(|&plans| plans >= 15), "each kind is accepted at each place: {accepted:?}");
+    for number in [14, 15] {
+        assert!(tally.count("write", number) > 0, "number {number} occurs: {tally}");
+    }
+}

@@ -54,8 +54,8 @@ cast-y c = search needs
 add-if1 : tie.Need-add-if1
 add-if1 c = search needs
 
-store-nine-requires : tie.Need-store-nine-requires
-store-nine-requires c κs = search needs
+store-requires : tie.Need-store-requires
+store-requires c κs = search needs
 
 add-byte-count : tie.Need-add-byte-count
 add-byte-count c = search needs
@@ -63,11 +63,11 @@ add-byte-count c = search needs
 byte-count-requires : tie.Need-byte-count-requires
 byte-count-requires c κs = search needs
 
-sub-store-some : tie.Need-sub-store-some
-sub-store-some c = search needs
+sub-store : tie.Need-sub-store
+sub-store c = search needs
 
-store-some-requires : tie.Need-store-some-requires
-store-some-requires c κs = search needs
+store-requires-2 : tie.Need-store-requires-2
+store-requires-2 c κs = search needs
 
 add-t16 : tie.Need-add-t16
 add-t16 c = search needs
@@ -89,7 +89,7 @@ returns c =
       refl,
       ⊎-elim
           (λ w. put-law (a .size) at (a .w) (a .v) 9 out (p .3) (p .4) (p .5) (omega arith) (omega arith) (omega (arith, w .0 .taken)) (c .if1 .out)
-          (w .5 ∙ w .2 .ensures ∙ ap (λ (v : ℕ). take i out ++ (nine v ++ drop (i + 9) out)) e))
+          (w .5 ∙ w .2 .ensures ∙ ap (λ (v : ℕ). take i out ++ (take 9 (nine v) ++ drop (i + 9) out)) e))
           (λ w.
           let n = w .2 .result - i in
           let end = w .2 .ensures in
@@ -115,11 +115,11 @@ put-spec =
     shl-y
     cast-y
     add-if1
-    store-nine-requires
+    store-requires
     add-byte-count
     byte-count-requires
-    sub-store-some
-    store-some-requires
+    sub-store
+    store-requires-2
     add-t16
     same-length
     returns)

@@ -12,7 +12,7 @@ use Rattle.table.specs.Places.{longestRecord}
 use Rattle.table.specs.Lengths.{rowLength}
 use Rattle.table.specs.Private.Laid.{Put}
 use Rattle.table.proofs.BitLaws.{length-toBits}
-use Rattle.table.proofs.Lengths.{length-at, row-le}
+use Rattle.table.proofs.Lengths.{row-le}
 use Rattle.table.proofs.Puts.{put-put, put-first}
 use Rattle.table.proofs.WriteLaws.{Putting, putting-starts, putting-ends, known-row, room-row, putting-goes}
 use borrow.Author.Needs.{needs}
@@ -76,36 +76,23 @@ number-of-requires c κs =
     let k = known-row (l .inv .3) w (r .ensures) (in-loop .loop-test .taken) in
     (k, refl, refl, refl)
 
-cast-put-2 : tie.Need-cast-put-2 Inv-loop μ-loop
-cast-put-2 c = search needs
+slice-aggregate-length-of : tie.Need-slice-aggregate-length-of Inv-loop μ-loop
+slice-aggregate-length-of c = search needs
 
-mul-put : tie.Need-mul-put Inv-loop μ-loop
-mul-put c = search needs
-
-array-read-put : tie.Need-array-read-put Inv-loop μ-loop
-array-read-put c =
-    let after-record-at = c .before .before .before .before .before .before in
+length-of-requires : tie.Need-length-of-requires Inv-loop μ-loop
+length-of-requires c κs =
+    let after-record-at = c .before .before .before .before .before in
     let in-loop = after-record-at .before in
     let l = in-loop .before .loop in
     let r = after-record-at .record-at in
-    let w = wordsOf (r .result) in
-    let k = known-row (l .inv .3) w (r .ensures) (in-loop .loop-test .taken) in
-    omega (arith, k)
-
-cast-put-3 : tie.Need-cast-put-3 Inv-loop μ-loop
-cast-put-3 c =
-    let after-record-at = c .before .before .before .before .before .before in
-    let in-loop = after-record-at .before in
-    let l = in-loop .before .loop in
-    let r = after-record-at .record-at in
-    let w = wordsOf (r .result) in
-    let k = known-row (l .inv .3) w (r .ensures) (in-loop .loop-test .taken) in
-    omega (arith, length-at (w .kind) k, row-le (w .kind) k)
+    (known-row (l .inv .3) (wordsOf (r .result)) (r .ensures) (in-loop .loop-test .taken), refl)
 
 put-requires-2 : tie.Need-put-requires-2 Inv-loop μ-loop
 unfolding rowLength
 put-requires-2 c κs =
-    let after-record-at = c .before .before .before .before .before .before in
+    let after-length-of = c .before in
+    let after-number-of = after-length-of .before .before in
+    let after-record-at = after-number-of .before .before .before .before in
     let in-loop = after-record-at .before in
     let l = in-loop .before .loop in
     let r = after-record-at .record-at in
@@ -114,20 +101,20 @@ put-requires-2 c κs =
     let after-put = in-loop .before .before .before .before in
     let start = after-put .before .before .before .before .before in
     let p = start .pre in
-    let e = length-at (w .kind) k in
+    let e = after-length-of .length-of .ensures in
     let q = after-put .put in
     let room = room-row (l .inv .3) w (r .ensures) (in-loop .loop-test .taken) (p .1) in (
       omega (arith, l .inv .1, p .0 .few, in-loop .loop-test .taken),
       omega (arith, e),
       omega (arith, e, row-le (w .kind) k),
-      rw e (c .before .before .number-of .ensures .0),
+      rw e (after-number-of .number-of .ensures .0),
       omega (arith, e, room),
       omega (arith, p .2, q .kept .1 .0, l .inv .2),
     )
 
 add-row : tie.Need-add-row Inv-loop μ-loop
 add-row c =
-    let in-loop = c .before .before .before .before .before .before .before .before .before .before in
+    let in-loop = c .before .before .before .before .before .before .before .before .before .before .before in
     omega (arith, in-loop .loop-test .taken)
 
 loop-less : tie.Need-loop-less Inv-loop μ-loop
@@ -135,15 +122,18 @@ loop-less c = omega arith
 
 loop-again : tie.Need-loop-again Inv-loop μ-loop
 loop-again c =
-    let after-record-at = c .before .before .before .before .before .before .before .before .before in
+    let after-put2 = c .before .before in
+    let after-length-of = after-put2 .before .before in
+    let after-number-of = after-length-of .before .before in
+    let after-record-at = after-number-of .before .before .before .before in
     let in-loop = after-record-at .before in
     let l = in-loop .before .loop in
     let r = after-record-at .record-at in
     let w = wordsOf (r .result) in
     let k = known-row (l .inv .3) w (r .ensures) (in-loop .loop-test .taken) in
-    let n = c .before .before .before .before .before .number-of in
-    let t = c .before .before .put2 in
-    let e = length-at (w .kind) k in
+    let n = after-number-of .number-of in
+    let t = after-put2 .put2 in
+    let e = after-length-of .length-of .ensures in
     let size = in-loop .before .before .before .before .before .before .before .before .before .args .size in (
       search needs,
       omega (arith, l .inv .1, t .ensures .0, e, row-le (w .kind) k),
@@ -187,10 +177,8 @@ put-table-spec =
     slice-aggregate-number-of-2
     slice-aggregate-number-of-3
     number-of-requires
-    cast-put-2
-    mul-put
-    array-read-put
-    cast-put-3
+    slice-aggregate-length-of
+    length-of-requires
     put-requires-2
     add-row
     loop-less

@@ -6,7 +6,7 @@ use native.Mathlib.Nat.{sub-zero}
 use native.Mathlib.Omega.{arith}
 use denote.Ref.{now}
 use lib.Dec.{eqb}
-use lib.ListN.{length, drop, set, getD}
+use lib.ListN.{length, drop, set}
 use borrow.Author.Tests.{eqb-true, not-true, not-false}
 use borrow.Author.Needs.{needs}
 use Rattle.table.specs.Answers.{answer}
@@ -14,10 +14,9 @@ use Rattle.table.specs.Rows.{rowOf, rowSize, kindCount}
 use Rattle.table.specs.Plain.{split, rowsFrom, wordsOf}
 use Rattle.table.specs.Packed.{rowsBits}
 use Rattle.table.specs.Places.{longestRecord}
-use Rattle.table.specs.Lengths.{recordLengths}
 use Rattle.table.specs.Private.Codes.{bounds, verdict}
 use Rattle.table.proofs.Accepting.{not-zero}
-use Rattle.table.proofs.Lengths.{length-at, row-le}
+use Rattle.table.proofs.Lengths.{row-le}
 use Rattle.table.proofs.Records.{kind-lt, survey-stop, survey-next, size-next, split-end}
 use Rattle.table.proofs.plain.survey_rows.Statement.{statement}
 use Rattle.table.proofs.plain.survey_rows.Tie as tie
@@ -91,40 +90,28 @@ returns c =
       tt,
     )
 
-accepted : (c : tie.After-struct-known Inv-loop μ-loop) → (
-    let after-record-at = c .before .before .before .before .before .before in
+accepted : (c : tie.Else1 Inv-loop μ-loop) → (
+    let after-record-at = c .before .before .before .before .before in
     let at-loop = after-record-at .before .before in
     let start = at-loop .before .before in
     verdict (rowOf (start .args .count) (at-loop .loop .row) (wordsOf (after-record-at .record-at .result))) ≡ 0)
-accepted c =
-    let else1 = c .before in
-    let after-accepts = else1 .before in
-    eqb-true _ 0 (sym (tells after-accepts) ∙ not-false (after-accepts .accepts .result) (else1 .if1 .left))
+accepted c = eqb-true _ 0 (sym (tells (c .before)) ∙ not-false (c .before .accepts .result) (c .if1 .left))
 
-known : (c : tie.After-struct-known Inv-loop μ-loop) → c .before .before .before .before .before .before .record-at .result .kind < kindCount
+known : (c : tie.Else1 Inv-loop μ-loop) → c .before .before .before .before .before .record-at .result .kind < kindCount
 known c =
-    let after-record-at = c .before .before .before .before .before .before in
+    let after-record-at = c .before .before .before .before .before in
     let at-loop = after-record-at .before .before in
     let start = at-loop .before .before in
     kind-lt (start .args .count) (at-loop .loop .row) (wordsOf (after-record-at .record-at .result)) (accepted c)
 
-longest : (c : tie.After-struct-known Inv-loop μ-loop) → getD recordLengths (c .before .before .before .before .before .before .record-at .result .kind) 0 ≤ longestRecord
-longest c = rw (length-at _ (known c)) (row-le _ (known c))
+slice-aggregate-length-of : tie.Need-slice-aggregate-length-of Inv-loop μ-loop
+slice-aggregate-length-of c = search needs
 
-cast-bits : tie.Need-cast-bits Inv-loop μ-loop
-cast-bits c = search needs
-
-mul-bits : tie.Need-mul-bits Inv-loop μ-loop
-mul-bits c = search needs
-
-array-read-bits : tie.Need-array-read-bits Inv-loop μ-loop
-array-read-bits c = known c
-
-cast-bits-2 : tie.Need-cast-bits-2 Inv-loop μ-loop
-cast-bits-2 c = omega (arith, longest c)
+length-of-requires : tie.Need-length-of-requires Inv-loop μ-loop
+length-of-requires c κs = (known (c .before), refl)
 
 add-bits : tie.Need-add-bits Inv-loop μ-loop
-add-bits c = omega (arith, longest c)
+add-bits c = omega (arith, c .length-of .ensures, row-le _ (known (c .before .before)))
 
 add-row : tie.Need-add-row Inv-loop μ-loop
 add-row c = omega arith
@@ -134,19 +121,21 @@ loop-less c = omega arith
 
 loop-again : tie.Need-loop-again Inv-loop μ-loop
 loop-again c =
-    let after-record-at = c .before .before .before .before .before .before in
+    let else1 = c .before .before in
+    let after-record-at = else1 .before .before .before .before .before in
     let in-loop = after-record-at .before in
     let at-loop = in-loop .before in
     let start = at-loop .before .before in
     let a = start .args in
     let l = at-loop .loop in
     let r = after-record-at .record-at in
-    let f : l .row < a .count = in-loop .loop-test .taken in (
+    let f : l .row < a .count = in-loop .loop-test .taken in
+    let n = c .length-of .ensures in (
       search needs,
-      omega (arith, longest c),
+      omega (arith, n, row-le _ (known else1)),
       ap (λ (b : List ℕ). set b 0 (l .row + 1)) (l .inv .2),
-      survey-next (a .count) (l .row) (now (a .words)) (wordsOf (r .result)) (r .ensures) f (accepted c) ∙ l .inv .3,
-      omega (arith, length-at (r .result .kind) (known c), size-next (a .count) (l .row) (now (a .words)) (wordsOf (r .result)) (r .ensures) f (accepted c), l .inv .4),
+      survey-next (a .count) (l .row) (now (a .words)) (wordsOf (r .result)) (r .ensures) f (accepted else1) ∙ l .inv .3,
+      omega (arith, n, size-next (a .count) (l .row) (now (a .words)) (wordsOf (r .result)) (r .ensures) f (accepted else1), l .inv .4),
     )
 
 byte-count-requires : tie.Need-byte-count-requires Inv-loop μ-loop
@@ -180,10 +169,8 @@ survey-rows-spec =
     accepts-requires
     why-requires
     returns
-    cast-bits
-    mul-bits
-    array-read-bits
-    cast-bits-2
+    slice-aggregate-length-of
+    length-of-requires
     add-bits
     add-row
     loop-less

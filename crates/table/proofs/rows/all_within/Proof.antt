@@ -1,15 +1,9 @@
 -- `table::rows::all_within` meets its contract. Assumes nothing.
-use mathlib.Core.Path.{_≡_, sym, _∙_, ap}
-use Prim.Native.Nat.{ℕ, _<_}
-use Rattle.table.specs.Rows.{Field, kindAt}
-use Rattle.table.specs.Private.Codes.{code}
-use Rattle.table.proofs.Entries.{code-lt}
+use Rattle.table.specs.Rows.{kindAt}
+use Rattle.table.proofs.Entries.{field-lt}
 use borrow.Author.Needs.{needs}
 use Rattle.table.proofs.rows.all_within.Statement.{statement}
 use Rattle.table.proofs.rows.all_within.Tie as tie
-
-a-field : (n : ℕ) (t : Field) → n ≡ code t → n < 7
-a-field n t e = rw e (code-lt t)
 
 field-of-requires : tie.Need-field-of-requires
 field-of-requires c κs = search needs
@@ -18,7 +12,7 @@ within-requires : tie.Need-within-requires
 within-requires c κs =
     let start = c .before .before .before .before in
     let p = start .pre in
-    (a-field (c .field-of .result) (kindAt (start .args .r .kind) .one) (c .field-of .ensures), p .2, p .3)
+    (field-lt (kindAt (start .args .r .kind) .one) (c .field-of .result) (c .field-of .ensures), p .2, p .3)
 
 field-of-requires-2 : tie.Need-field-of-requires-2
 field-of-requires-2 c κs = search needs
@@ -27,7 +21,7 @@ within-requires-2 : tie.Need-within-requires-2
 within-requires-2 c κs =
     let start = c .before .before .before .before .before .before .before in
     let p = start .pre in
-    (a-field (c .field-of2 .result) (kindAt (start .args .r .kind) .two) (c .field-of2 .ensures), p .2, p .3)
+    (field-lt (kindAt (start .args .r .kind) .two) (c .field-of2 .result) (c .field-of2 .ensures), p .2, p .3)
 
 field-of-requires-3 : tie.Need-field-of-requires-3
 field-of-requires-3 c κs = search needs
@@ -36,7 +30,7 @@ within-requires-3 : tie.Need-within-requires-3
 within-requires-3 c κs =
     let start = c .before .before .before .before .before .before .before .before .before .before in
     let p = start .pre in
-    (a-field (c .field-of3 .result) (kindAt (start .args .r .kind) .three) (c .field-of3 .ensures), p .2, p .3)
+    (field-lt (kindAt (start .args .r .kind) .three) (c .field-of3 .result) (c .field-of3 .ensures), p .2, p .3)
 
 returns : tie.Need-returns
 returns c =

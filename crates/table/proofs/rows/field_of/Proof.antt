@@ -4,7 +4,6 @@ use native.Mathlib.Omega.{arith}
 use Prim.Native.Nat.{ℕ, _*_, _/_, _%_, _^_}
 use mathlib.Core.List.{List}
 use lib.ListN.{length, getD}
-use denote.Ref.{now}
 use Rattle.table.proofs.Entries.{field-is}
 use borrow.Author.Needs.{needs}
 use Rattle.table.proofs.rows.field_of.Statement.{statement}

@@ -1,7 +1,6 @@
 -- `table::rows::why` meets its contract. Assumes nothing.
-use mathlib.Core.Path.{_≡_, sym, _∙_}
-use mathlib.Core.Bool.{true, false}
-use Rattle.table.specs.Rows.{each, ranged, kindAt, maxFlows}
+use mathlib.Core.Path.{sym, _∙_}
+use Rattle.table.specs.Rows.{ranged, kindAt, maxFlows}
 use Rattle.table.specs.Plain.{wordsOf}
 use Rattle.table.specs.Private.Codes.{bounds, bounded}
 use Rattle.table.proofs.Accepting.{unknown, out, must-be-off, each-same, bounded-range}

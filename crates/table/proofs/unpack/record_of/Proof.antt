@@ -6,7 +6,8 @@ use lib.ListN.{length}
 use denote.Ref.{now}
 use Rattle.table.specs.Rows.{width, Kind, kindAt}
 use Rattle.table.specs.Private.Codes.{widths, fieldsIn}
-use Rattle.table.proofs.RowLaws.{field-lt, field-width, two-widths}
+use Rattle.table.proofs.Entries.{field-lt, field-width}
+use Rattle.table.proofs.RowLaws.{two-widths}
 use borrow.Author.Needs.{needs}
 use Rattle.table.proofs.unpack.record_of.Statement.{statement}
 use Rattle.table.proofs.unpack.record_of.Tie as tie

@@ -1,4 +1,4 @@
--- `table::bits::store_some` meets its contract. Assumes nothing.
+-- `table::bits::store` meets its contract. Assumes nothing.
 use mathlib.Core.Path.{_≡_, refl, sym, ap, _∙_}
 use mathlib.Core.List.{List, append-assoc}
 use Prim.Native.Nat.{ℕ, _+_, _-_, _*_, _≤_}
@@ -10,8 +10,8 @@ use denote.Ref.{now}
 use Rattle.table.specs.Private.Laid.{nine}
 use Rattle.table.proofs.Puts.{nine-at}
 use borrow.Author.Needs.{needs}
-use Rattle.table.proofs.bits.store_some.Statement.{statement}
-use Rattle.table.proofs.bits.store_some.Tie as tie
+use Rattle.table.proofs.bits.store.Statement.{statement}
+use Rattle.table.proofs.bits.store.Tie as tie
 
 abbrev Inv-loop : tie.InvT-loop
 Inv-loop out₀ i n x y k₀ out k = (k ≤ n) × (length out ≡ length out₀) × (out ≡ paste out₀ i (nine (x * 256 + y)) k)
@@ -63,8 +63,8 @@ returns c =
     let e : l .k ≡ a .n = omega arith in
     l .inv .2 ∙ ap (paste (now (a .out)) (a .i) v) e ∙ append-assoc (take (a .i) (now (a .out))) (take (a .n) v) (drop (a .i + a .n) (now (a .out)))
 
-pub store-some-spec : {M : Type 1} → statement M
-store-some-spec =
+pub store-spec : {M : Type 1} → statement M
+store-spec =
     tie.close
     (tie.spec
     Inv-loop
