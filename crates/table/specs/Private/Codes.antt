@@ -28,7 +28,7 @@ code unused = 6
 abbrev pub fieldList : Kind → List Field
 fieldList k = k .one ∷ k .two ∷ k .three ∷ []
 
--- The constant lists of the code; proofs/Entries holds each to the definitions. By a field's number: the least and the greatest number that it
+-- The constant lists of the code; proofs/Entries and Accepting hold them to the definitions. By a field's number: the least and the greatest number that it
 -- holds, its bits, and what an accepted number in row f of m is below.
 abbrev pub leasts : List ℕ
 leasts = 0 ∷ 0 ∷ 1 ∷ 1 ∷ 0 ∷ 0 ∷ 0 ∷ []
