@@ -97,13 +97,12 @@ fn same_at(kept: &[u32], f: u32, g: u32) -> bool
 {
     let a = CLOCK_SIZE * (f as usize);
     let b = CLOCK_SIZE * (g as usize);
-    if kept.len() < a + CLOCK_SIZE {
-        return same(clock_at(kept, f), clock_at(kept, g));
+    if a + CLOCK_SIZE <= kept.len() {
+        if b + CLOCK_SIZE <= kept.len() {
+            return same_words(kept, a, b);
+        }
     }
-    if kept.len() < b + CLOCK_SIZE {
-        return same(clock_at(kept, f), clock_at(kept, g));
-    }
-    same_words(kept, a, b)
+    same(clock_at(kept, f), clock_at(kept, g))
 }
 
 // Kinds 2 to 6.

@@ -14,7 +14,10 @@ use Rattle.table.proofs.Entries.{kind-there, kind-gone}
 -- ---- one field
 
 below-or-at : (x n : ℕ) → ltb x (suc n) ≡ leb x n
-below-or-at x n = same-test (ltb x (suc n)) (leb x n) (λ e. le-leb x n (let h : x < suc n = ltb-true x (suc n) e in omega arith)) (λ e. lt-ltb x (suc n) (let h : x ≤ n = leb-true x n e in omega arith))
+below-or-at x n =
+    same-test (ltb x (suc n)) (leb x n)
+    (λ e. le-leb x n (let h : x < suc n = ltb-true x (suc n) e in omega arith))
+    (λ e. lt-ltb x (suc n) (let h : x ≤ n = leb-true x n e in omega arith))
 
 and-true : (a : Bool) → (a && true) ≡ a
 and-true true = refl
@@ -66,7 +69,7 @@ and-six true true false d e f = refl
 and-six true true true d false f = and-no d
 and-six true true true d true f = refl
 
-pub each-both : (p q : Field → ℕ → Bool) (k : Kind) (w : Words) → each (λ t x. p t x && q t x) k w ≡ (each p k w && each q k w)
+each-both : (p q : Field → ℕ → Bool) (k : Kind) (w : Words) → each (λ t x. p t x && q t x) k w ≡ (each p k w && each q k w)
 each-both p q k w =
     and-six (p (k .one) (w .one)) (q (k .one) (w .one)) (p (k .two) (w .two)) (q (k .two) (w .two)) (p (k .three) (w .three)) (q (k .three) (w .three))
 
@@ -86,7 +89,7 @@ module _ (m f : ℕ) (w : Words) where
     unfolding rowOf fieldsOf
     out e = rw (kind-there (w .kind) known, e)
 
-    pub off : each ranged (kindAt (w .kind)) w ≡ true → each (placed m f) (kindAt (w .kind)) w ≡ false → verdict (rowOf m f w) ≡ number misplaced
+    off : each ranged (kindAt (w .kind)) w ≡ true → each (placed m f) (kindAt (w .kind)) w ≡ false → verdict (rowOf m f w) ≡ number misplaced
     unfolding rowOf fieldsOf
     off e o = rw (kind-there (w .kind) known, e, o)
 
@@ -94,7 +97,7 @@ module _ (m f : ℕ) (w : Words) where
     unfolding rowOf fieldsOf
     fine e o = rw (kind-there (w .kind) known, e, o)
 
-    pub passes : (each ranged (kindAt (w .kind)) w && each (placed m f) (kindAt (w .kind)) w) ≡ eqb (verdict (rowOf m f w)) 0
+    passes : (each ranged (kindAt (w .kind)) w && each (placed m f) (kindAt (w .kind)) w) ≡ eqb (verdict (rowOf m f w)) 0
     passes = go (each ranged (kindAt (w .kind)) w) (each (placed m f) (kindAt (w .kind)) w) refl refl
       where
         go : (a b : Bool) → each ranged (kindAt (w .kind)) w ≡ a → each (placed m f) (kindAt (w .kind)) w ≡ b → (a && b) ≡ eqb (verdict (rowOf m f w)) 0

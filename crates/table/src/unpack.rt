@@ -70,7 +70,8 @@ fn record_of(kind: u32, x: u64, fields: &[u32], most: &[u32], width: &[u32]) -> 
 impl Cursor {
     // The words of the row at the cursor, with the place after it: its kind, which is to be known, and its fields, which are to be there.
     fn row(self, s: &[u8], fields: &[u32], most: &[u32], width: &[u32], lengths: &[u32]) -> Step
-        requires { ⌜ (self .at + longestRecord ≤ lastPlace) × (self .at ≤ length (bits (now s))) × (now fields ≡ kindFields) × (now most ≡ mosts) × (now width ≡ widths) × (now lengths ≡ recordLengths) ⌝ }
+        requires { ⌜ (self .at + longestRecord ≤ lastPlace) × (self .at ≤ length (bits (now s)))
+            × (now fields ≡ kindFields) × (now most ≡ mosts) × (now width ≡ widths) × (now lengths ≡ recordLengths) ⌝ }
         ensures { λ r. ⌜ Stepped (bits (now (s .entry))) (self .at) r ⌝ }
     {
         let Taking::Got(kind, first) = self.take(s, KIND_WIDTH) else {

@@ -12,6 +12,15 @@ mul-b c = search needs
 add-if1 : tie.Need-add-if1
 add-if1 c = search needs
 
+add-if2 : tie.Need-add-if2
+add-if2 c = search needs
+
+same-words-requires : tie.Need-same-words-requires
+same-words-requires c κs = search needs
+
+returns : tie.Need-returns
+returns c = search needs
+
 clock-at-requires : tie.Need-clock-at-requires
 clock-at-requires c κs = search needs
 
@@ -21,33 +30,10 @@ clock-at-requires-2 c κs = search needs
 same-requires : tie.Need-same-requires
 same-requires c κs = search needs
 
-returns : tie.Need-returns
-returns c =
-    let after-clock-at2 = c .before in
-    rw (c .same .ensures, after-clock-at2 .clock-at2 .ensures, after-clock-at2 .before .clock-at .ensures)
-
-add-if2 : tie.Need-add-if2
-add-if2 c = search needs
-
-clock-at-requires-3 : tie.Need-clock-at-requires-3
-clock-at-requires-3 c κs = search needs
-
-clock-at-requires-4 : tie.Need-clock-at-requires-4
-clock-at-requires-4 c κs = search needs
-
-same-requires-2 : tie.Need-same-requires-2
-same-requires-2 c κs = search needs
-
 returns-2 : tie.Need-returns-2
 returns-2 c =
-    let after-clock-at4 = c .before in
-    rw (c .same2 .ensures, after-clock-at4 .clock-at4 .ensures, after-clock-at4 .before .clock-at3 .ensures)
-
-same-words-requires : tie.Need-same-words-requires
-same-words-requires c κs = search needs
-
-returns-3 : tie.Need-returns-3
-returns-3 c = search needs
+    let after-clock-at2 = c .before in
+    rw (c .same .ensures, after-clock-at2 .clock-at2 .ensures, after-clock-at2 .before .clock-at .ensures)
 
 pub same-at-spec : {M : Type 1} → statement M
 same-at-spec =
@@ -56,14 +42,10 @@ same-at-spec =
     mul-a
     mul-b
     add-if1
+    add-if2
+    same-words-requires
+    returns
     clock-at-requires
     clock-at-requires-2
     same-requires
-    returns
-    add-if2
-    clock-at-requires-3
-    clock-at-requires-4
-    same-requires-2
-    returns-2
-    same-words-requires
-    returns-3)
+    returns-2)
