@@ -42,7 +42,9 @@ enum Verdict {
     Refused(u32),
 }
 
-// The most conditions of a clock, how many words a clock has, and the clocks of the most flows.
+// The largest period or phase of a clock, its most conditions, how many words it has, and the clocks of the most flows.
+pub const MAX_DERIVED: u64 = 4095;
+
 pub const MAX_CONDITIONS: u32 = 4;
 
 pub const CLOCK_SIZE: usize = 7;

@@ -1,6 +1,7 @@
 // The rules of the kinds, over clocks by value.
 use super::Clock;
 use super::MAX_CONDITIONS;
+use super::MAX_DERIVED;
 use super::Verdict;
 use table::BEYOND_LIMITS;
 use table::CLOCKS_DIFFER;
@@ -9,9 +10,6 @@ ghost use mathlib.Core.Path.{_≡_};
 ghost use Prim.Native.Nat.{_+_, _*_, _%_};
 ghost use Rattle.table.specs.Bits.{bit};
 ghost use Rattle.checker.specs.Private.Kept.{every, sameShape, same, limited, put, under, faster, slower, later, head, tail, sampled, extends, merged};
-
-// The most that a derived period or phase may be.
-const MOST: u64 = 4095;
 
 // The whole product of two numbers.
 fn product(a: u32, b: u32) -> u64
@@ -78,10 +76,10 @@ pub fn same(a: Clock, b: Clock) -> bool
 fn limited(period: u64, phase: u64) -> Verdict
     ensures { λ r. ⌜ r ≡ limited period phase ⌝ }
 {
-    if MOST < period {
+    if MAX_DERIVED < period {
         return Verdict::Refused(BEYOND_LIMITS);
     }
-    if MOST < phase {
+    if MAX_DERIVED < phase {
         return Verdict::Refused(BEYOND_LIMITS);
     }
     Verdict::Is(every(period as u32, phase as u32))
