@@ -10,7 +10,7 @@ use Rattle.table.specs.declared.Answer.{Answer}
 use Rattle.table.specs.Answers.{Result, good, unless, then, answer, leaves, wrongTimes, shortPage}
 use Rattle.table.specs.Rows.{maxFlows}
 use Rattle.checker.specs.Clocks.{Clock}
-use Rattle.checker.specs.Rules.{clockAt}
+use Rattle.checker.specs.Rules.{maxDerived, clockAt}
 use Rattle.checker.specs.Answers.{clocksFor}
 
 -- ---- a load
@@ -64,9 +64,15 @@ linesFrom line (suc n) f = line f ∷ linesFrom line n (suc f)
 
 -- ---- their order
 
--- Lines stand by this number, ascending: by period, and equal periods by flow.
+-- a line stands before another: by period ascending, equal periods by phase ascending, and only then by flow number
+pub record Before (a b : Line) : Type 0 where
+  pub by-period : a .period ≤ b .period
+  pub by-phase : a .period ≡ b .period → a .phase ≤ b .phase
+  pub by-flow : a .period ≡ b .period → a .phase ≡ b .phase → a .flow < b .flow
+
+-- that order as one number, which has period, phase and flow as its digits: a phase is at most maxDerived, a flow below maxFlows
 abbrev pub key : Line → ℕ
-key l = maxFlows * l .period + l .flow
+key l = maxFlows * ((maxDerived + 1) * l .period + l .phase) + l .flow
 
 -- a line put before the first one that has a larger key
 unfoldable pub insert : Line → List Line → List Line

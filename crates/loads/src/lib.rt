@@ -15,6 +15,9 @@ use text::put_right;
 
 const MAX_FLOWS: u64 = table::MAX_FLOWS as u64;
 
+// One more than the largest phase.
+const PHASES: u64 = checker::MAX_DERIVED + 1;
+
 // The bytes of a line.
 pub const LINE_SIZE: usize = 26;
 
@@ -68,14 +71,16 @@ fn sum(clocks: &[u32], times: &[u16], n: u32) -> u32
     sum
 }
 
-// The key of flow f, by which lines stand: by period, equal periods by flow. Its remainder by MAX_FLOWS is the flow.
+// The key of flow f, by which lines stand: by period, equal periods by phase, and then by flow. Its remainder by MAX_FLOWS is the flow.
 fn key(clocks: &[u32], f: u32) -> u64
     requires { ⌜ f < maxFlows ⌝ }
     ensures { λ r. ⌜ r ≡ keyIn (now (clocks .entry)) f ⌝ }
     ensures { λ r. ⌜ r < noKey ⌝ }
 {
-    let period = word_at(clocks, CLOCK_SIZE * (f as usize));
-    MAX_FLOWS * (period as u64) + (f as u64)
+    let from = CLOCK_SIZE * (f as usize);
+    let period = word_at(clocks, from);
+    let phase = word_at(clocks, from + 1);
+    MAX_FLOWS * (PHASES * (period as u64) + (phase as u64)) + (f as u64)
 }
 
 // The lesser of the best key so far and a key that is not below from.

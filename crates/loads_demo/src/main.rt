@@ -38,9 +38,9 @@ fn halves() {
     shown(b"thirds\n", 3, &words, &[1, 1, 2], &mut [b'.'; 4 * LINE]);
 }
 
-// Lines by period, equal periods by flow.
+// Lines by period, equal periods by phase, and then by flow.
 fn order() {
-    let words = [0, 8, 7, 0, 0, 2, 5, 0, 0, 8, 3, 0, 0, 2, 9, 0, 0, 1, 0, 0];
+    let words = [0, 8, 7, 0, 0, 8, 3, 0, 0, 2, 9, 0, 0, 8, 3, 0, 0, 1, 0, 0];
     let times = [1, 2, 3, 4, 5];
     shown(b"order\n", 5, &words, &times, &mut [b'.'; 6 * LINE]);
 }
