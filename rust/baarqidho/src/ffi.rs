@@ -293,9 +293,9 @@ pub fn listing(packed: &[u8], text: &mut [u8]) -> Answer {
 }
 
 /// Checks a plain table and writes what each flow costs as text, from one worst time a flow in thousandths of a tick:
-/// a line for each flow by period, equal periods by flow, and a last one with the sum of the printed loads, each of
-/// [`PAGE_LINE`](crate::PAGE_LINE) bytes. A load is 1000 times the worst time divided by the period, to the nearest
-/// whole, the half going up.
+/// a line for each flow by period, equal periods by phase and only then by flow, and a last one with the sum of the
+/// printed loads, each of [`PAGE_LINE`](crate::PAGE_LINE) bytes. A load is 1000 times the worst time divided by the
+/// period, to the nearest whole, the half going up.
 ///
 /// Success gives the count of bytes and writes exactly those. Refusals, none of which touches `page`: 11, 13, 14, 15,
 /// those of the check (23, 21 and 22), 36 where `times` is not one a flow, and 37 where `page` is too short.

@@ -157,20 +157,26 @@ impl Plan {
 
     /// Checks it, and prints what each flow costs, from one worst time a flow in thousandths of a tick. A line has
     /// flow, period, phase, how many conditions, and load: 1000 times the worst time divided by the period, to the
-    /// nearest whole, the half going up. Lines stand by period, equal periods by flow; the last one has the sum of the
-    /// loads as they are printed.
+    /// nearest whole, the half going up. Lines stand by period, equal periods by phase and only then by flow; the last
+    /// one has the sum of the loads as they are printed.
     ///
     /// ```
     /// use baarqidho::{Plan, Row};
     ///
-    /// // A command every 16 ticks, a reading every 4, and those readings alone that are not zero.
-    /// let rows = [Row::Input { period: 16, phase: 8 }, Row::Input { period: 4, phase: 0 }, Row::When { a: 1, c: 1 }];
-    /// let page = Plan::from_rows(rows).load_page(&[1, 200, 65_535])?;
+    /// // Readings every 4 ticks, from tick 2 and from tick 0 on, those of the second that are not zero, and a command.
+    /// let page = Plan::from_rows([
+    ///     Row::Input { period: 4, phase: 2 },
+    ///     Row::Input { period: 4, phase: 0 },
+    ///     Row::When { a: 1, c: 1 },
+    ///     Row::Input { period: 1, phase: 8 },
+    /// ])
+    /// .load_page(&[1, 200, 65_535, 3])?;
     /// let lines = [
+    ///     " 3     1     8 0     3000\n",
     ///     " 1     4     0 0    50000\n",
     ///     " 2     4     0 1 16383750\n",
-    ///     " 0    16     8 0       63\n",
-    ///     "total            16433813\n",
+    ///     " 0     4     2 0      250\n",
+    ///     "total            16437000\n",
     /// ];
     /// assert_eq!(page, lines.concat());
     /// # Ok::<(), baarqidho::Refusal>(())

@@ -60,10 +60,10 @@ fn put_lines(clocks: &[Clock], times: &[u16], lines: &mut [Line]) {
     put(last, 25, total);
 }
 
-/// The place of a flow among the others, its lowest six bits being the flow: by period, then by flow.
+/// The place of a flow among the others: period, phase and flow side by side, the last two in 12 and 6 bits.
 #[inline]
 fn place(flow: usize, clock: &Clock) -> u32 {
-    clock.period * MOST_FLOWS as u32 + flow as u32
+    clock.period << 18 | clock.phase << 6 | flow as u32
 }
 
 /// 1000 times the worst time divided by the period, the half going up.

@@ -36,9 +36,9 @@ fn lines(clocks: &[Clock], times: &[u16]) -> String {
     lines + &format!("total{total:>20}\n")
 }
 
-/// Lines stand by period ascending, equal periods by flow number.
-fn order(flow: usize, clock: &Clock) -> (u32, usize) {
-    (clock.period, flow)
+/// Lines stand by period ascending, equal periods by phase ascending, and only then by flow number.
+fn order(flow: usize, clock: &Clock) -> (u32, u32, usize) {
+    (clock.period, clock.phase, flow)
 }
 
 /// Flow 2 wide, period 5, phase 5, count of conditions 1, load 8, one space between, all right-aligned with blanks.

@@ -327,6 +327,13 @@ static void all_of_load_page(void)
                                " 2     4     0 1     2250\n"
                                " 0    16     3 0       63\n"
                                "total            16386063\n";
+    /* Inputs (4, 2), (4, 0) and (4, 2), and the second where it is not 0. */
+    static const uint32_t phased[] = {0, 4, 2, 0, 0, 4, 0, 0, 0, 4, 2, 0, 13, 1, 1, 0};
+    static const char by_phase[] = " 1     4     0 0 16383750\n"
+                                   " 3     4     0 1     2000\n"
+                                   " 0     4     2 0      250\n"
+                                   " 2     4     2 0     2250\n"
+                                   "total            16388250\n";
     static const char total[] = "total          4194240000\n";
     uint32_t busiest[BAARQIDHO_MAX_FLOWS * BAARQIDHO_ROW_WORDS];
     uint16_t greatest[BAARQIDHO_MAX_FLOWS];
@@ -338,6 +345,9 @@ static void all_of_load_page(void)
     pages("load page, more room than it needs", costly, LENGTH(costly), times, 3, BAARQIDHO_PAGE_MAX);
     answers(BAARQIDHO_OK, 0, 0, 4 * BAARQIDHO_PAGE_LINE);
     wrote((const uint8_t *)page, sizeof page - 1, NULL, 0);
+    pages("load page, equal periods", phased, LENGTH(phased), times, 4, 5 * BAARQIDHO_PAGE_LINE);
+    answers(BAARQIDHO_OK, 0, 0, sizeof by_phase - 1);
+    wrote((const uint8_t *)by_phase, sizeof by_phase - 1, NULL, 0);
     pages("load page, too few times", costly, LENGTH(costly), times, 2, BAARQIDHO_PAGE_MAX);
     refuses(BAARQIDHO_BAD_TIMES_LENGTH, 0);
     pages("load page, too many times", costly, LENGTH(costly), times, 4, 0);

@@ -78,16 +78,16 @@ fn by_hand() {
     prints(&rows, &[65_535, 0, 1, 2, 65_534, 65_535], &lines);
 }
 
-/// By period as a number, equal periods by flow; a phase, a load or conditions do not move a line.
+/// By period as a number, equal periods by phase, and only then by flow; a load or conditions do not move a line.
 #[test]
 fn order_of_lines() {
     let rows = [at(100, 0), at(9, 5), at(10, 0), at(9, 4), at(1000, 0), at(9, 4), at(100, 7), [13, 3, 3, 0], at(9, 0)];
     let lines = [
-        " 1     9     5 0      111",
+        " 8     9     0 0      222",
         " 3     9     4 0    11111",
         " 5     9     4 0        0",
         " 7     9     4 1     1000",
-        " 8     9     0 0      222",
+        " 1     9     5 0      111",
         " 2    10     0 0      300",
         " 0   100     0 0       10",
         " 6   100     7 0       70",
@@ -95,6 +95,33 @@ fn order_of_lines() {
         "total               12832",
     ];
     prints(&rows, &[1, 1, 3, 100, 8, 0, 7, 9, 2], &lines);
+}
+
+/// A phase does not outweigh a period, nor a flow a phase: the least and the greatest of each, side by side.
+#[test]
+fn order_at_the_limits() {
+    let clocks = [(2, 4095), (1, 4095), (2, 4094), (3, 0), (2, 0), (4095, 4095), (4094, 4095), (4095, 0)];
+    let rows = clocks.map(|(period, phase)| at(period, phase));
+    let lines = [
+        " 1     1  4095 0     4000",
+        " 4     2     0 0     2000",
+        " 2     2  4094 0     2000",
+        " 0     2  4095 0     2000",
+        " 3     3     0 0     1333",
+        " 6  4094  4095 0        1",
+        " 7  4095     0 0        1",
+        " 5  4095  4095 0        1",
+        "total               11336",
+    ];
+    prints(&rows, &[4; 8], &lines);
+
+    // The last flow of 64 is the only one that starts at once.
+    let mut rows = [at(1, 1); 64];
+    rows[63] = at(1, 0);
+    let mut lines: Vec<String> = (0..63).map(|flow| format!("{flow:>2}     1     1 0        0")).collect();
+    lines.insert(0, "63     1     0 0        0".to_string());
+    lines.push("total                   0".to_string());
+    prints(&rows, &[0; 64], &lines.iter().map(String::as_str).collect::<Vec<_>>());
 }
 
 /// The sum is that of the printed loads: 63 and 63 where 62.5 and 62.5 are 125, three times 333 where thirds are 1000.

@@ -1,4 +1,4 @@
-//! Load pages of random plans, a million of them, and of every period and worst time.
+//! Load pages of random plans, a million of them, and of every period, phase and worst time.
 
 use tests::compare::{check, load_page, load_page_exactly, page_bytes, pattern_byte, Outcome};
 use tests::generate::{accepted, Clock, Shape};
@@ -21,18 +21,31 @@ fn some_pair(clocks: &[Clock], test: impl Fn(&Clock, &Clock) -> bool) -> bool {
     (1..clocks.len()).any(|later| clocks[..later].iter().any(|clock| test(clock, &clocks[later])))
 }
 
+/// Whether some period has three phases that three flows and more have each.
+fn crowded(clocks: &[Clock]) -> bool {
+    let mut pairs: Vec<(u32, u32)> = clocks.iter().map(|clock| (clock.period, clock.phase)).collect();
+    pairs.sort_unstable();
+    let shared = pairs.chunk_by(|a, b| a == b).filter(|flows| flows.len() >= 3);
+    let periods: Vec<u32> = shared.map(|flows| flows[0].0).collect();
+    periods.windows(3).any(|three| three[0] == three[2])
+}
+
 /// A page of some sort, by its clocks and times.
 type Sort = (&'static str, fn(&[Clock], &[u16]) -> bool);
 
 /// The sorts that have to occur, each at least once in a hundred pages.
-static SORTS: [Sort; 15] = [
+static SORTS: [Sort; 17] = [
     ("one flow", |clocks, _| clocks.len() == 1),
     ("64 flows", |clocks, _| clocks.len() == 64),
     ("a later flow that comes first", |clocks, _| some_pair(clocks, |clock, later| later.period < clock.period)),
     ("equal periods", |clocks, _| some_pair(clocks, |clock, later| later.period == clock.period)),
-    ("equal periods and a lesser phase", |clocks, _| {
+    ("a later flow that its phase puts first", |clocks, _| {
         some_pair(clocks, |clock, later| later.period == clock.period && later.phase < clock.phase)
     }),
+    ("equal periods and phases", |clocks, _| {
+        some_pair(clocks, |clock, later| (later.period, later.phase) == (clock.period, clock.phase))
+    }),
+    ("a period with three phases, each of three flows", |clocks, _| crowded(clocks)),
     ("a half", |clocks, times| some(clocks, times, |clock, worst| from_half(worst, clock.period) == 0)),
     ("a hundredth from a half, or less", |clocks, times| {
         some(clocks, times, |clock, worst| (1..=clock.period / 50).contains(&from_half(worst, clock.period)))
@@ -65,6 +78,19 @@ fn shape(rng: &mut Rng) -> Shape {
     Shape { flows, scale: rng.pick(&[1, 4, 12, 100, 4095, 4095]), sampling: rng.percent(70) }
 }
 
+/// A plan of inputs on few clocks: two periods that are neighbours and one more, and up to four phases.
+fn few_clocks(rng: &mut Rng) -> (Plan, Vec<Clock>) {
+    let first = rng.range(1, 4094);
+    let periods = [first, first + 1, rng.range(1, 4095)];
+    let any = rng.range(0, 4095);
+    let phases: [u32; 4] = std::array::from_fn(|_| rng.pick(&[0, 1, 4094, 4095, any]));
+    let flows = rng.range(2, 64);
+    let clock = |_| Clock { period: rng.pick(&periods), phase: rng.pick(&phases), conditions: Vec::new() };
+    let clocks: Vec<Clock> = (0..flows).map(clock).collect();
+    let rows: Vec<[u32; 4]> = clocks.iter().map(|clock| [0, clock.period, clock.phase, 0]).collect();
+    (Plan::of(&rows), clocks)
+}
+
 /// Rows more that each sample the flow before, as long as there may be a condition and a flow more.
 fn sample(plan: &mut Plan, clocks: &mut Vec<Clock>) {
     while let Some(last) = clocks.last().filter(|last| last.conditions.len() < 4 && clocks.len() < 64) {
@@ -93,7 +119,10 @@ fn random_pages(seed: u64, pages: usize) {
     let plans = rounds(pages / OF_A_PLAN);
     for round in 0..plans {
         let shape = shape(&mut rng);
-        let (mut plan, mut clocks) = accepted(&mut rng, shape);
+        let (mut plan, mut clocks) = match round % 4 {
+            0 => few_clocks(&mut rng),
+            _ => accepted(&mut rng, shape),
+        };
         if round % 10 == 0 {
             sample(&mut plan, &mut clocks);
         }
@@ -125,26 +154,26 @@ fn random_pages_second() {
     random_pages(112, 500_000);
 }
 
-/// What a page of 64 flows prints for flow, period and load, line by line, and its total.
-fn printed(outcome: &Outcome) -> (Vec<[u64; 3]>, u64) {
+/// What a page of 64 flows prints for flow, period, phase and load, line by line, and its total.
+fn printed(outcome: &Outcome) -> (Vec<[u64; 4]>, u64) {
     let number = |text: &[u8]| String::from_utf8_lossy(text).trim().parse().expect("a number");
     let (lines, _) = outcome.bytes.as_chunks::<26>();
-    let line = |line: &[u8; 26]| [&line[..2], &line[3..8], &line[17..25]].map(number);
+    let line = |line: &[u8; 26]| [&line[..2], &line[3..8], &line[9..14], &line[17..25]].map(number);
     (lines[..64].iter().map(line).collect(), number(&lines[64][5..]))
 }
 
-/// 64 flows of these periods and worst times: each load is the nearest whole, the half going up, the lines are in
+/// 64 flows of these clocks and worst times: each load is the nearest whole, the half going up, the lines are in
 /// order, each flow once, and the total is the sum of the loads.
-fn loads_are_nearest(periods: &[u32; 64], times: &[u16; 64]) {
-    let rows = periods.map(|period| [1, 7, period, 0]);
+fn page_is_right(clocks: &[(u32, u32); 64], times: &[u16; 64]) {
+    let rows = clocks.map(|(period, phase)| [1, 7, period, phase]);
     let (lines, total) = printed(&load_page_exactly(&ALL, &Plan::of(&rows), times));
-    for &[flow, period, load] in &lines {
+    for &[flow, period, phase, load] in &lines {
         let (twice, worst) = (2 * load * period, u64::from(times[flow as usize]));
-        assert_eq!(period, u64::from(periods[flow as usize]));
+        assert_eq!((period as u32, phase as u32), clocks[flow as usize]);
         assert!(twice <= 2_000 * worst + period && 2_000 * worst < twice + period, "{worst} over {period}: {load}");
     }
-    assert!(lines.is_sorted_by(|a, b| (a[1], a[0]) < (b[1], b[0])), "{periods:?}");
-    assert_eq!(lines.iter().map(|[_, _, load]| load).sum::<u64>(), total);
+    assert!(lines.is_sorted_by(|a, b| (a[1], a[2], a[0]) < (b[1], b[2], b[0])), "{clocks:?}");
+    assert_eq!(lines.iter().map(|[.., load]| load).sum::<u64>(), total);
 }
 
 /// Every period there is, with times at the edges, any, and at halves.
@@ -152,12 +181,23 @@ fn loads_are_nearest(periods: &[u32; 64], times: &[u16; 64]) {
 fn every_period() {
     let mut rng = Rng::new(113);
     for first in (1..=4095).step_by(64) {
-        let periods = std::array::from_fn(|place| (first + place as u32).min(4095));
+        let clocks = std::array::from_fn(|place| ((first + place as u32).min(4095), rng.range(0, 4095)));
         for worst in [0, 1, 2, 3, 65_534, 65_535] {
-            loads_are_nearest(&periods, &[worst; 64]);
+            page_is_right(&clocks, &[worst; 64]);
         }
         for _ in 0..rounds(20) {
-            loads_are_nearest(&periods, &periods.map(|period| time(&mut rng, period)));
+            page_is_right(&clocks, &clocks.map(|(period, _)| time(&mut rng, period)));
+        }
+    }
+}
+
+/// Every phase there is, at each of two flows, in mixed order.
+#[test]
+fn every_phase() {
+    for period in [1, 2, 7, 4095] {
+        for first in (0..=4095).step_by(32) {
+            let clocks = std::array::from_fn(|place| (period, first + 5 * place as u32 % 32));
+            page_is_right(&clocks, &[3; 64]);
         }
     }
 }
@@ -167,7 +207,7 @@ fn every_period() {
 fn every_time() {
     for period in [1, 2, 3, 7, 16, 80, 625, 1000, 2000, 2048, 4000, 4080, 4095] {
         for first in (0..=65_535).step_by(64) {
-            loads_are_nearest(&[period; 64], &std::array::from_fn(|place| first + place as u16));
+            page_is_right(&[(period, 0); 64], &std::array::from_fn(|place| first + place as u16));
         }
     }
 }
