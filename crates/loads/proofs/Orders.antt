@@ -8,8 +8,9 @@ use lib.ListN.{length}
 use lib.Dec.{ltb}
 use borrow.Author.Tests.{ltb-true, ltb-false}
 use Rattle.table.specs.Rows.{maxFlows}
-use Rattle.loads.specs.Loads.{Line, load, linesFrom, key, insert, sorted, Among, here, there, Ascending, Ordered, total}
-use Rattle.loads.proofs.Keys.{key-flow}
+use Rattle.loads.specs.Loads.{Line, load, linesFrom, Before, key, insert, sorted, Among, here, there, Standing, Ordered, total}
+use Rattle.loads.proofs.Lines.{Bounded}
+use Rattle.loads.proofs.Keys.{not-both, key-flow, before}
 
 nowhere : {l : Line} {A : Type 0} → Among l [] → A
 nowhere = elim [ ]
@@ -68,6 +69,11 @@ insert-total l (h ∷ ls) = go (ltb (key l) (key h)) (insert-total l ls)
     go true r = refl
     go false r = omega (arith, r)
 
+-- each key is above the one before it, the first at least a number
+abbrev pub Ascending : ℕ → List Line → Type 0
+Ascending from [] = Unit {0}
+Ascending from (l ∷ ls) = (from ≤ key l) × Ascending (suc (key l)) ls
+
 -- no line of a list has the key of l
 abbrev Apart : Line → List Line → Type 0
 Apart l ls = (x : Line) → Among x ls → key x ≡ key l → ⊥
@@ -96,25 +102,32 @@ unfolding sorted total
 sorted-total [] = refl
 sorted-total (l ∷ ls) = insert-total l (sorted ls) ∙ ap (λ (n : ℕ). load l + n) (sorted-total ls)
 
-sorted-ordered : (ls : List Line) → Distinct ls → Ordered ls (sorted ls)
+pub sorted-size : (ls : List Line) → length (sorted ls) ≡ length ls
 unfolding sorted
-sorted-ordered [] d = record { ascending = tt; size = refl; same = λ l i. i; only = λ l i. i }
-sorted-ordered (l ∷ ls) d =
-    let o : Ordered ls (sorted ls) = sorted-ordered ls (d .1) in
-    record {
-      ascending = insert-ascending 0 l (sorted ls) (o .ascending) (omega arith) (λ x i. d .0 x (o .only x i));
-      size = insert-length l (sorted ls) ∙ ap suc (o .size);
-      same = λ x i. in-both x (o .same x) i;
-      only = λ x i. of-both x (o .only x) (insert-only l (sorted ls) x i);
-    }
-  where
-    in-both : (x : Line) → (Among x ls → Among x (sorted ls)) → Among x (l ∷ ls) → Among x (insert l (sorted ls))
-    in-both x s (here e) = insert-first l (sorted ls) x e
-    in-both x s (there i) = insert-same l (sorted ls) x (s i)
+sorted-size [] = refl
+sorted-size (l ∷ ls) = insert-length l (sorted ls) ∙ ap suc (sorted-size ls)
 
-    of-both : (x : Line) → (Among x (sorted ls) → Among x ls) → Among x (l ∷ sorted ls) → Among x (l ∷ ls)
-    of-both x s (here e) = here e
-    of-both x s (there i) = there (s i)
+module _ (x : Line) where
+  pub sorted-same : (ls : List Line) → Among x ls → Among x (sorted ls)
+  unfolding sorted
+  sorted-same [] i = i
+  sorted-same (l ∷ ls) (here e) = insert-first l (sorted ls) x e
+  sorted-same (l ∷ ls) (there i) = insert-same l (sorted ls) x (sorted-same ls i)
+
+  pub sorted-only : (ls : List Line) → Among x (sorted ls) → Among x ls
+  unfolding sorted
+  sorted-only [] i = i
+  sorted-only (l ∷ ls) i = go (insert-only l (sorted ls) x i) (sorted-only ls)
+    where
+      go : Among x (l ∷ sorted ls) → (Among x (sorted ls) → Among x ls) → Among x (l ∷ ls)
+      go (here e) r = here e
+      go (there j) r = there (r j)
+
+sorted-ascending : (ls : List Line) → Distinct ls → Ascending 0 (sorted ls)
+unfolding sorted
+sorted-ascending [] d = tt
+sorted-ascending (l ∷ ls) d =
+    insert-ascending 0 l (sorted ls) (sorted-ascending ls (d .1)) (omega arith) (λ x i. d .0 x (sorted-only x ls i))
 
 -- ---- the lines of the flows
 
@@ -161,36 +174,43 @@ module _ (line : ℕ → Line) where
             let y : o .0 ≡ f = sym (flow-of (o .0) (omega (arith, o .2))) ∙ ap (λ (z : ℕ). z % maxFlows) k ∙ flow-of f (omega arith) in
             omega (arith, o .1)
 
-    pub in-order : (n : ℕ) → n ≤ maxFlows → Ordered (linesFrom line n 0) (sorted (linesFrom line n 0))
-    in-order n h = sorted-ordered (linesFrom line n 0) (distinct n 0 (omega arith))
+    pub lines-ascending : (n : ℕ) → n ≤ maxFlows → Ascending 0 (sorted (linesFrom line n 0))
+    lines-ascending n h = sorted-ascending (linesFrom line n 0) (distinct n 0 (omega arith))
 
--- ---- one order
+-- ---- by ascending key, each line before all that follow it
 
 pub ascending-above : (from : ℕ) (ls : List Line) (x : Line) → Ascending from ls → Among x ls → from ≤ key x
 ascending-above from [] x a i = nowhere i
 ascending-above from (l ∷ ls) x a (here e) = omega (arith, a .0, ap key e)
 ascending-above from (l ∷ ls) x a (there i) = omega (arith, a .0, ascending-above (suc (key l)) ls x (a .1) i)
 
-module _ (x y : Line) (xs ys : List Line) (a : Ascending (suc (key x)) xs) (b : Ascending (suc (key y)) ys) where
+pub standing : (from : ℕ) (ls : List Line) → Ascending from ls → ((l : Line) → Among l ls → Bounded l) → Standing ls
+standing from [] a b = tt
+standing from (l ∷ ls) a b =
+    (λ x i. before l x (b l (here refl)) (b x (there i)) (ascending-above (suc (key l)) ls x (a .1) i), standing (suc (key l)) ls (a .1) (λ x i. b x (there i)))
+
+-- ---- one order
+
+module _ (x y : Line) (xs ys : List Line) (a : Standing (x ∷ xs)) (b : Standing (y ∷ ys)) where
   first-same : Among x (y ∷ ys) → Among y (x ∷ xs) → x ≡ y
   first-same (here e) j = e
   first-same (there i) (here e) = sym e
-  first-same (there i) (there j) = absurd (omega (arith, ascending-above (suc (key y)) ys x b i, ascending-above (suc (key x)) xs y a j))
+  first-same (there i) (there j) = absurd (not-both (a .0 y j) (b .0 x i))
 
   rest-same : x ≡ y → (z : Line) → Among z xs → Among z (y ∷ ys) → Among z ys
-  rest-same e z i (here q) = absurd (omega (arith, ascending-above (suc (key x)) xs z a i, ap key q, ap key e))
+  rest-same e z i (here q) = let h : Before x x = subst (Before x) (q ∙ sym e) (a .0 z i) in absurd (not-both h h)
   rest-same e z i (there j) = j
 
-one-list : (from : ℕ) (xs ys : List Line) → Ascending from xs → Ascending from ys → ((z : Line) → Among z xs → Among z ys) → ((z : Line) → Among z ys → Among z xs) → xs ≡ ys
-one-list from [] [] a b s o = refl
-one-list from [] (y ∷ ys) a b s o = nowhere (o y (here refl))
-one-list from (x ∷ xs) [] a b s o = nowhere (s x (here refl))
-one-list from (x ∷ xs) (y ∷ ys) a b s o =
-    let e : x ≡ y = first-same x y xs ys (a .1) (b .1) (s x (here refl)) (o y (here refl)) in
-    ap₂ _∷_ e (one-list (suc (key x)) xs ys (a .1) (subst (λ (u : Line). Ascending (suc (key u)) ys) (sym e) (b .1))
-    (λ z i. rest-same x y xs ys (a .1) (b .1) e z i (s z (there i)))
-    (λ z i. rest-same y x ys xs (b .1) (a .1) (sym e) z i (o z (there i))))
+one-list : (xs ys : List Line) → Standing xs → Standing ys → ((z : Line) → Among z xs → Among z ys) → ((z : Line) → Among z ys → Among z xs) → xs ≡ ys
+one-list [] [] a b s o = refl
+one-list [] (y ∷ ys) a b s o = nowhere (o y (here refl))
+one-list (x ∷ xs) [] a b s o = nowhere (s x (here refl))
+one-list (x ∷ xs) (y ∷ ys) a b s o =
+    let e : x ≡ y = first-same x y xs ys a b (s x (here refl)) (o y (here refl)) in
+    ap₂ _∷_ e (one-list xs ys (a .1) (b .1)
+    (λ z i. rest-same x y xs ys a b e z i (s z (there i)))
+    (λ z i. rest-same y x ys xs b a (sym e) z i (o z (there i))))
 
 pub one-order : (ls ss ss′ : List Line) → Ordered ls ss → Ordered ls ss′ → ss ≡ ss′
 one-order ls ss ss′ p q =
-    one-list 0 ss ss′ (p .ascending) (q .ascending) (λ z i. q .same z (p .only z i)) (λ z i. p .same z (q .only z i))
+    one-list ss ss′ (p .standing) (q .standing) (λ z i. q .same z (p .only z i)) (λ z i. p .same z (q .only z i))

@@ -22,7 +22,7 @@ use Rattle.checker.proofs.Bounds.{accepted-sane, told-clocks, told-refusal}
 use Rattle.loads.specs.Loads.{load, maxLoad, Line, lineOf, linesFrom, sorted, Among, Ordered, lineText, total, totalText, pageText, pageOf, lineSize, paging, pageAnswer, pageAfter}
 use Rattle.loads.specs.Private.Words.{lineIn, linesIn, Loaded}
 use Rattle.loads.proofs.Lines.{Bounded, bounded}
-use Rattle.loads.proofs.Orders.{lines-length, of-lines, in-order}
+use Rattle.loads.proofs.Orders.{sorted-size, sorted-same, sorted-only, lines-length, of-lines, lines-ascending, standing}
 use Rattle.loads.proofs.Sums.{lines-same, total-bound}
 use Rattle.loads.proofs.Widths.{line-length, total-length, page-length}
 
@@ -32,21 +32,30 @@ module _ (m : ℕ) (words times : List ℕ) (ks : List Clock) (e : clocksFor m w
   pub accepted : (length ks ≡ m) × (m ≤ maxFlows) × AllSane (clockAt ks) m
   accepted = let t = then-good (tableOf m words) clocksOf ks e in accepted-sane m words (t .0) ks (t .1) (t .2)
 
-  abbrev pub lines : List Line
-  lines = sorted (linesFrom (lineOf ks times) (length ks) 0)
+  abbrev flows : List Line
+  flows = linesFrom (lineOf ks times) (length ks) 0
 
-  pub ordered : Ordered (linesFrom (lineOf ks times) (length ks) 0) lines
-  ordered = in-order (lineOf ks times) (λ f. refl) (length ks) (omega (arith, accepted .0, accepted .1))
+  abbrev pub lines : List Line
+  lines = sorted flows
 
   of-flows : (l : Line) → Among l lines → (f : ℕ) × (f < m) × (l ≡ lineOf ks times f)
   of-flows l i =
-      let x = of-lines (lineOf ks times) (length ks) 0 l (ordered .only l i) in
+      let x = of-lines (lineOf ks times) (length ks) 0 l (sorted-only l flows i) in
       (x .0, omega (arith, x .2, accepted .0), x .3)
 
   pub bounds : (l : Line) → Among l lines → Bounded l
   bounds l i =
       let x = of-flows l i in
       subst Bounded (sym (x .2)) (bounded ks times (x .0) (omega (arith, x .1, accepted .1)) (accepted .2 (x .0) (x .1)))
+
+  pub ordered : Ordered flows lines
+  ordered =
+      record {
+        standing = standing 0 lines (lines-ascending (lineOf ks times) (λ f. refl) (length ks) (omega (arith, accepted .0, accepted .1))) bounds;
+        size = sorted-size flows;
+        same = λ l. sorted-same l flows;
+        only = λ l. sorted-only l flows;
+      }
 
   module _ (loads : (f : ℕ) → f < m → load (lineOf ks times f) ≤ maxLoad) where
     pub load-bounds : (l : Line) → Among l lines → load l ≤ maxLoad

@@ -17,7 +17,6 @@ use Rattle.checker.proofs.Bounds.{check-whole}
 use Rattle.loads.specs.Loads.{maxTime, maxLoad, load, lineOf, pageOf, lineSize, paging}
 use Rattle.loads.specs.Shown.{Shown, LoadPage}
 use Rattle.loads.proofs.Rounding.{rounded-nearest, one-nearest, rounded-bound}
-use Rattle.loads.proofs.Keys.{before}
 use Rattle.loads.proofs.Orders.{one-order}
 use Rattle.loads.proofs.Pages.{accepted, checked-refusal, lines, ordered, bounds, load-bounds, widths, total-bounds, last, page-size}
 
@@ -43,7 +42,6 @@ page-shown m words times old new r ks e n t left count =
       one-each = (accepted m words times ks e .0, n);
       lines = lines m words times ks e;
       ordered = ordered m words times ks e;
-      before = λ a b i j. before a b (bounds m words times ks e a i) (bounds m words times ks e b j);
       nearest = λ l i. rounded-nearest (1000 * l .worst) (l .period) (bounds m words times ks e l i .positive);
       load-bound = load-bounds m words times ks e loads;
       total-bound = total-bounds m words times ks e loads;

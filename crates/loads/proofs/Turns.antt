@@ -8,10 +8,10 @@ use Rattle.text.specs.Text.{lineFeed, right, Wrote}
 use Rattle.text.proofs.Writing.{Left, begin, and-then, finish}
 use Rattle.table.specs.Rows.{maxFlows}
 use Rattle.checker.specs.Answers.{clockSize}
-use Rattle.loads.specs.Loads.{Line, load, key, sorted, Among, here, there, Ascending, Ordered, field, lineText, linesText}
+use Rattle.loads.specs.Loads.{Line, load, key, sorted, Among, here, there, field, lineText, linesText}
 use Rattle.loads.specs.Private.Words.{lineIn, linesIn, keyIn, Least}
 use Rattle.loads.proofs.Keys.{key-flow}
-use Rattle.loads.proofs.Orders.{lines-length, of-lines, in-lines, in-order, ascending-above}
+use Rattle.loads.proofs.Orders.{Ascending, sorted-size, sorted-same, sorted-only, lines-length, of-lines, in-lines, lines-ascending, ascending-above}
 
 lines-none : linesText [] ≡ []
 unfolding linesText
@@ -41,16 +41,16 @@ pub record Turn (ws times : List ℕ) (n : ℕ) (old : List ℕ) (i from next : 
 
 pub turn-begin : (ws times : List ℕ) (n : ℕ) (old : List ℕ) → n ≤ maxFlows → Turn ws times n old 0 0 0 old
 turn-begin ws times n old h =
-    let o : Ordered (linesIn ws times n) (sorted (linesIn ws times n)) = in-order (lineIn ws times) (λ g. refl) n h in
+    let ls : List Line = linesIn ws times n in
     record {
       within = omega arith;
       same-size = refl;
-      rest = sorted (linesIn ws times n);
-      size = omega (arith, o .size, lines-length (lineIn ws times) n 0);
-      ascending = o .ascending;
-      all = λ (g : ℕ). λ (l : g < n). λ k. o .same (lineIn ws times g) (in-lines (lineIn ws times) n 0 g (omega arith) (omega arith));
-      only = λ (l : Line). λ i. let x = of-lines (lineIn ws times) n 0 l (o .only l i) in (x .0, omega (arith, x .2), x .3);
-      left = begin 0 (linesText (sorted (linesIn ws times n))) old;
+      rest = sorted ls;
+      size = omega (arith, sorted-size ls, lines-length (lineIn ws times) n 0);
+      ascending = lines-ascending (lineIn ws times) (λ g. refl) n h;
+      all = λ (g : ℕ). λ (l : g < n). λ k. sorted-same (lineIn ws times g) ls (in-lines (lineIn ws times) n 0 g (omega arith) (omega arith));
+      only = λ (l : Line). λ i. let x = of-lines (lineIn ws times) n 0 l (sorted-only l ls i) in (x .0, omega (arith, x .2), x .3);
+      left = begin 0 (linesText (sorted ls)) old;
     }
 
 -- the least key from a number on is the first of the rest, and its flow that line's

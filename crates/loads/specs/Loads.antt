@@ -89,14 +89,14 @@ pub data Among (l : Line) : List Line → Type 0 where
   here : {h : Line} {ls : List Line} → l ≡ h → Among l (h ∷ ls)
   there : {h : Line} {ls : List Line} → Among l ls → Among l (h ∷ ls)
 
--- each key is above the one before it, the first at least a number
-abbrev pub Ascending : ℕ → List Line → Type 0
-Ascending from [] = Unit {0}
-Ascending from (l ∷ ls) = (from ≤ key l) × Ascending (suc (key l)) ls
+-- each line stands before all that follow it
+abbrev pub Standing : List Line → Type 0
+Standing [] = Unit {0}
+Standing (l ∷ ls) = ((x : Line) → Among x ls → Before l x) × Standing ls
 
--- what it is to be in order: sorted, and the same lines
+-- what it is to be in order: one before the other, and the same lines
 pub record Ordered (ls ss : List Line) : Type 0 where
-  pub ascending : Ascending 0 ss
+  pub standing : Standing ss
   pub size : length ss ≡ length ls
   pub same : (l : Line) → Among l ls → Among l ss
   pub only : (l : Line) → Among l ss → Among l ls

@@ -1,6 +1,6 @@
 -- What a caller finds on a page: every line in its place, of the right width, with the nearest load, and the total of what is printed.
 use mathlib.Core.Path.{_≡_}
-use Prim.Native.Nat.{ℕ, _+_, _*_, _≤_, _<_}
+use Prim.Native.Nat.{ℕ, _+_, _*_, _≤_}
 use mathlib.Core.List.{List}
 use lib.ListN.{length, getD}
 use Rattle.table.specs.declared.Answer.{Answer}
@@ -8,7 +8,7 @@ use Rattle.table.specs.Answers.{good, over}
 use Rattle.table.specs.Rows.{maxFlows}
 use Rattle.checker.specs.Clocks.{Clock}
 use Rattle.checker.specs.Answers.{clockSize, checking, checkAnswer}
-use Rattle.loads.specs.Loads.{Nearest, maxTime, maxLoad, Line, load, lineOf, linesFrom, Before, key, Among, Ordered, lineText, total, totalText, pageText, lineSize, pageAnswer, pageAfter}
+use Rattle.loads.specs.Loads.{Nearest, maxTime, maxLoad, Line, load, lineOf, linesFrom, Among, Ordered, lineText, total, totalText, pageText, lineSize, pageAnswer, pageAfter}
 
 -- what a call leaves that answered 0, over a page that was old and is new
 pub record Shown (m : ℕ) (words times old new : List ℕ) (r : Answer) : Type 0 where
@@ -16,10 +16,9 @@ pub record Shown (m : ℕ) (words times old new : List ℕ) (r : Answer) : Type 
   pub clocks : List Clock
   pub checked : (room : ℕ) → clockSize * maxFlows ≤ room → checking m words room ≡ good clocks
   pub one-each : (length clocks ≡ m) × (length times ≡ m)
-  -- the lines of all flows in order: by ascending key, and of two lines the one with the lesser key stands before the other
+  -- the lines of all flows in order
   pub lines : List Line
   pub ordered : Ordered (linesFrom (lineOf clocks times) (length clocks) 0) lines
-  pub before : (a b : Line) → Among a lines → Among b lines → key a < key b → Before a b
   -- each load is to the nearest whole
   pub nearest : (l : Line) → Among l lines → Nearest (1000 * l .worst) (l .period) (load l)
   -- loads and total are bounded, and nothing outgrows its column: a line is as long as its columns are wide
