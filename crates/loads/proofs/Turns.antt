@@ -9,7 +9,7 @@ use Rattle.text.proofs.Writing.{Left, begin, and-then, finish}
 use Rattle.table.specs.Rows.{maxFlows}
 use Rattle.checker.specs.Answers.{clockSize}
 use Rattle.loads.specs.Loads.{Line, load, key, sorted, Among, here, there, field, lineText, linesText}
-use Rattle.loads.specs.Private.Words.{lineIn, linesIn, keyIn, Least}
+use Rattle.loads.specs.Private.Words.{lineIn, linesIn, keyIn, Keyed, Least}
 use Rattle.loads.proofs.Keys.{key-flow}
 use Rattle.loads.proofs.Orders.{Ascending, sorted-size, sorted-same, sorted-only, lines-length, of-lines, in-lines, lines-ascending, ascending-above}
 
@@ -56,15 +56,17 @@ turn-begin ws times n old h =
 -- the least key from a number on is the first of the rest, and its flow that line's
 module _ (ws times : List ℕ) (n from k : ℕ) (few : n ≤ maxFlows) (l : Line) (ls : List Line) (asc : Ascending from (l ∷ ls))
     (all : (g : ℕ) → g < n → from ≤ keyIn ws g → Among (lineIn ws times g) (l ∷ ls)) (g : ℕ) (below : g < n) (is : l ≡ lineIn ws times g)
-    (L : Least ws n from k) where
+    {ks : List ℕ} (K : Keyed ws n ks) (L : Least ks n from k) where
   same-key : key l ≡ keyIn ws g
   same-key = ap key is
 
   pub first-key : k ≡ key l
   first-key =
-      let u : k ≤ keyIn ws g = L .least g below (omega (arith, asc .0, same-key)) in
-      let x = L .found (omega (arith, L .keys g below)) in
-      let v : key l ≤ keyIn ws (x .0) = ascending-above (key l) (l ∷ ls) (lineIn ws times (x .0)) (omega arith, asc .1) (all (x .0) (x .1) (x .2)) in
+      let e : getD ks g 0 ≡ keyIn ws g = K .kept g below in
+      let u : k ≤ getD ks g 0 = L .least g below (omega (arith, asc .0, same-key)) in
+      let x = L .found (omega (arith, K .below g below)) in
+      let y : getD ks (x .0) 0 ≡ keyIn ws (x .0) = K .kept (x .0) (x .1) in
+      let v : key l ≤ keyIn ws (x .0) = ascending-above (key l) (l ∷ ls) (lineIn ws times (x .0)) (omega arith, asc .1) (all (x .0) (x .1) (omega (arith, x .2))) in
       omega (arith, x .3, same-key)
 
   pub first-line : (f : ℕ) → f ≡ k % maxFlows → lineIn ws times f ≡ l
@@ -79,11 +81,11 @@ module _ (ws times : List ℕ) (n from k : ℕ) (few : n ≤ maxFlows) (l : Line
       go (here e) = let z : keyIn ws h ≡ key l = ap key e in absurd (omega (arith, first-key))
       go (there i) = i
 
-pub turn-next : {ws times : List ℕ} {n : ℕ} {old : List ℕ} {i from next : ℕ} {new : List ℕ} {k f next′ : ℕ} {new′ : List ℕ}
-    → n ≤ maxFlows → i < n → Least ws n from k → f ≡ k % maxFlows
+pub turn-next : {ws times : List ℕ} {n : ℕ} {old : List ℕ} {i from next : ℕ} {new ks : List ℕ} {k f next′ : ℕ} {new′ : List ℕ}
+    → n ≤ maxFlows → i < n → Keyed ws n ks → Least ks n from k → f ≡ k % maxFlows
     → length new′ ≡ length new → Wrote next (lineText (lineIn ws times f)) new next′ new′ → Turn ws times n old i from next new
     → Turn ws times n old (i + 1) (k + 1) next′ new′
-turn-next {ws} {times} {n} {old} {i} {from} {next} {new} {k} {f} {next′} {new′} few l L e s w t =
+turn-next {ws} {times} {n} {old} {i} {from} {next} {new} {ks} {k} {f} {next′} {new′} few l K L e s w t =
     go (t .rest) (t .size) (t .ascending) (t .all) (t .only) (t .left)
   where
     go : (rs : List Line) → i + length rs ≡ n → Ascending from rs → ((g : ℕ) → g < n → from ≤ keyIn ws g → Among (lineIn ws times g) rs)
@@ -92,15 +94,15 @@ turn-next {ws} {times} {n} {old} {i} {from} {next} {new} {k} {f} {next′} {new�
     go [] z asc all only left = absurd (omega arith)
     go (x ∷ rs) z asc all only left =
         let o = only x (here refl) in
-        let first : k ≡ key x = first-key ws times n from k few x rs asc all (o .0) (o .1) (o .2) L in
-        let line : lineIn ws times f ≡ x = first-line ws times n from k few x rs asc all (o .0) (o .1) (o .2) L f e in
+        let first : k ≡ key x = first-key ws times n from k few x rs asc all (o .0) (o .1) (o .2) K L in
+        let line : lineIn ws times f ≡ x = first-line ws times n from k few x rs asc all (o .0) (o .1) (o .2) K L f e in
         record {
           within = omega arith;
           same-size = s ∙ t .same-size;
           rest = rs;
           size = omega arith;
           ascending = subst (λ (u : ℕ). Ascending u rs) (omega (arith, first)) (asc .1);
-          all = rest-all ws times n from k few x rs asc all (o .0) (o .1) (o .2) L;
+          all = rest-all ws times n from k few x rs asc all (o .0) (o .1) (o .2) K L;
           only = λ (y : Line). λ j. only y (there j);
           left = and-then (rw (lines-cons x rs) at left) (subst (λ (y : Line). Wrote next (lineText y) new next′ new′) line w);
         }

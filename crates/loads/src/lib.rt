@@ -5,7 +5,7 @@ ghost use lib.ListN.{length, getD};
 ghost use Rattle.text.specs.Text.{Wrote};
 ghost use Rattle.table.specs.Rows.{maxFlows};
 ghost use Rattle.loads.specs.Loads.{rounded, maxLoad, load, sorted, field, lineText, linesText, total, totalText, pageText, pageAnswer, pageAfter};
-ghost use Rattle.loads.specs.Private.Words.{lineIn, linesIn, Loaded, keyIn, noKey, lesser, Least};
+ghost use Rattle.loads.specs.Private.Words.{lineIn, linesIn, Loaded, keyIn, noKey, Keyed, lesser, Least};
 use checker::CLOCK_SIZE;
 use checker::CLOCKS;
 use table::Answer;
@@ -83,6 +83,18 @@ fn key(clocks: &[u32], f: u32) -> u64
     MAX_FLOWS * (PHASES * (period as u64) + (phase as u64)) + (f as u64)
 }
 
+// Keeps the keys of n flows, flow after flow.
+fn keep_keys(clocks: &[u32], n: u32, keys: &mut [u64])
+    requires { ⌜ (n ≤ maxFlows) × (n ≤ length (now keys)) ⌝ }
+    ensures { λ _. ⌜ Keyed (now (clocks .entry)) n (now (keys .exit)) ⌝ }
+{
+    let mut f: u32 = 0;
+    while f < n {
+        keys[f as usize] = key(clocks, f);
+        f += 1;
+    }
+}
+
 // The lesser of the best key so far and a key that is not below from.
 fn lesser(from: u64, k: u64, best: u64) -> u64
     ensures { λ r. ⌜ r ≡ lesser from k best ⌝ }
@@ -93,15 +105,15 @@ fn lesser(from: u64, k: u64, best: u64) -> u64
     if k < best { k } else { best }
 }
 
-// The least key of n flows that is not below from, NO_KEY where there is none.
-fn least(clocks: &[u32], n: u32, from: u64) -> u64
-    requires { ⌜ n ≤ maxFlows ⌝ }
-    ensures { λ r. ⌜ Least (now (clocks .entry)) n from r ⌝ }
+// The least of n keys that is not below from, NO_KEY where there is none.
+fn least(keys: &[u64], n: u32, from: u64) -> u64
+    requires { ⌜ n ≤ length (now keys) ⌝ }
+    ensures { λ r. ⌜ Least (now (keys .entry)) n from r ⌝ }
 {
     let mut best = NO_KEY;
     let mut f: u32 = 0;
     while f < n {
-        best = lesser(from, key(clocks, f), best);
+        best = lesser(from, keys[f as usize], best);
         f += 1;
     }
     best
@@ -133,16 +145,16 @@ fn put_line(text: &mut [u8], at: usize, clocks: &[u32], times: &[u16], f: u32) -
     put(text, last, b'\n')
 }
 
-// Writes the lines of n flows in order.
-fn put_lines(text: &mut [u8], clocks: &[u32], times: &[u16], n: u32) -> usize
-    requires { ⌜ n ≤ maxFlows ⌝ }
+// Writes the lines of n flows in order, which their keys give.
+fn put_lines(text: &mut [u8], clocks: &[u32], times: &[u16], keys: &[u64], n: u32) -> usize
+    requires { ⌜ (n ≤ maxFlows) × (n ≤ length (now keys)) × Keyed (now clocks) n (now keys) ⌝ }
     ensures { λ r. ⌜ Wrote 0 (linesText (sorted (linesIn (now (clocks .entry)) (now (times .entry)) n))) (now (text .entry)) r (now (text .exit)) ⌝ }
 {
     let mut next: usize = 0;
     let mut from: u64 = 0;
     let mut i: u32 = 0;
     while i < n {
-        let k = least(clocks, n, from);
+        let k = least(keys, n, from);
         next = put_line(text, next, clocks, times, (k % MAX_FLOWS) as u32);
         from = k + 1;
         i += 1;
@@ -169,7 +181,9 @@ fn put_page(text: &mut [u8], clocks: &[u32], times: &[u16], n: u32) -> usize
     ensures { λ r. ⌜ Wrote 0 (pageText (sorted (linesIn (now (clocks .entry)) (now (times .entry)) n))) (now (text .entry)) r (now (text .exit)) ⌝ }
     ensures { λ r. ⌜ Loaded (now (clocks .entry)) (now (times .entry)) n ⌝ }
 {
-    let next = put_lines(text, clocks, times, n);
+    let mut keys = [0u64; MAX_FLOWS as usize];
+    keep_keys(clocks, n, &mut keys);
+    let next = put_lines(text, clocks, times, &keys, n);
     put_total(text, next, sum(clocks, times, n))
 }
 

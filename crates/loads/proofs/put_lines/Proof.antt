@@ -8,13 +8,13 @@ use Rattle.loads.proofs.put_lines.Statement.{statement}
 use Rattle.loads.proofs.put_lines.Tie as tie
 
 abbrev Inv-loop : tie.InvT-loop
-Inv-loop text₀ clocks times n next₀ from₀ i₀ text next from i = Turn clocks times n text₀ i from next text
+Inv-loop text₀ clocks times keys n next₀ from₀ i₀ text next from i = Turn clocks times n text₀ i from next text
 
 abbrev μ-loop : tie.MeasureT-loop
-μ-loop text₀ clocks times n next₀ from₀ i₀ text next from i = n - i
+μ-loop text₀ clocks times keys n next₀ from₀ i₀ text next from i = n - i
 
 loop-holds : tie.Need-loop-holds Inv-loop μ-loop
-loop-holds c = turn-begin _ _ _ _ (c .before .before .before .pre)
+loop-holds c = turn-begin _ _ _ _ (c .before .before .before .before .pre .0)
 
 least-requires : tie.Need-least-requires Inv-loop μ-loop
 least-requires c κs = search needs
@@ -40,9 +40,9 @@ loop-again c =
     let after-least = after-put-line .before .before in
     let test = after-least .before in
     let at-loop = test .before in
-    let start = at-loop .before .before .before .before in
+    let start = at-loop .before .before .before .before .before in
     let w = after-put-line .put-line in
-    turn-next (start .pre) (test .loop-test .taken) (after-least .least .ensures) refl (w .kept .0) (w .ensures) (at-loop .loop .inv)
+    turn-next (start .pre .0) (test .loop-test .taken) (start .pre .2) (after-least .least .ensures) refl (w .kept .0) (w .ensures) (at-loop .loop .inv)
 
 same-length : tie.Need-same-length Inv-loop μ-loop
 same-length c = c .before .loop .inv .same-size

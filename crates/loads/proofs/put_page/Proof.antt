@@ -9,6 +9,15 @@ use Rattle.loads.proofs.Orders.{sorted-total}
 use Rattle.loads.proofs.put_page.Statement.{statement}
 use Rattle.loads.proofs.put_page.Tie as tie
 
+slice-aggregate-keep-keys : tie.Need-slice-aggregate-keep-keys
+slice-aggregate-keep-keys c = search needs
+
+keep-keys-requires : tie.Need-keep-keys-requires
+keep-keys-requires c κs = search needs
+
+slice-aggregate-put-lines : tie.Need-slice-aggregate-put-lines
+slice-aggregate-put-lines c = search needs
+
 put-lines-requires : tie.Need-put-lines-requires
 put-lines-requires c κs = search needs
 
@@ -27,11 +36,21 @@ returns c =
     let after-put-total = c .before .before in
     let after-sum = after-put-total .before in
     let after-put-lines = after-sum .before .before .before .before in
-    let a = after-put-lines .before .before .before .before .before .args in
+    let after-keep-keys = after-put-lines .before .before .before .before in
+    let a = after-keep-keys .before .before .before .before .before .args in
     let s = after-sum .sum .ensures in
     let total-is = s .0 ∙ sym (sorted-total (linesIn (now (a .clocks)) (now (a .times)) (a .n))) in
     (both (after-put-lines .put-lines .ensures) (rw total-is at (after-put-total .put-total .ensures)), s .1)
 
 pub put-page-spec : {M : Type 1} → statement M
 put-page-spec =
-    tie.close (tie.spec put-lines-requires sum-requires put-total-requires same-length returns)
+    tie.close
+    (tie.spec
+    slice-aggregate-keep-keys
+    keep-keys-requires
+    slice-aggregate-put-lines
+    put-lines-requires
+    sum-requires
+    put-total-requires
+    same-length
+    returns)

@@ -35,13 +35,17 @@ keyIn ws f = key (lineIn ws [] f)
 abbrev pub noKey : ℕ
 noKey = 9223372036854775808
 
+-- the keys of n flows, kept flow after flow
+pub record Keyed (ws : List ℕ) (n : ℕ) (ks : List ℕ) : Type 0 where
+  pub kept : (g : ℕ) → g < n → getD ks g 0 ≡ keyIn ws g
+  pub below : (g : ℕ) → g < n → keyIn ws g < noKey
+
 -- the lesser of the best key so far and a key that is not below from
 abbrev pub lesser : ℕ → ℕ → ℕ → ℕ
 lesser from k best = cond (ltb k from) best (cond (ltb k best) k best)
 
--- the least key of n flows that is not below from, and noKey where there is none
-pub record Least (ws : List ℕ) (n from best : ℕ) : Type 0 where
+-- the least of n keys that is not below from, and noKey where there is none
+pub record Least (ks : List ℕ) (n from best : ℕ) : Type 0 where
   pub bound : best ≤ noKey
-  pub keys : (g : ℕ) → g < n → keyIn ws g < noKey
-  pub least : (g : ℕ) → g < n → from ≤ keyIn ws g → best ≤ keyIn ws g
-  pub found : best < noKey → (g : ℕ) × (g < n) × (from ≤ keyIn ws g) × (keyIn ws g ≡ best)
+  pub least : (g : ℕ) → g < n → from ≤ getD ks g 0 → best ≤ getD ks g 0
+  pub found : best < noKey → (g : ℕ) × (g < n) × (from ≤ getD ks g 0) × (getD ks g 0 ≡ best)
