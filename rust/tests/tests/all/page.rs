@@ -5,8 +5,8 @@ use tests::implementation::{Parts, ALL};
 use tests::Plan;
 
 /// The load page of rows and worst times has exactly these lines, which are worked out by hand.
-fn prints(rows: &[[u32; 4]], times: &[u16], lines: &[&str]) {
-    let page: String = lines.iter().map(|line| format!("{line}\n")).collect();
+fn prints(rows: &[[u32; 4]], times: &[u16], lines: &[impl AsRef<str>]) {
+    let page: String = lines.iter().map(|line| format!("{}\n", line.as_ref())).collect();
     let outcome = load_page_exactly(&ALL, &Plan::of(rows), times);
     assert_eq!(outcome.parts, (0, 0, 0, page.len() as u32), "{rows:?}");
     assert_eq!(String::from_utf8_lossy(&outcome.bytes[..page.len()]), page, "{rows:?}");
@@ -48,7 +48,7 @@ fn loads() {
         (65_535, 2, 32_767_500),
     ] {
         let lines = [format!(" 0 {period:>5}     0 0 {load:>8}"), format!("total{load:>20}")];
-        prints(&[at(period, 0)], &[worst], &[&lines[0], &lines[1]]);
+        prints(&[at(period, 0)], &[worst], &lines);
     }
 }
 
@@ -121,7 +121,7 @@ fn order_at_the_limits() {
     let mut lines: Vec<String> = (0..63).map(|flow| format!("{flow:>2}     1     1 0        0")).collect();
     lines.insert(0, "63     1     0 0        0".to_string());
     lines.push("total                   0".to_string());
-    prints(&rows, &[0; 64], &lines.iter().map(String::as_str).collect::<Vec<_>>());
+    prints(&rows, &[0; 64], &lines);
 }
 
 /// The sum is that of the printed loads: 63 and 63 where 62.5 and 62.5 are 125, three times 333 where thirds are 1000.
@@ -130,7 +130,8 @@ fn totals_of_printed_loads() {
     let line = " 0    16     0 0       63";
     prints(&[at(16, 0); 2], &[1; 2], &[line, " 1    16     0 0       63", "total                 126"]);
     let thirds = [0, 1, 2].map(|flow| format!(" {flow}     3     0 0      333"));
-    prints(&[at(3, 0); 3], &[1; 3], &[&thirds[0], &thirds[1], &thirds[2], "total                 999"]);
+    let lines = [&thirds[0], &thirds[1], &thirds[2], "total                 999"];
+    prints(&[at(3, 0); 3], &[1; 3], &lines);
     let none = [0, 1, 2, 3].map(|flow| format!(" {flow}  4001     0 0        0"));
     let lines = [&none[0], &none[1], &none[2], &none[3], "total                   0"];
     prints(&[at(4001, 0); 4], &[2; 4], &lines);
@@ -141,14 +142,14 @@ fn totals_of_printed_loads() {
 fn the_longest_page() {
     let mut lines: Vec<String> = (0..64).map(|flow| format!("{flow:>2}     1     0 0 65535000")).collect();
     lines.push("total          4194240000".to_string());
-    prints(&[at(1, 0); 64], &[65_535; 64], &lines.iter().map(String::as_str).collect::<Vec<_>>());
+    prints(&[at(1, 0); 64], &[65_535; 64], &lines);
 
     let rows: Vec<[u32; 4]> = (0..64).map(|flow| at(64 - flow, 4095 - flow)).collect();
     let of_flow = |flow: u32| format!("{flow:>2} {:>5} {:>5} 0     1000", 64 - flow, 4095 - flow);
     let mut lines: Vec<String> = (0..64).rev().map(of_flow).collect();
     lines.push("total               64000".to_string());
     let times: Vec<u16> = (1..=64).rev().collect();
-    prints(&rows, &times, &lines.iter().map(String::as_str).collect::<Vec<_>>());
+    prints(&rows, &times, &lines);
 }
 
 /// Times and room one short, exact and one long. Bytes behind the page stay as they were.

@@ -118,10 +118,11 @@ fn random_pages(seed: u64, pages: usize) {
     let mut seen = [0; SORTS.len()];
     let plans = rounds(pages / OF_A_PLAN);
     for round in 0..plans {
-        let shape = shape(&mut rng);
-        let (mut plan, mut clocks) = match round % 4 {
-            0 => few_clocks(&mut rng),
-            _ => accepted(&mut rng, shape),
+        let (mut plan, mut clocks) = if round % 4 == 0 {
+            few_clocks(&mut rng)
+        } else {
+            let shape = shape(&mut rng);
+            accepted(&mut rng, shape)
         };
         if round % 10 == 0 {
             sample(&mut plan, &mut clocks);
