@@ -21,7 +21,7 @@ use Rattle.checker.proofs.RuleLaws.{Rule, by-input, by-constant, by-com
 use Rattle.checker.proofs.RuleLaws.{by-tail, by-sample, by-merge, rule-of}
 
 -- a rule reads the clocks of lower flows only
-clock-local : (clk clk′ : ℕ → Clock) (m f : ℕ) (r : Row) → Fits m f r → ((a : ℕ) → a < f → clk a ≡ clk′ a) → clockOf clk f r ≡ clockOf clk′ f r
+pub clock-local : (clk clk′ : ℕ → Clock) (m f : ℕ) (r : Row) → Fits m f r → ((a : ℕ) → a < f → clk a ≡ clk′ a) → clockOf clk f r ≡ clockOf clk′ f r
 unfolding clockOf
 clock-local clk clk′ m f (input n p) w s = refl
 clock-local clk clk′ m f (constant v n p) w s = refl
@@ -42,6 +42,17 @@ Clocked clk f rs = Each (λ (g : ℕ) (r : Row). clockOf clk g r ≡ good (clk g
 -- ks′ has the clocks of ks and more
 abbrev Extends : List Clock → List Clock → Type 0
 Extends ks ks′ = (a : ℕ) → a < length ks → clockAt ks a ≡ clockAt ks′ a
+
+-- past rows that have clocks
+pub clocks-past : (js : List Clock) (front back : List Row) (ks : List Clock) → clocksFrom js front ≡ good ks → clocksFrom js (front ++ back) ≡ clocksFrom ks back
+unfolding clocksFrom
+clocks-past js [] back ks e = ap (λ (l : List Clock). clocksFrom l back) (good-inj e)
+clocks-past js (r ∷ front) back ks e = go (clockOf (clockAt js) (length js) r) (λ k. clocks-past (js ++ (k ∷ [])) front back ks) e
+  where
+    go : (v : Result Clock) → ((k : Clock) → clocksFrom (js ++ (k ∷ [])) front ≡ good ks → clocksFrom (js ++ (k ∷ [])) (front ++ back) ≡ clocksFrom ks back)
+        → then v (λ k. clocksFrom (js ++ (k ∷ [])) front) ≡ good ks → then v (λ k. clocksFrom (js ++ (k ∷ [])) (front ++ back)) ≡ clocksFrom ks back
+    go (good k) next h = next k h
+    go (refused why g) next h = not-good h
 
 -- The rows all have clocks, or there is a first that is refused.
 data View (ks : List Clock) (rs : List Row) : Result (List Clock) → Type 0 where

@@ -11,11 +11,11 @@ use lib.Dec.{eqb, leb}
 use borrow.Author.Tests.{le-leb, lt-leb}
 use Rattle.table.specs.Answers.{Refusal, noRoom, Result, good, refused, unless, then, refusal, over}
 use Rattle.table.specs.Rows.{Row, Words, onRegister, badRegister}
-use Rattle.table.specs.Tables.{Fits}
+use Rattle.table.specs.Tables.{Holds}
 use Rattle.table.specs.Plain.{tableOf, rowsIn}
 use Rattle.table.proofs.Tests.{not-good, good-inj, then-good}
 use Rattle.table.proofs.Tables.{Made, Table, AllFit}
-use Rattle.table.proofs.Registers.{RegisterOr, is-register, is-other, register-or, register-by}
+use Rattle.table.proofs.Registers.{register-same, register-by}
 use Rattle.checker.specs.Clocks.{Clock}
 use Rattle.checker.specs.Rules.{clockOf, clockAt, clocksFrom, clocksOf, sourced, sourceFits, AllWithin}
 use Rattle.checker.specs.Answers.{clockSize, clocksWords, checking, checkAnswer, clocksAfter}
@@ -24,13 +24,6 @@ use Rattle.checker.proofs.Agree.{few, same-kept}
 use Rattle.checker.proofs.Folds.{clock-in, words-length}
 
 -- ---- the registers' sources, over clocks and over words
-
-register-same : (t u : ℕ → ℕ → Bool) (m f : ℕ) (r : Row) → Fits m f r → f ≤ m → ((b a : ℕ) → b < m → a < m → t b a ≡ u b a) → onRegister t r ≡ onRegister u r
-register-same t u m f r h l e = go r (register-or r) h
-  where
-    go : (r : Row) → RegisterOr r → Fits m f r → onRegister t r ≡ onRegister u r
-    go r (is-register {b = b} {a = a}) h = e b a (omega (arith, h .0)) (h .1)
-    go r (is-other p) h = p t ∙ sym (p u)
 
 -- a row by its words: registers are of kind 7
 pub row-register : (test : ℕ → ℕ → Bool) (m f : ℕ) (w : Words) (r : Row) → Made m f w r → onRegister test r ≡ cond (eqb (w .kind) 7) (test (w .two) (w .three)) true
@@ -41,7 +34,7 @@ bad-same : (t u : ℕ → ℕ → Bool) (m f : ℕ) (rows : List Row) → AllFit
 unfolding badRegister
 bad-same t u m f [] h l e = refl
 bad-same t u m f (r ∷ rs) h l e =
-    ap₂ (λ (x : Bool) (y : Option ℕ). cond x y (some f)) (register-same t u m f r (h .0) (omega arith) e) (bad-same t u m (suc f) rs (h .1) (omega arith) e)
+    ap₂ (λ (x : Bool) (y : Option ℕ). cond x y (some f)) (register-same (Holds m f) t u r (h .0) (λ b a p q. e b a (omega (arith, p)) q)) (bad-same t u m (suc f) rs (h .1) (omega arith) e)
 
 clocks-length : (js : List Clock) (rows : List Row) (ks : List Clock) → clocksFrom js rows ≡ good ks → length ks ≡ length js + length rows
 unfolding clocksFrom

@@ -1,11 +1,11 @@
 -- What a rule that gives a clock has found. Assumes nothing.
-use mathlib.Core.Path.{_≡_, subst}
+use mathlib.Core.Path.{_≡_, refl, subst}
 use Prim.Native.Nat.{ℕ, _+_, _*_, _≤_}
 use mathlib.Core.Bool.{Bool, true, false, _&&_}
 use lib.ListN.{length}
 use lib.Dec.{eqb, leb}
 use borrow.Author.Tests.{eqb-true, leb-true, le-leb}
-use Rattle.table.specs.Answers.{Refusal, good, unless, clocksDiffer, beyondLimits, notPlain}
+use Rattle.table.specs.Answers.{Refusal, Result, good, refused, unless, clocksDiffer, beyondLimits, notPlain}
 use Rattle.table.specs.Rows.{Row, Op, input, constant, combine, register, faster, slower, later, head, tail, sample, merge}
 use Rattle.table.proofs.Tests.{and-left, and-right, and-both, good-inj, unless-good}
 use Rattle.checker.specs.Clocks.{Clock, every, plain, sameClock, under}
@@ -34,6 +34,32 @@ limited-good : (f : ℕ) (j k : Clock) → limited f j ≡ good k → (j ≡ k) 
 limited-good f j k e =
     let r = unless-good (withinLimits j) beyondLimits f (good j) k e in
     (good-inj (r .1), limits j (r .0))
+
+-- a refusal names the row's own flow
+abbrev pub Own : ℕ → Result Clock → Type 0
+Own f (good k) = Unit {0}
+Own f (refused why g) = g ≡ f
+
+own-unless : (f : ℕ) (b : Bool) (why : Refusal) (r : Result Clock) → Own f r → Own f (unless b why f r)
+own-unless f true why r h = h
+own-unless f false why r h = refl
+
+own-limited : (f : ℕ) (k : Clock) → Own f (limited f k)
+own-limited f k = own-unless f (withinLimits k) beyondLimits (good k) tt
+
+pub own-row : (clk : ℕ → Clock) (f : ℕ) (r : Row) → Own f (clockOf clk f r)
+unfolding clockOf
+own-row clk f (input n p) = tt
+own-row clk f (constant v n p) = tt
+own-row clk f (combine op a b) = own-unless f (sameClock (clk a) (clk b)) clocksDiffer (good (clk a)) tt
+own-row clk f (register v b a) = tt
+own-row clk f (faster a k g) = own-unless f (plain (clk a)) notPlain _ (own-unless f (eqb (clk a .period) (k * g)) clocksDiffer (good (every g (clk a .phase))) tt)
+own-row clk f (slower a k) = own-unless f (plain (clk a)) notPlain _ (own-limited f (every (k * clk a .period) (clk a .phase)))
+own-row clk f (later a d) = own-unless f (plain (clk a)) notPlain _ (own-limited f (every (clk a .period) (clk a .phase + d)))
+own-row clk f (head a v s) = own-unless f (plain (clk a)) notPlain _ (own-unless f (eqb (clk a .phase) (s + clk a .period)) clocksDiffer (good (every (clk a .period) s)) tt)
+own-row clk f (tail a) = own-unless f (plain (clk a)) notPlain _ (own-limited f (every (clk a .period) (clk a .phase + clk a .period)))
+own-row clk f (sample u a c) = own-unless f (sameClock (clk a) (clk c)) clocksDiffer _ (own-limited f (under (clk a) c u))
+own-row clk f (merge c a b) = own-unless f (sameClock (clk a) (under (clk c) c true) && sameClock (clk b) (under (clk c) c false)) clocksDiffer (good (clk c)) tt
 
 -- The rules once more, as what holds where a row has a clock.
 pub data Rule (clk : ℕ → Clock) : Row → Clock → Type 0 where

@@ -18,7 +18,7 @@ use Rattle.checker.specs.Clocks.{Clock}
 use Rattle.checker.specs.Answers.{clockSize, checking}
 use Rattle.table.proofs.AnswerLaws.{answer-zero}
 use Rattle.table.proofs.ReadLaws.{opened}
-use Rattle.table.proofs.RoundTrip.{length-joined}
+use Rattle.table.proofs.PlainRows.{length-joined}
 use Rattle.checker.proofs.Bounds.{checked-within}
 use Rattle.lister.specs.Listing.{checked}
 

@@ -3,7 +3,8 @@ use mathlib.Core.Path.{_≡_, refl}
 use Prim.Native.Nat.{ℕ}
 use native.Mathlib.Omega.{arith}
 use Rattle.table.specs.Answers.{Refusal, noRoom, badCount, cutShort, unknownKind, outOfRange, misplaced, badFilling, clocksDiffer}
-use Rattle.table.specs.Answers.{beyondLimits, notPlain, tooManyTicks, wrongLog, shortTrace, clash, shortWindow, wrongTimes, shortPage, number, Result, good, refused, answer}
+use Rattle.table.specs.Answers.{beyondLimits, notPlain, tooManyTicks, wrongLog, shortTrace, clash, shortWindow, wrongTimes, shortPage, notDiffering}
+use Rattle.table.specs.Answers.{number, Result, good, refused, answer}
 
 -- no refusal has the number 0
 pub no-zero : (why : Refusal) → number why ≡ 0 → ⊥
@@ -24,6 +25,7 @@ no-zero clash e = omega arith
 no-zero shortWindow e = omega arith
 no-zero wrongTimes e = omega arith
 no-zero shortPage e = omega arith
+no-zero notDiffering e = omega arith
 
 -- an answer with number 0 has a result behind it
 pub answer-zero : {A : Type 0} (size : A → ℕ) (r : Result A) → answer size r .number ≡ 0 → (a : A) × (r ≡ good a)
@@ -54,3 +56,4 @@ is-differing clash e = absurd (omega arith)
 is-differing shortWindow e = absurd (omega arith)
 is-differing wrongTimes e = absurd (omega arith)
 is-differing shortPage e = absurd (omega arith)
+is-differing notDiffering e = absurd (omega arith)

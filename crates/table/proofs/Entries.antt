@@ -6,10 +6,11 @@ use mathlib.Core.Option.{none, some, Option·none-ne-some, Option·some-injectiv
 use Prim.Native.Nat.{ℕ, zero, suc, _+_, _-_, _*_, _/_, _%_, _^_, _<_, _≤_}
 use native.Mathlib.Decide.{decLt}
 use native.Mathlib.Omega.{arith}
-use lib.Dec.{eqb}
-use lib.ListN.{length, getD, getElem?}
+use lib.Dec.{eqb, leb}
+use lib.ListN.{length, getD, getElem?, List·getD-eq-default}
 use borrow.Author.Tests.{eqb-true}
-use Rattle.table.specs.Rows.{Field, operand, source, copies, period, ticks, value, unused, least, width, Kind, kinds, kindCount, kindAt}
+use Rattle.table.specs.Rows.{Field, operand, source, copies, period, ticks, value, unused, least, width, Kind, kinds, noKind, kindCount, kindAt}
+use Rattle.table.specs.Links.{isFlow}
 use Rattle.table.specs.Private.Codes.{code, fieldList, leasts, mosts, widths, kindFields}
 use Rattle.table.proofs.Tests.{and-left, and-right}
 
@@ -78,6 +79,16 @@ code-lt ticks = omega arith
 code-lt value = omega arith
 code-lt unused = omega arith
 
+-- operands and sources have the lowest two numbers
+pub flow-code : (t : Field) → leb (code t) 1 ≡ isFlow t
+flow-code operand = refl
+flow-code source = refl
+flow-code copies = refl
+flow-code period = refl
+flow-code ticks = refl
+flow-code value = refl
+flow-code unused = refl
+
 -- a field by its number
 module _ (t : Field) (i : ℕ) (is : i ≡ code t) where
   pub field-lt : i < 7
@@ -127,6 +138,9 @@ kind-known n k e =
       | yes h ↦ (h, Option·some-injective (kindAt n) k (sym (kind-there n h) ∙ e))
       | no h ↦ absurd (Option·none-ne-some k (sym (kind-gone n (omega arith)) ∙ e))
     ]
+
+pub kind-none : (n : ℕ) → kindCount ≤ n → kindAt n ≡ noKind
+kind-none n h = List·getD-eq-default kinds noKind {n = n} (omega (arith, kinds-size))
 
 -- a number from 7 on that is none of 7 to 15 is no kind
 pub no-kind : (n : ℕ) → 7 ≤ n → (n ≡ 7 → ⊥) → (n ≡ 8 → ⊥) → (n ≡ 9 → ⊥) → (n ≡ 10 → ⊥) → (n ≡ 11 → ⊥)

@@ -4,6 +4,7 @@ pub mod Entries
 pub mod Registers
 pub mod Tables
 pub mod Linked
+pub mod PlainRows
 pub mod AnswerLaws
 mod BitLaws
 pub mod Lengths

@@ -1,13 +1,16 @@
 -- Registers and all other rows; the lowest register that fails a test: none if and only if every register passes. Assumes nothing.
-use mathlib.Core.Path.{_≡_, refl, _∙_, ap}
-use Prim.Native.Nat.{ℕ, suc, _<_}
+use mathlib.Core.Path.{_≡_, refl, sym, _∙_, ap}
+use Prim.Native.Nat.{ℕ, suc, _+_, _<_}
+use native.Mathlib.Omega.{arith}
 use mathlib.Core.Bool.{Bool, true, false, cond, _||_}
 use mathlib.Core.List.{List, [], _∷_, _++_}
-use mathlib.Core.Option.{Option, none, some}
+use mathlib.Core.Option.{Option, none, some, Option·none-ne-some}
 use lib.Dec.{eqb}
+use lib.ListN.{length}
 use borrow.Author.Tests.{eqb-true}
 use Rattle.table.specs.Rows.{Row, input, constant, combine, register, faster, slower, later, head, tail, sample, merge}
-use Rattle.table.specs.Rows.{onRegister, badRegister, kinds, kindCount, decode}
+use Rattle.table.specs.Rows.{onRegister, badRegister, Field, operand, source, kinds, kindCount, decode}
+use Rattle.table.specs.Tables.{RowHas}
 use Rattle.table.proofs.Tests.{Tried, passed, failed, try}
 use Rattle.table.proofs.Lists.{Each}
 use Rattle.table.proofs.Entries.{every, kind-test}
@@ -29,6 +32,15 @@ register-or (head a v s) = is-other (λ test. refl)
 register-or (tail a) = is-other (λ test. refl)
 register-or (sample u a c) = is-other (λ test. refl)
 register-or (merge c a b) = is-other (λ test. refl)
+
+-- tests that agree on the beats and sources of a row agree on the row
+pub register-same : (P : Field → ℕ → Type 0) (t u : ℕ → ℕ → Bool) (r : Row) → RowHas P r → ((b a : ℕ) → P operand b → P source a → t b a ≡ u b a)
+    → onRegister t r ≡ onRegister u r
+register-same P t u r h e = go r (register-or r) h
+  where
+    go : (r : Row) → RegisterOr r → RowHas P r → onRegister t r ≡ onRegister u r
+    go r (is-register {b = b} {a = a}) h = e b a (h .0) (h .1)
+    go r (is-other p) h = p t ∙ sym (p u)
 
 -- registers are of kind 7 alone: beat and source are the second field and the third
 no-register : (test : ℕ → ℕ → Bool) (x y z : ℕ) → every (λ n k. eqb n 7 || onRegister test (k .make x y z)) 0 kinds ≡ true
@@ -54,6 +66,17 @@ module _ (test : ℕ → ℕ → Bool) where
   unfolding badRegister
   none-bad f [] h = refl
   none-bad f (r ∷ rs) h = rw (h .0) (none-bad (suc f) rs (h .1))
+
+  -- past rows of which every register passes
+  pub bad-past : (f : ℕ) (front back : List Row) → badRegister test f front ≡ none → badRegister test f (front ++ back) ≡ badRegister test (f + length front) back
+  unfolding badRegister
+  bad-past f [] back e = ap (λ (i : ℕ). badRegister test i back) (omega arith)
+  bad-past f (r ∷ front) back e = go (onRegister test r) (bad-past (suc f) front back) e
+    where
+      go : (b : Bool) → (badRegister test (suc f) front ≡ none → badRegister test (suc f) (front ++ back) ≡ badRegister test (suc f + length front) back)
+          → cond b (badRegister test (suc f) front) (some f) ≡ none → cond b (badRegister test (suc f) (front ++ back)) (some f) ≡ badRegister test (f + suc (length front)) back
+      go true next h = next h ∙ ap (λ (i : ℕ). badRegister test i back) (omega arith)
+      go false next h = absurd (Option·none-ne-some f (sym h))
 
   -- every register passes, or there is one that does not
   pub data Registers (f : ℕ) (rs : List Row) : Option ℕ → Type 0 where

@@ -26,7 +26,8 @@ use Rattle.table.proofs.ByteLaws.{bytes-pad, bytes-bits, bits-packed}
 use Rattle.table.proofs.AnswerLaws.{no-zero}
 use Rattle.table.proofs.Entries.{kind-there}
 use Rattle.table.proofs.ReadLaws.{Opened, opened}
-use Rattle.table.proofs.WriteLaws.{tableBits, packed-split, length-split}
+use Rattle.table.proofs.PlainRows.{length-split, length-joined, split-joined, joined-split}
+use Rattle.table.proofs.WriteLaws.{tableBits, packed-split}
 
 -- ---- one field, of any width: every packed field goes through these two
 
@@ -169,28 +170,6 @@ zero-bits : (bs : List Bool) → filling bs ≡ true → bs ≡ replicate (lengt
 zero-bits bs e =
     let z : fromBits bs ≡ 0 = eqb-true (fromBits bs) 0 (and-right (ltb (length bs) 8) _ e) in
     sym (to-from bs) ∙ ap (toBits (length bs)) z ∙ zeros (length bs)
-
--- ---- four words a row
-
-split-joined : (ws : List Words) → split (length ws) (joined ws) ≡ ws
-unfolding split joined
-split-joined [] = refl
-split-joined (w ∷ ws) = ap (λ (l : List Words). w ∷ l) (split-joined ws)
-
-pub length-joined : (ws : List Words) → length (joined ws) ≡ rowSize * length ws
-unfolding joined
-length-joined [] = refl
-length-joined (w ∷ ws) = omega (arith, length-joined ws)
-
-joined-split : (n : ℕ) (words : List ℕ) → length words ≡ rowSize * n → joined (split n words) ≡ words
-unfolding split joined
-joined-split zero [] h = refl
-joined-split zero (a ∷ l) h = absurd (omega arith)
-joined-split (suc n) [] h = absurd (omega arith)
-joined-split (suc n) (a ∷ []) h = absurd (omega arith)
-joined-split (suc n) (a ∷ b ∷ []) h = absurd (omega arith)
-joined-split (suc n) (a ∷ b ∷ c ∷ []) h = absurd (omega arith)
-joined-split (suc n) (a ∷ b ∷ c ∷ d ∷ l) h = ap (λ (t : List ℕ). a ∷ b ∷ c ∷ d ∷ t) (joined-split n l (omega arith))
 
 -- ---- the whole table
 

@@ -14,27 +14,23 @@ use Rattle.table.specs.declared.Cursor.{Cursor}
 use Rattle.table.specs.declared.Record.{Record}
 use Rattle.table.specs.Answers.{Result, good, refused, unless, then, badFilling}
 use Rattle.table.specs.Rows.{Row, Words, rowOf, rowSize}
-use Rattle.table.specs.Plain.{joined, wordsOf}
+use Rattle.table.specs.Plain.{joined, plainRow, wordsOf}
 use Rattle.table.specs.Packed.{TakenRow, takeRows, filling, countWidth}
 use Rattle.table.specs.Places.{lastPlace}
 use Rattle.table.specs.Private.Codes.{verdict}
-use Rattle.table.specs.Private.Steps.{Found, Missing, plainWords, Ended, Stop}
+use Rattle.table.specs.Private.Steps.{Found, Missing, Ended, Stop}
 use Rattle.table.proofs.AnswerLaws.{no-zero}
+use Rattle.table.proofs.PlainRows.{joined-next}
 use Rattle.table.proofs.Records.{Outcome, fine, stopped, row-outcome}
 
 -- four words that are set one after the other
 pub four-set : (words : List ℕ) (i : ℕ) (r : Record) → i + rowSize ≤ length words
-    → set (set (set (set words i (r .kind)) (i + 1) (r .one)) (i + 2) (r .two)) (i + 3) (r .three) ≡ take i words ++ (plainWords r ++ drop (i + rowSize) words)
+    → set (set (set (set words i (r .kind)) (i + 1) (r .one)) (i + 2) (r .two)) (i + 3) (r .three) ≡ take i words ++ (plainRow (wordsOf r) ++ drop (i + rowSize) words)
 four-set words i r h =
     let e1 : i + 1 ≡ suc i = omega arith in
     let e2 : i + 2 ≡ suc (suc i) = omega arith in
     let e3 : i + 3 ≡ suc (suc (suc i)) = omega arith in
-    rw (e1, e2, e3) (sets-eq (plainWords r) words i h ∙ append-assoc (take i words) (plainWords r) (drop (i + rowSize) words))
-
-joined-next : (ws : List Words) (w : Words) → joined (ws ++ (w ∷ [])) ≡ joined ws ++ joined (w ∷ [])
-unfolding joined
-joined-next [] w = refl
-joined-next (v ∷ ws) w = rw (joined-next ws w)
+    rw (e1, e2, e3) (sets-eq (plainRow (wordsOf r)) words i h ∙ append-assoc (take i words) (plainRow (wordsOf r)) (drop (i + rowSize) words))
 
 -- what is left of a table comes behind the rows so far
 abbrev behind : List Words → Result (List Words) → Result (List Words)
@@ -109,19 +105,19 @@ module _ (bs : List Bool) (m row at : ℕ) (words : List ℕ) (u : Unpacking bs 
           go x (stopped why) q f e = record { why = why; is = e; comes = u .left ∙ rw (next, q) }
 
       pub unpacking-goes : (new : List ℕ) → eqb (verdict (rowOf m row (wordsOf r))) 0 ≡ true → rowSize * m ≤ length words
-          → new ≡ take (rowSize * row) words ++ (plainWords r ++ drop (rowSize * row + rowSize) words) → Unpacking bs m (row + 1) (p .at) new
+          → new ≡ take (rowSize * row) words ++ (plainRow (wordsOf r) ++ drop (rowSize * row + rowSize) words) → Unpacking bs m (row + 1) (p .at) new
       unfolding joined later
       unpacking-goes new t fits e =
           let i : ℕ = rowSize * row in
           let j : rowSize * (row + 1) ≡ i + rowSize = omega arith in
-          let head : List ℕ = take i words ++ plainWords r in
-          let len : length head ≡ i + rowSize = length-append (take i words) (plainWords r) ∙ ap (λ (k : ℕ). k + rowSize) (length-take-le i words (omega arith)) in
-          let e′ : new ≡ head ++ drop (i + rowSize) words = e ∙ sym (append-assoc (take i words) (plainWords r) (drop (i + rowSize) words)) in
+          let head : List ℕ = take i words ++ plainRow (wordsOf r) in
+          let len : length head ≡ i + rowSize = length-append (take i words) (plainRow (wordsOf r)) ∙ ap (λ (k : ℕ). k + rowSize) (length-take-le i words (omega arith)) in
+          let e′ : new ≡ head ++ drop (i + rowSize) words = e ∙ sym (append-assoc (take i words) (plainRow (wordsOf r)) (drop (i + rowSize) words)) in
           record {
             rows = u .rows ++ (wordsOf r ∷ []);
             stored =
                 ap (λ (k : ℕ). take k new) j ∙ ap (take (i + rowSize)) e′ ∙ take-at head (drop (i + rowSize) words) (i + rowSize) len
-                ∙ ap (λ (l : List ℕ). l ++ plainWords r) (u .stored) ∙ sym (joined-next (u .rows) (wordsOf r));
+                ∙ ap (λ (l : List ℕ). l ++ plainRow (wordsOf r)) (u .stored) ∙ sym (joined-next (u .rows) (wordsOf r));
             left = u .left ∙ ap (behind (u .rows)) (next ∙ go (rowOf m row (wordsOf r)) (row-outcome m row (wordsOf r)) (eqb-true _ _ t)) ∙ behind-next (u .rows) (wordsOf r) later;
           }
         where

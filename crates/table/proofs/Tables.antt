@@ -13,7 +13,7 @@ use Rattle.table.specs.Answers.{good, outOfRange, misplaced, badCount}
 use Rattle.table.specs.Rows.{Row, Field, operand, source, copies, period, ticks, value, unused, least, most, ranged, placed}
 use Rattle.table.specs.Rows.{Kind, kinds, kindCount, kindAt, decode, Words, rowSize, each, known, kindOf, fieldsOf, rowOf, maxFlows}
 use Rattle.table.specs.Plain.{four, rowWords, split, rowsFrom, countFits, tableOf}
-use Rattle.table.specs.Tables.{rowAt, In, Holds, FieldsFit, Fits}
+use Rattle.table.specs.Tables.{rowAt, In, Holds, WordsHave, RowHas, FieldsFit, Fits}
 use Rattle.table.proofs.Lists.{Each, each-entry}
 use Rattle.table.proofs.Entries.{kind-there, kind-known}
 use Rattle.table.proofs.Tests.{and-left, and-right, good-inj, not-good, unless-good, then-good}
@@ -92,13 +92,13 @@ fields-fit m f w r d =
       holds m f (k .three) (w .three) (each-three ranged k w (d .in-range)) (each-three (placed m f) k w (d .in-place)),
     )
 
--- each kind makes rows that fit of fields that fit
-Makes-fit : ℕ → ℕ → ℕ → ℕ → ℕ → ℕ → Kind → Type 0
-Makes-fit m f x y z i k = FieldsFit m f k x y z → Fits m f (k .make x y z)
+-- what the fields have, the row that each kind makes of them has
+Makes : (Field → ℕ → Type 0) → ℕ → ℕ → ℕ → ℕ → Kind → Type 0
+Makes P x y z i k = WordsHave P k x y z → RowHas P (k .make x y z)
 
-kinds-fit : (m f x y z : ℕ) → Each (Makes-fit m f x y z) 0 kinds
-unfolding kinds Makes-fit
-kinds-fit m f x y z = (first, (last, (first, (first, (first, (first, (first, (last, (all, (first, (first, (outer, (one, (first, (first, (all, tt))))))))))))))))
+kinds-make : (P : Field → ℕ → Type 0) (x y z : ℕ) → Each (Makes P x y z) 0 kinds
+unfolding kinds Makes
+kinds-make P x y z = (first, (last, (first, (first, (first, (first, (first, (last, (all, (first, (first, (outer, (one, (first, (first, (all, tt))))))))))))))))
   where
     first : {A B C : Type 0} → A × B × C → A × B
     first h = (h .0, h .1)
@@ -115,12 +115,15 @@ kinds-fit m f x y z = (first, (last, (first, (first, (first, (first, (first, (la
     all : {A : Type 0} → A → A
     all h = h
 
+pub row-has : (P : Field → ℕ → Type 0) (m f : ℕ) (w : Words) (r : Row) → Made m f w r → WordsHave P (kindAt (w .kind)) (w .one) (w .two) (w .three) → RowHas P r
+unfolding Makes
+row-has P m f w r d h =
+    subst (RowHas P) (d .row)
+    (each-entry (Makes P (w .one) (w .two) (w .three)) 0 kinds (w .kind) (kindAt (w .kind)) (kinds-make P (w .one) (w .two) (w .three))
+    (kind-there (w .kind) (d .known)) h)
+
 pub row-fits : (m f : ℕ) (w : Words) (r : Row) → Made m f w r → Fits m f r
-unfolding Makes-fit
-row-fits m f w r d =
-    subst (Fits m f) (d .row)
-    (each-entry (Makes-fit m f (w .one) (w .two) (w .three)) 0 kinds (w .kind) (kindAt (w .kind)) (kinds-fit m f (w .one) (w .two) (w .three))
-    (kind-there (w .kind) (d .known)) (fields-fit m f w r d))
+row-fits m f w r d = row-has (Holds m f) m f w r d (fields-fit m f w r d)
 
 -- A table that is not refused.
 pub record Table (m : ℕ) (words : List ℕ) (rows : List Row) : Type 0 where

@@ -2,7 +2,7 @@
 use mathlib.Core.Path.{_≡_, refl, sym, ap, ap₂, _∙_, subst}
 use mathlib.Core.Bool.{Bool, _&&_}
 use mathlib.Core.List.{List, [], _∷_, _++_, append-assoc, append-nil}
-use Prim.Native.Nat.{ℕ, zero, suc, _+_, _-_, _*_, _%_, _^_, _<_, _≤_}
+use Prim.Native.Nat.{ℕ, suc, _+_, _-_, _*_, _%_, _^_, _<_, _≤_}
 use native.Mathlib.Nat.{sub-zero, lt-of-lt-of-le}
 use native.Mathlib.Numerals.{add-one}
 use native.Mathlib.Omega.{arith}
@@ -26,6 +26,7 @@ use Rattle.table.proofs.Entries.{width-at, code-lt, kind-there}
 use Rattle.table.proofs.Lengths.{row-size}
 use Rattle.table.proofs.AnswerLaws.{no-zero}
 use Rattle.table.proofs.Records.{Outcome, fine, stopped, row-outcome, kind-lt, split-next, split-end, size-next, survey-next}
+use Rattle.table.proofs.PlainRows.{length-split}
 use Rattle.table.proofs.Puts.{more-bits, more-lt, put-none, put-put}
 use Rattle.table.proofs.ByteLaws.{begun-bytes, length-bytes}
 
@@ -125,11 +126,6 @@ module _ {m row at size : ℕ} {words out old : List ℕ} (pt : Putting m row at
         }
 
 -- ---- the whole
-
-pub length-split : (n : ℕ) (words : List ℕ) → length (split n words) ≡ n
-unfolding split
-length-split zero words = refl
-length-split (suc n) words = ap suc (length-split n (drop rowSize words))
 
 abbrev pub tableBits : ℕ → List ℕ → List Bool
 tableBits m words = toBits countWidth m ++ rowsBits (split m words)

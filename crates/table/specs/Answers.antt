@@ -7,12 +7,13 @@ use Rattle.table.specs.declared.Answer.{Answer}
 use Rattle.table.specs.declared.Reading.{Reading}
 use Rattle.table.specs.declared.Reading.the-variants.{Table, Refused}
 
--- the causes of table and codec, of the check, of the runs, and of the load page
+-- the causes of table and codec, of the check, of the runs, of the load page, and of the least part
 pub data Refusal : Type 0 where
   noRoom badCount cutShort unknownKind outOfRange misplaced badFilling : Refusal
   clocksDiffer beyondLimits notPlain : Refusal
   tooManyTicks wrongLog shortTrace clash shortWindow : Refusal
   wrongTimes shortPage : Refusal
+  notDiffering : Refusal
 
 abbrev pub number : Refusal → ℕ
 number noRoom = 10
@@ -32,6 +33,7 @@ number clash = 34
 number shortWindow = 35
 number wrongTimes = 36
 number shortPage = 37
+number notDiffering = 38
 
 -- What a piece of work comes to: its result, or the first refusal with the row or flow that it names, 0 where it names none.
 pub data Result (A : Type 0) : Type 0 where

@@ -1,5 +1,5 @@
 -- The plain form (the paper's word for the unpacked encoding): a count of flows, and four words a row.
-use Prim.Native.Nat.{ℕ, zero, suc, _*_}
+use Prim.Native.Nat.{ℕ, zero, suc, _+_, _*_}
 use mathlib.Core.Bool.{Bool, cond, _&&_}
 use mathlib.Core.List.{List, [], _∷_, _++_}
 use lib.ListN.{length, getD, take, drop}
@@ -26,10 +26,14 @@ split (suc n) ws = four ws ∷ split n (drop rowSize ws)
 abbrev pub rowWords : List ℕ → ℕ → Words
 rowWords words f = four (drop (rowSize * f) words)
 
+-- a row in plain form
+abbrev pub plainRow : Words → List ℕ
+plainRow w = w .kind ∷ w .one ∷ w .two ∷ w .three ∷ []
+
 -- the words of the rows, one after the other
 unfoldable pub joined : List Words → List ℕ
 joined [] = []
-joined (w ∷ ws) = w .kind ∷ w .one ∷ w .two ∷ w .three ∷ joined ws
+joined (w ∷ ws) = plainRow w ++ joined ws
 
 -- the rows of a table of m flows, from number f on
 unfoldable pub rowsFrom : ℕ → ℕ → List Words → Result (List Row)
@@ -51,6 +55,11 @@ rowsIn (refused why f) = []
 -- what the test of a table in plain form answers
 abbrev pub plainAnswer : ℕ → List ℕ → Answer
 plainAnswer m words = answer length (tableOf m words)
+
+-- a row put in its place, where there is room for it
+abbrev pub putRow : ℕ → Words → List ℕ → List ℕ
+putRow f w words =
+    cond (leb (rowSize * f + rowSize) (length words)) (take (rowSize * f) words ++ (plainRow w ++ drop (rowSize * f + rowSize) words)) words
 
 -- n words of one buffer over those of another, where both have as many
 abbrev pub copied : ℕ → List ℕ → List ℕ → List ℕ

@@ -121,8 +121,11 @@ abbrev pub kindCount : ℕ
 kindCount = 16
 
 -- the kind with a number, and the row that it makes of three fields; a number from kindCount on is no kind
+abbrev pub noKind : Kind
+noKind = kind unused unused unused (λ x y z. tail x)
+
 abbrev pub kindAt : ℕ → Kind
-kindAt n = getD kinds n (kind unused unused unused (λ x y z. tail x))
+kindAt n = getD kinds n noKind
 
 abbrev pub decode : ℕ → ℕ → ℕ → ℕ → Row
 decode n x y z = kindAt n .make x y z

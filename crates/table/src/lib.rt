@@ -2,7 +2,8 @@
 ghost use mathlib.Core.Path.{_≡_};
 ghost use lib.ListN.{getD, length};
 ghost use Rattle.table.specs.Answers.{numbered, parts, success};
-ghost use Rattle.table.specs.Plain.{rowWords, wordsOf, plainAnswer, copied};
+ghost use Rattle.table.specs.Plain.{rowWords, wordsOf, plainAnswer, putRow, copied};
+ghost use Rattle.table.specs.Links.{flowFields};
 ghost use Rattle.table.specs.Private.Codes.{told};
 ghost use Rattle.table.specs.Packed.{readAnswer, wordsAfter, writeAnswer, bytesAfter};
 
@@ -78,6 +79,13 @@ pub struct Record {
     pub three: u32,
 }
 
+// Which fields of a kind hold flow numbers.
+pub struct FlowFields {
+    pub one: bool,
+    pub two: bool,
+    pub three: bool,
+}
+
 // What the test of a table in plain form finds: how many bytes it takes in packed form, or a refusal and the row that it names.
 pub enum Survey {
     Fits(usize),
@@ -141,6 +149,8 @@ pub const WRONG_TIMES: u32 = 36;
 
 pub const SHORT_PAGE: u32 = 37;
 
+pub const NOT_DIFFERING: u32 = 38;
+
 // The bytes of the longest packed table.
 pub const LONGEST_TABLE: usize = (Cursor::LAST + 7) / 8;
 
@@ -169,6 +179,35 @@ pub fn record_at(words: &[u32], row: u32) -> Record
         one: word_at(words, i + 1),
         two: word_at(words, i + 2),
         three: word_at(words, i + 3),
+    }
+}
+
+// Puts the words of a row in their place, where there is room for them.
+pub fn put_record(words: &mut [u32], row: u32, r: Record)
+    ensures { λ _. ⌜ now (words .exit) ≡ putRow row (wordsOf r) (now (words .entry)) ⌝ }
+{
+    if words.len() < ROW_SIZE * (row as usize) + ROW_SIZE {
+        return;
+    }
+    unpack::store_row(words, row, r);
+}
+
+// The fields of a kind that hold flow numbers: operands, beat and source. A number that is no kind has none.
+pub fn flow_fields(kind: u32) -> FlowFields
+    ensures { λ r. ⌜ r ≡ flowFields kind ⌝ }
+{
+    if KINDS <= kind {
+        return FlowFields {
+            one: false,
+            two: false,
+            three: false,
+        };
+    }
+    let fields = rows::FIELDS;
+    FlowFields {
+        one: rows::holds_flow(kind, 0, &fields),
+        two: rows::holds_flow(kind, 1, &fields),
+        three: rows::holds_flow(kind, 2, &fields),
     }
 }
 

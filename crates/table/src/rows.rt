@@ -10,6 +10,7 @@ ghost use Prim.Native.Nat.{_<_};
 ghost use lib.ListN.{getD, length};
 ghost use Rattle.table.specs.Rows.{unused, each, kindAt, kindCount};
 ghost use Rattle.table.specs.Plain.{wordsOf};
+ghost use Rattle.table.specs.Links.{isFlow};
 ghost use Rattle.table.specs.Lengths.{rowLength, recordLengths};
 ghost use Rattle.table.specs.Private.Codes.{code, fieldList, kindFields, leasts, bounded, Within, Accepted, Fault};
 
@@ -91,6 +92,14 @@ pub(crate) fn field_of(kind: u32, place: usize, fields: &[u32]) -> usize
     ensures { λ r. ⌜ r ≡ code (getD (fieldList (kindAt kind)) place unused) ⌝ }
 {
     ((fields[kind as usize] >> (3 * place)) % 8) as usize
+}
+
+// Whether the field of a known kind at a place holds a flow's number.
+pub(crate) fn holds_flow(kind: u32, place: usize, fields: &[u32]) -> bool
+    requires { ⌜ (kind < kindCount) × (place < 3) × (now fields ≡ kindFields) ⌝ }
+    ensures { λ r. ⌜ r ≡ isFlow (getD (fieldList (kindAt kind)) place unused) ⌝ }
+{
+    field_of(kind, place, fields) <= (SOURCE as usize)
 }
 
 // Whether x is neither below a field's least number nor at its bound or above.

@@ -33,14 +33,14 @@ ghost use mathlib.Core.Path.{_≡_};
 ghost use mathlib.Core.List.{_++_};
 ghost use Prim.Native.Nat.{_+_, _*_, _/_, _<_, _≤_, _^_, _%_};
 ghost use lib.ListN.{getD, length, take, drop};
-ghost use Rattle.table.specs.Plain.{wordsOf};
+ghost use Rattle.table.specs.Plain.{wordsOf, plainRow};
 ghost use Rattle.table.specs.Bits.{bits};
 ghost use Rattle.table.specs.Rows.{kindCount, maxFlows, rowSize};
 ghost use Rattle.table.specs.Packed.{filling, unpacked, countWidth};
 ghost use Rattle.table.specs.Places.{lastPlace, longestRecord};
 ghost use Rattle.table.specs.Lengths.{recordLengths};
 ghost use Rattle.table.specs.Private.Codes.{kindFields, mosts, widths, fieldsIn};
-ghost use Rattle.table.specs.Private.Steps.{Stepped, Scanned, Unpacked, plainWords};
+ghost use Rattle.table.specs.Private.Steps.{Stepped, Scanned, Unpacked};
 
 // The field of a number whose shift low bits stand behind it.
 fn part(x: u64, shift: u32, field: usize, most: &[u32]) -> u32
@@ -90,9 +90,9 @@ impl Cursor {
 }
 
 // The four words of a row at its place.
-fn store_row(words: &mut [u32], row: u32, r: Record)
+pub(crate) fn store_row(words: &mut [u32], row: u32, r: Record)
     requires { ⌜ rowSize * row + rowSize ≤ length (now words) ⌝ }
-    ensures { λ u. ⌜ now (words .exit) ≡ take (rowSize * row) (now (words .entry)) ++ (plainWords r ++ drop (rowSize * row + rowSize) (now (words .entry))) ⌝ }
+    ensures { λ u. ⌜ now (words .exit) ≡ take (rowSize * row) (now (words .entry)) ++ (plainRow (wordsOf r) ++ drop (rowSize * row + rowSize) (now (words .entry))) ⌝ }
 {
     let i = ROW_SIZE * (row as usize);
     words[i] = r.kind;

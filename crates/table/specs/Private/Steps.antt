@@ -2,7 +2,7 @@
 use mathlib.Core.Path.{_≡_}
 use Prim.Native.Nat.{ℕ, _+_, _*_, _≤_}
 use mathlib.Core.Bool.{Bool}
-use mathlib.Core.List.{List, [], _∷_}
+use mathlib.Core.List.{List}
 use lib.ListN.{length, take, drop}
 use Rattle.table.specs.declared.Cursor.{Cursor}
 use Rattle.table.specs.declared.Record.{Record}
@@ -17,10 +17,6 @@ use Rattle.table.specs.Rows.{Words, rowOf, rowSize}
 use Rattle.table.specs.Packed.{takeRow, takeRows, filling, countWidth}
 use Rattle.table.specs.Plain.{wordsOf, joined}
 use Rattle.table.specs.Places.{lastPlace, longestRecord}
-
--- a row in plain form
-abbrev pub plainWords : Record → List ℕ
-plainWords r = r .kind ∷ r .one ∷ r .two ∷ r .three ∷ []
 
 -- the row at a place of the bits: its words, whose test is still to come, and the place after it
 pub record Found (bs : List Bool) (at : ℕ) (r : Record) (p : Cursor) : Type 0 where
