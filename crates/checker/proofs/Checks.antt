@@ -9,7 +9,7 @@ use lib.ListN.{length, drop, take, length-append}
 use lib.Seq.{take-at}
 use lib.Dec.{eqb, leb}
 use borrow.Author.Tests.{le-leb, lt-leb}
-use Rattle.table.specs.Answers.{Refusal, noRoom, Result, good, refused, unless, then, refusal, over}
+use Rattle.table.specs.Answers.{Refusal, noRoom, Result, good, refused, unless, then, over}
 use Rattle.table.specs.Rows.{Row, Words, onRegister, badRegister}
 use Rattle.table.specs.Tables.{Holds}
 use Rattle.table.specs.Plain.{tableOf, rowsIn}
@@ -18,7 +18,7 @@ use Rattle.table.proofs.Tables.{Made, Table, AllFit}
 use Rattle.table.proofs.Registers.{register-same, register-by}
 use Rattle.checker.specs.Clocks.{Clock}
 use Rattle.checker.specs.Rules.{clockOf, clockAt, clocksFrom, clocksOf, sourced, sourceFits, AllWithin}
-use Rattle.checker.specs.Answers.{clockSize, clocksWords, checking, checkAnswer, clocksAfter}
+use Rattle.checker.specs.Answers.{clockSize, clocksWords, checking, clocksAfter}
 use Rattle.checker.specs.Private.Kept as Kept
 use Rattle.checker.proofs.Agree.{few, same-kept}
 use Rattle.checker.proofs.Folds.{clock-in, words-length}
@@ -65,9 +65,6 @@ pub clocks-refused : (rows : List Row) (why : Refusal) (f : ℕ) → clocksFrom 
 unfolding clocksOf
 clocks-refused rows why f e = rw e
 
-pub rows-good : (m : ℕ) (words : List ℕ) (rows : List Row) → tableOf m words ≡ good rows → tableOf m words ≡ good (rowsIn (tableOf m words))
-rows-good m words rows e = rw e
-
 pub check-table : (m : ℕ) (words : List ℕ) (room : ℕ) (why : Refusal) (f : ℕ) → tableOf m words ≡ refused why f → checking m words room ≡ refused why f
 unfolding checking
 check-table m words room why f e = rw e
@@ -97,11 +94,6 @@ clocks-found rows ks e =
 
 all-clocks : (rows : List Row) (ks : List Clock) → clocksOf rows ≡ good ks → length ks ≡ length rows
 all-clocks rows ks e = omega (arith, clocks-length [] rows ks (clocks-found rows ks e))
-
--- a refusal leaves the buffer
-pub whole-refused : (m : ℕ) (words old : List ℕ) (why : Refusal) (f : ℕ) → checking m words (length old) ≡ refused why f
-    → (refusal why f ≡ checkAnswer m words (length old)) × (old ≡ clocksAfter m words old)
-whole-refused m words old why f e = (rw e, rw e)
 
 -- the words that were copied
 pub whole-copied : (m : ℕ) (words old zeros buffer new : List ℕ) (rows : List Row) (ks : List Clock) → Table m words rows → clocksOf rows ≡ good ks

@@ -10,6 +10,7 @@ use Rattle.text.specs.Text.{Wrote}
 use Rattle.text.proofs.Writing.{whole-text}
 use Rattle.table.specs.declared.Answer.{Answer}
 use Rattle.table.specs.Answers.{Refusal, Result, good, refused, refusal, success, leaves, wrongTimes, shortPage}
+use Rattle.table.proofs.AnswerLaws.{refused-leaves}
 use Rattle.table.specs.Rows.{maxFlows}
 use Rattle.table.specs.Plain.{tableOf}
 use Rattle.table.proofs.Tests.{then-good}
@@ -95,11 +96,6 @@ paging-refused : (m : ℕ) (words times : List ℕ) (room : ℕ) (why : Refusal)
 unfolding paging
 paging-refused m words times room why f e = rw e
 
--- a refusal leaves the page
-refused-page : (m : ℕ) (words times old : List ℕ) (why : Refusal) (f : ℕ) → paging m words times (length old) ≡ refused why f
-    → (refusal why f ≡ pageAnswer m words times (length old)) × (old ≡ pageAfter m words times old)
-refused-page m words times old why f e = (rw e, rw e)
-
 -- ---- after the check
 
 -- the check's refusal is handed on
@@ -107,7 +103,7 @@ pub checked-refusal : (m : ℕ) (words times : List ℕ) (room : ℕ) (r : Answe
     → (old : List ℕ) → (r ≡ pageAnswer m words times (length old)) × (old ≡ pageAfter m words times old)
 checked-refusal m words times room r l e z old =
     let x = told-refusal m words room r l e z in
-    let p = refused-page m words times old (x .0) (x .1) (paging-refused m words times (length old) (x .0) (x .1) (x .2)) in
+    let p = refused-leaves length (λ (page : List ℕ). page) (paging m words times (length old)) old (x .0) (x .1) (paging-refused m words times (length old) (x .0) (x .1) (x .2)) in
     (x .3 ∙ p .0, p .1)
 
 -- what the check answered and left, in a buffer that has room for any table
@@ -134,11 +130,11 @@ module _ {m : ℕ} {words zeros clocks : List ℕ} {found : Answer} (T : Told m 
     few = accepted m words times ks clocked .1
 
     pub wrong-times : (length times ≡ m → ⊥) → (old : List ℕ) → (refusal wrongTimes 0 ≡ pageAnswer m words times (length old)) × (old ≡ pageAfter m words times old)
-    wrong-times h old = refused-page m words times old wrongTimes 0 (paging-times m words times ks clocked (length old) h)
+    wrong-times h old = refused-leaves length (λ (page : List ℕ). page) (paging m words times (length old)) old wrongTimes 0 (paging-times m words times ks clocked (length old) h)
 
     pub short : length times ≡ m → (old : List ℕ) → length old < lineSize * (m + 1)
         → (refusal shortPage 0 ≡ pageAnswer m words times (length old)) × (old ≡ pageAfter m words times old)
-    short t old h = refused-page m words times old shortPage 0 (paging-short m words times ks clocked (length old) t h)
+    short t old h = refused-leaves length (λ (page : List ℕ). page) (paging m words times (length old)) old shortPage 0 (paging-short m words times ks clocked (length old) t h)
 
     -- the lines by the words that the check left are those by the clocks
     word : (f i : ℕ) → f < m → i < clockSize → getD clocks (clockSize * f + i) 0 ≡ getD (clockWords (clockAt ks f)) i 0

@@ -4,11 +4,17 @@ use Prim.Native.Nat.{ℕ, zero, suc, _<_}
 use native.Mathlib.Decide.{decLt}
 use native.Mathlib.Omega.{arith}
 use mathlib.Core.Bool.{Bool, true, false, _&&_, _||_}
+use mathlib.Core.List.{List}
 use lib.Dec.{eqb}
 use borrow.Author.Tests.{eqb-true, eq-eqb}
+use Rattle.table.specs.Rows.{Row}
+use Rattle.table.specs.Plain.{rowWords}
+use Rattle.table.specs.Tables.{rowAt}
 use Rattle.table.proofs.Tests.{and-left, and-right, and-both, or-left, or-right}
+use Rattle.table.proofs.Tables.{Table}
+use Rattle.table.proofs.Linked.{names-inside}
 use Rattle.reach.specs.Sets.{Flows}
-use Rattle.reach.specs.Reach.{Leads, itself, onward, through}
+use Rattle.reach.specs.Reach.{named, Leads, itself, onward, through}
 
 -- a test of two that is passed
 pub data Either (a b : Bool) : Type 0 where
@@ -104,3 +110,7 @@ module _ (step : ℕ → Flows) where
     leads-through f g l (onward h i x e) =
         let y : (h < m) × (through step m f h ≡ true) = leads-through f h l x in
         (inside h g (y .0) e, through-step m f h g (y .0) (y .1) e)
+
+-- the flows that a table's rows name are flows of the table
+pub named-inside : (m : ℕ) (words : List ℕ) (rows : List Row) → Table m words rows → (f g : ℕ) → f < m → named words f g ≡ true → g < m
+named-inside m words rows t f g l e = names-inside m f (rowWords words f) (rowAt rows f) (omega arith) (t .row-at f l) g e

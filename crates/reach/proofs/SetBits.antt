@@ -6,7 +6,7 @@ use native.Mathlib.Nat.{one-mul, zero-mul, pow-suc, div-eq-of-lt}
 use native.Mathlib.Omega.{arith}
 use mathlib.Core.Bool.{Bool, true, false, _&&_, _||_}
 use lib.Bits.{bitOr, or-step, or-shr, or-block, or-shifted, or-self, or-zero-l, or-zero-r}
-use lib.Dec.{eqb, ltb}
+use lib.Dec.{eqb}
 use lib.Pow.{pow-lt, pow-add, pow-pos, shl-shr}
 use borrow.Author.Tests.{lt-ltb, le-ltb, eq-eqb, ne-eqb}
 use Rattle.table.specs.Bits.{bit}
@@ -50,7 +50,8 @@ has-one f g l =
           rw (z, ne-eqb f g (λ (e : f ≡ g). omega arith)))
       | no x ↦ elim (decLt g f) [
         | yes y ↦ (let e : f ≡ suc (f - suc g) + g = omega arith in
-            let z : 2 ^ f / 2 ^ g ≡ 2 ^ (f - suc g) * 2 = ap (λ (i : ℕ). 2 ^ i / 2 ^ g) e ∙ ap (λ (i : ℕ). i / 2 ^ g) (pow-add 2 (suc (f - suc g)) g) ∙ shl-shr (2 ^ suc (f - suc g)) g ∙ pow-suc 2 (f - suc g) in
+            let z : 2 ^ f / 2 ^ g ≡ 2 ^ (f - suc g) * 2 =
+            ap (λ (i : ℕ). 2 ^ i / 2 ^ g) e ∙ ap (λ (i : ℕ). i / 2 ^ g) (pow-add 2 (suc (f - suc g)) g) ∙ shl-shr (2 ^ suc (f - suc g)) g ∙ pow-suc 2 (f - suc g) in
             let w : 2 ^ f / 2 ^ g % 2 ≡ 0 = ap (λ (i : ℕ). i % 2) z ∙ omega arith in
             rw (w, ne-eqb f g (λ (e : f ≡ g). omega arith)))
         | no y ↦ (let e : f ≡ g = omega arith in
@@ -109,7 +110,7 @@ set-or s t (suc n) =
     ∙ ap₂ (λ (x y : ℕ). x * 2 ^ n + y) (bit-or (s n) (t n)) (set-or s t n)
 
 -- its bits
-or-false : (b : Bool) → (b || false) ≡ b
+pub or-false : (b : Bool) → (b || false) ≡ b
 or-false true = refl
 or-false false = refl
 

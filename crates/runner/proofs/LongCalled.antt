@@ -11,7 +11,7 @@ use Rattle.table.specs.Plain.{tableOf, rowsIn as goodRows}
 use Rattle.table.proofs.Tests.{then-good}
 use Rattle.checker.specs.Rules.{clocksOf}
 use Rattle.checker.specs.Answers.{clockSize, clocksFor, checkAnswer}
-use Rattle.checker.proofs.Checks.{rows-good}
+use Rattle.table.proofs.Tables.{rows-good}
 use Rattle.checker.proofs.Bounds.{told-clocks, told-refusal}
 use Rattle.semantics.specs.Cells.{Cell, absent, value}
 use Rattle.semantics.specs.Runs.{Ticks, Ran, done, run, Regular}

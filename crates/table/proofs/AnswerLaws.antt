@@ -2,9 +2,10 @@
 use mathlib.Core.Path.{_≡_, refl}
 use Prim.Native.Nat.{ℕ}
 use native.Mathlib.Omega.{arith}
+use mathlib.Core.List.{List}
 use Rattle.table.specs.Answers.{Refusal, noRoom, badCount, cutShort, unknownKind, outOfRange, misplaced, badFilling, clocksDiffer}
 use Rattle.table.specs.Answers.{beyondLimits, notPlain, tooManyTicks, wrongLog, shortTrace, clash, shortWindow, wrongTimes, shortPage, notDiffering}
-use Rattle.table.specs.Answers.{number, Result, good, refused, answer}
+use Rattle.table.specs.Answers.{number, Result, good, refused, refusal, answer, leaves}
 
 -- no refusal has the number 0
 pub no-zero : (why : Refusal) → number why ≡ 0 → ⊥
@@ -36,6 +37,11 @@ answer-zero size (refused why f) e = absurd (no-zero why e)
 pub answer-other : {A : Type 0} (size : A → ℕ) (r : Result A) → (answer size r .number ≡ 0 → ⊥) → (why : Refusal) × (f : ℕ) × (r ≡ refused why f)
 answer-other size (good a) e = absurd (e refl)
 answer-other size (refused why f) e = (why, f, refl)
+
+-- a refusal is answered as it is, and leaves the buffer
+pub refused-leaves : {A : Type 0} (size : A → ℕ) (cells : A → List ℕ) (r : Result A) (old : List ℕ) (why : Refusal) (f : ℕ) → r ≡ refused why f
+    → (refusal why f ≡ answer size r) × (old ≡ leaves cells r old)
+refused-leaves size cells r old why f e = (rw e, rw e)
 
 -- 21 is the number of one cause
 pub is-differing : (why : Refusal) → number why ≡ number clocksDiffer → why ≡ clocksDiffer

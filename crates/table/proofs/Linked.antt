@@ -5,7 +5,7 @@ use native.Mathlib.Omega.{arith}
 use mathlib.Core.Bool.{Bool, true, false, _||_, false≢true}
 use borrow.Author.Tests.{eqb-true, eq-eqb}
 use Rattle.table.specs.Rows.{Row, Field, operand, source, copies, period, ticks, value, unused, Kind, kindAt, Words}
-use Rattle.table.specs.Tables.{Holds, RowHas, Linked}
+use Rattle.table.specs.Tables.{Holds, WordsHave, RowHas, Linked}
 use Rattle.table.specs.Links.{isFlow, fieldNames, names}
 use Rattle.table.proofs.Tests.{and-both, or-left, or-right}
 use Rattle.table.proofs.Tables.{Made, fields-fit, row-has}
@@ -53,7 +53,11 @@ module _ (w : Words) where
   third-named e = or-right (fieldNames (k .one) (w .one) (w .three)) _ (or-right (fieldNames (k .two) (w .two) (w .three)) _ (field-named (k .three) (w .three) e))
 
   -- what holds of each flow that the words name
-  pub linked : (Q : ℕ → Type 0) (m f : ℕ) (r : Row) → Made m f w r → ((x : ℕ) → names w x ≡ true → Q x) → RowHas (Linked Q m f) r
-  linked Q m f r d h =
-      let p = fields-fit m f w r d in
-      row-has (Linked Q m f) m f w r d ((p .0, λ e. h (w .one) (first-named e)), (p .1, λ e. h (w .two) (second-named e)), (p .2, λ e. h (w .three) (third-named e)))
+  module _ (Q : ℕ → Type 0) (m f : ℕ) (r : Row) (d : Made m f w r) (h : (x : ℕ) → names w x ≡ true → Q x) where
+    pub words-linked : WordsHave (Linked Q m f) k (w .one) (w .two) (w .three)
+    words-linked =
+        let p = fields-fit m f w r d in
+        ((p .0, λ e. h (w .one) (first-named e)), (p .1, λ e. h (w .two) (second-named e)), (p .2, λ e. h (w .three) (third-named e)))
+
+    pub linked : RowHas (Linked Q m f) r
+    linked = row-has (Linked Q m f) m f w r d words-linked

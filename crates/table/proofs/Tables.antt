@@ -1,5 +1,5 @@
 -- What a table that is not refused has: its rows, one by one, with their fields in range and in place. Assumes nothing.
-use mathlib.Core.Path.{_≡_, refl, _∙_, ap, subst}
+use mathlib.Core.Path.{_≡_, refl, sym, _∙_, ap, subst}
 use Prim.Native.Nat.{ℕ, zero, suc, _+_, _*_, _≤_, _<_}
 use native.Mathlib.Omega.{arith}
 use mathlib.Core.Bool.{Bool, true, _&&_}
@@ -9,13 +9,15 @@ use lib.ListN.{length, getD, drop, getElem?}
 use lib.Seq.{drop-drop, getD-drop}
 use lib.Dec.{eqb, leb}
 use borrow.Author.Tests.{leb-true, ltb-true, eqb-true}
+use Rattle.table.specs.declared.Answer.{Answer}
 use Rattle.table.specs.Answers.{good, outOfRange, misplaced, badCount}
 use Rattle.table.specs.Rows.{Row, Field, operand, source, copies, period, ticks, value, unused, least, most, ranged, placed}
 use Rattle.table.specs.Rows.{Kind, kinds, kindCount, kindAt, decode, Words, rowSize, each, known, kindOf, fieldsOf, rowOf, maxFlows}
-use Rattle.table.specs.Plain.{four, rowWords, split, rowsFrom, countFits, tableOf}
+use Rattle.table.specs.Plain.{four, rowWords, split, rowsFrom, countFits, tableOf, rowsIn, plainAnswer}
 use Rattle.table.specs.Tables.{rowAt, In, Holds, WordsHave, RowHas, FieldsFit, Fits}
 use Rattle.table.proofs.Lists.{Each, each-entry}
 use Rattle.table.proofs.Entries.{kind-there, kind-known}
+use Rattle.table.proofs.AnswerLaws.{answer-zero}
 use Rattle.table.proofs.Tests.{and-left, and-right, good-inj, not-good, unless-good, then-good}
 
 -- every row of a table of m flows, the first with number f
@@ -177,6 +179,15 @@ table-made m words rows e =
       fits = t .fits;
       row-at = λ f l. subst (λ (j : ℕ). Made m j (rowWords words f) (rowAt rows f)) (omega arith) (t .row-at f l);
     }
+
+pub rows-good : (m : ℕ) (words : List ℕ) (rows : List Row) → tableOf m words ≡ good rows → tableOf m words ≡ good (rowsIn (tableOf m words))
+rows-good m words rows e = rw e
+
+-- a table that was examined and not refused
+pub examined : (m : ℕ) (words : List ℕ) (found : Answer) → found ≡ plainAnswer m words → found .number ≡ 0 → tableOf m words ≡ good (rowsIn (tableOf m words))
+examined m words found told z =
+    let x = answer-zero length (tableOf m words) (ap (λ (w : Answer). w .number) (sym told) ∙ z) in
+    rows-good m words (x .0) (x .1)
 
 -- four words that are read one by one
 pub four-read : (l : List ℕ) (i : ℕ) → _≡_ {A = Words} (record { kind = getD l i 0; one = getD l (i + 1) 0; two = getD l (i + 2) 0; three = getD l (i + 3) 0 }) (four (drop i l))

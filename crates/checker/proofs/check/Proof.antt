@@ -10,13 +10,13 @@ use denote.Ref.{now}
 use borrow.Author.Tests.{le-leb}
 use borrow.Author.Needs.{needs}
 use Rattle.checker.specs.Rules.{clocksOf}
-use Rattle.checker.specs.Answers.{clockSize}
-use Rattle.table.proofs.Tables.{table-made}
+use Rattle.checker.specs.Answers.{clockSize, clocksWords, checking}
+use Rattle.table.proofs.Tables.{table-made, rows-good}
 use Rattle.table.specs.Answers.{good, answer, noRoom}
 use Rattle.table.specs.Rows.{Row}
 use Rattle.table.specs.Plain.{tableOf, rowsIn}
-use Rattle.table.proofs.AnswerLaws.{answer-zero, answer-other}
-use Rattle.checker.proofs.Checks.{rows-good, check-table, check-room, check-clocks, whole-refused, whole-copied}
+use Rattle.table.proofs.AnswerLaws.{answer-zero, answer-other, refused-leaves}
+use Rattle.checker.proofs.Checks.{check-table, check-room, check-clocks, whole-copied}
 use Rattle.checker.proofs.check.Statement.{statement}
 use Rattle.checker.proofs.check.Tie as tie
 
@@ -32,7 +32,7 @@ returns c =
     let old = now (a .clocks) in
     let x = after-examine .examine in
     let o = answer-other length (tableOf (a .count) ws) (λ z. c .if1 .taken (ap (λ w. w .number) (x .ensures) ∙ z)) in
-    let e = whole-refused (a .count) ws old (o .0) (o .1) (check-table (a .count) ws (length old) (o .0) (o .1) (o .2)) in
+    let e = refused-leaves length clocksWords (checking (a .count) ws (length old)) old (o .0) (o .1) (check-table (a .count) ws (length old) (o .0) (o .1) (o .2)) in
     (x .ensures ∙ ap (answer length) (o .2) ∙ e .0, e .1)
 
 mul-size : tie.Need-mul-size
@@ -54,7 +54,7 @@ returns-2 c =
     let z = answer-zero length (tableOf (a .count) ws) (ap (λ w. w .number) (sym (x .ensures)) ∙ else1 .if1 .left) in
     let g : tableOf (a .count) ws ≡ good (rowsIn (tableOf (a .count) ws)) = rows-good (a .count) ws (z .0) (z .1) in
     let t = table-made (a .count) ws (rowsIn (tableOf (a .count) ws)) g in
-    let e = whole-refused (a .count) ws old noRoom 0 (check-room (a .count) ws (length old) (z .0) (z .1) (then2 .if2 .taken)) in
+    let e = refused-leaves length clocksWords (checking (a .count) ws (length old)) old noRoom 0 (check-room (a .count) ws (length old) (z .0) (z .1) (then2 .if2 .taken)) in
     (c .refusal .ensures ∙ e .0, e .1)
 
 slice-aggregate-judge : tie.Need-slice-aggregate-judge
@@ -91,7 +91,7 @@ returns-3 c =
     let j = after-judge .judge in
     let rows : List Row = rowsIn (tableOf (a .count) ws) in
     let o = answer-other length (clocksOf rows) (λ z. c .if3 .taken (ap (λ w. w .number) (j .ensures .0) ∙ z)) in
-    let e = whole-refused (a .count) ws old (o .0) (o .1) (check-clocks (a .count) ws (length old) g (else2 .if2 .left) ∙ o .2) in
+    let e = refused-leaves length clocksWords (checking (a .count) ws (length old)) old (o .0) (o .1) (check-clocks (a .count) ws (length old) g (else2 .if2 .left) ∙ o .2) in
     (j .ensures .0 ∙ ap (answer length) (o .2) ∙ e .0, e .1)
 
 slice-aggregate-copy : tie.Need-slice-aggregate-copy

@@ -1,0 +1,5 @@
+pub mod Parts
+pub mod Answers
+pub mod PartChecks
+pub mod Given
+pub mod Private
