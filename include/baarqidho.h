@@ -79,7 +79,8 @@ enum baarqidho_number {
     BAARQIDHO_CLASH = 34,              /* operands do not fit together; names tick and flow */
     BAARQIDHO_WINDOW_TOO_SHORT = 35,   /* marks or values below 8,192 x flows, or tallies below 2 x flows */
     BAARQIDHO_BAD_TIMES_LENGTH = 36,   /* worst times not one a flow */
-    BAARQIDHO_PAGE_TOO_SHORT = 37      /* page below 26 x (flows + 1) bytes */
+    BAARQIDHO_PAGE_TOO_SHORT = 37,     /* page below 26 x (flows + 1) bytes */
+    BAARQIDHO_NOT_DIFFERING = 38       /* the check does not answer the plan with 21 */
 };
 
 /*
@@ -206,6 +207,35 @@ uint32_t baarqidho_load_page(uint32_t plan_count, const uint32_t *words, size_t 
                              const uint16_t *times, size_t times_len,
                              uint8_t *page, size_t page_len,
                              uint32_t *flow, uint32_t *tick, uint32_t *count);
+
+/*
+ * Gives the least part of a plan that the check still answers with 21. A part is a set of flows that has, with a flow,
+ * all its operands, beats and sources; as a plan it has their rows in order, its flows renumbered from 0 on. The least
+ * part is the one with fewest flows; among equals, the one drawn from the lowest single flow that leads to all the rest
+ * of its part.
+ *
+ * Success: count is the number of the part's flows; its rows are written in plain form, exactly 4 x count words, later
+ * ones are left as they were. Refusals, in this order, each of which leaves all of `part` as it was:
+ *   11, then row by row 13, 14, 15, as in baarqidho_write
+ *   38  the check answers the plan with 0, 22 or 23, even if it would answer a part of it with 21
+ *   10  `part` has fewer than 4 words for each flow of the least part (words_len words are enough)
+ */
+uint32_t baarqidho_least_part(uint32_t plan_count, const uint32_t *words, size_t words_len,
+                              uint32_t *part, size_t part_len,
+                              uint32_t *flow, uint32_t *tick, uint32_t *count);
+
+/*
+ * Gives the numbers that the flows of the same part have in the plan, ascending: row i of baarqidho_least_part is that
+ * of flow flows[i].
+ *
+ * Success: count is the number of the part's flows; exactly count words are written, later ones are left as they were.
+ * Refusals, in this order, each of which leaves all of `flows` as it was:
+ *   11, then row by row 13, 14, 15, and 38, as in baarqidho_least_part
+ *   10  `flows` has fewer words than the least part has flows (plan_count words are enough)
+ */
+uint32_t baarqidho_least_flows(uint32_t plan_count, const uint32_t *words, size_t words_len,
+                               uint32_t *flows, size_t flows_len,
+                               uint32_t *flow, uint32_t *tick, uint32_t *count);
 
 #ifdef __cplusplus
 }

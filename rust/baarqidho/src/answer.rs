@@ -54,6 +54,7 @@ impl Answer {
             35 => Refusal::WindowTooShort,
             36 => Refusal::BadTimesLength,
             37 => Refusal::PageTooShort,
+            38 => Refusal::NotDiffering,
             _ => Refusal::Other { number },
         })
     }
@@ -125,6 +126,8 @@ pub enum Refusal {
     BadTimesLength,
     /// 37: the page has less than [`PAGE_LINE`](crate::PAGE_LINE) bytes for each flow and the total.
     PageTooShort,
+    /// 38: the check does not answer the plan with 21, so that it has no least part.
+    NotDiffering,
     /// A number that the interface does not name.
     Other {
         /// That number.
@@ -153,6 +156,7 @@ impl Refusal {
             Refusal::WindowTooShort => 35,
             Refusal::BadTimesLength => 36,
             Refusal::PageTooShort => 37,
+            Refusal::NotDiffering => 38,
             Refusal::Other { number } => number,
         }
     }
@@ -177,6 +181,7 @@ impl Refusal {
             Refusal::WindowTooShort => "marks or values below a window, or tallies below two words a flow",
             Refusal::BadTimesLength => "the worst times are not one a flow",
             Refusal::PageTooShort => "the page has less than a line for each flow and the total",
+            Refusal::NotDiffering => "the check does not answer the plan with 21",
             Refusal::Other { .. } => "a number that the interface does not name",
         }
     }

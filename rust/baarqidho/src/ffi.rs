@@ -92,6 +92,28 @@ extern "C" {
         tick: *mut u32,
         count: *mut u32,
     ) -> u32;
+
+    fn baarqidho_least_part(
+        plan_count: u32,
+        words: *const u32,
+        words_len: usize,
+        part: *mut u32,
+        part_len: usize,
+        flow: *mut u32,
+        tick: *mut u32,
+        count: *mut u32,
+    ) -> u32;
+
+    fn baarqidho_least_flows(
+        plan_count: u32,
+        words: *const u32,
+        words_len: usize,
+        flows: *mut u32,
+        flows_len: usize,
+        flow: *mut u32,
+        tick: *mut u32,
+        count: *mut u32,
+    ) -> u32;
 }
 
 /// Makes a call that returns its number and puts flow, tick and count through the three pointers.
@@ -322,6 +344,73 @@ pub fn load_page(plan_count: u32, words: &[u32], times: &[u16], page: &mut [u8])
                 times.len(),
                 page.as_mut_ptr(),
                 page.len(),
+                flow,
+                tick,
+                count,
+            )
+        }
+    })
+}
+
+/// Gives the least part of a plain table that the check still answers with 21, in plain words,
+/// [`ROW_WORDS`](crate::ROW_WORDS) a flow. A part is a set of flows that has, with a flow, all its operands, beats and
+/// sources; its flows are renumbered in order. The least has the fewest flows; among equals it is the one drawn from
+/// the lowest single flow that leads to all the rest of its part.
+///
+/// Success gives the count of the part's flows and writes exactly their words. Refusals, none of which touches `part`:
+/// 11, 13, 14, 15, 38 where the check answers the plan with anything but 21, and 10 where `part` is too short. As many
+/// words as the plan has are enough.
+///
+/// ```
+/// // Two inputs, the tail of the second, and a sum of it and the first, which differ; the slower flow is not needed.
+/// let words = [0, 10, 0, 0, 9, 0, 2, 0, 0, 10, 5, 0, 12, 2, 0, 0, 2, 0, 3, 0];
+/// let mut part = [7; 20];
+/// let answer = baarqidho::least_part(5, &words, &mut part);
+/// assert_eq!((answer.number, answer.count), (0, 4));
+/// assert_eq!(part, [0, 10, 0, 0, 0, 10, 5, 0, 12, 1, 0, 0, 2, 0, 2, 0, 7, 7, 7, 7]);
+/// ```
+pub fn least_part(plan_count: u32, words: &[u32], part: &mut [u32]) -> Answer {
+    answer(|flow, tick, count| {
+        // SAFETY: pointers and lengths are those of live slices, `part` lent to this call alone.
+        unsafe {
+            baarqidho_least_part(
+                plan_count,
+                words.as_ptr(),
+                words.len(),
+                part.as_mut_ptr(),
+                part.len(),
+                flow,
+                tick,
+                count,
+            )
+        }
+    })
+}
+
+/// Gives the numbers that the flows of the least part have in the plan, ascending, one word a flow: row i of
+/// [`least_part()`] is that of flow `flows[i]`.
+///
+/// Success gives the count of the part's flows and writes exactly their numbers. Refusals, none of which touches
+/// `flows`: those of [`least_part()`], 10 where `flows` has fewer words than the part has flows. As many words as the
+/// plan has flows are enough.
+///
+/// ```
+/// let words = [0, 10, 0, 0, 9, 0, 2, 0, 0, 10, 5, 0, 12, 2, 0, 0, 2, 0, 3, 0];
+/// let mut flows = [7; 5];
+/// let answer = baarqidho::least_flows(5, &words, &mut flows);
+/// assert_eq!((answer.number, answer.count), (0, 4));
+/// assert_eq!(flows, [0, 2, 3, 4, 7]);
+/// ```
+pub fn least_flows(plan_count: u32, words: &[u32], flows: &mut [u32]) -> Answer {
+    answer(|flow, tick, count| {
+        // SAFETY: pointers and lengths are those of live slices, `flows` lent to this call alone.
+        unsafe {
+            baarqidho_least_flows(
+                plan_count,
+                words.as_ptr(),
+                words.len(),
+                flows.as_mut_ptr(),
+                flows.len(),
                 flow,
                 tick,
                 count,

@@ -2,13 +2,13 @@
 //!
 //! A plan is a table of 1 to 64 flows, each defined by one row. The library reads and writes the packed form of a
 //! table, gives each flow its clock (the check), replays an input log into a trace (the run) or, over millions of
-//! ticks, into a window and tallies (the long run), lists the clocks as text, and prints what each flow costs (the load
-//! page).
+//! ticks, into a window and tallies (the long run), lists the clocks as text, prints what each flow costs (the load
+//! page), and takes out of a plan whose clocks differ the fewest flows that still do (the least part).
 //!
-//! There are two layers. [`read()`], [`write()`], [`check()`], [`run()`], [`long_run()`], [`listing()`] and
-//! [`load_page()`] are the library's calls over slices that the caller lends; each takes any arguments and returns an
-//! [`Answer`]. [`Plan`] owns its words, is made of [`Row`]s, words or packed bytes, and returns [`Refusal`]s as errors;
-//! that of a run is a [`RunError`], which has the trace up to a clash.
+//! There are two layers. [`read()`], [`write()`], [`check()`], [`run()`], [`long_run()`], [`listing()`],
+//! [`load_page()`], [`least_part()`] and [`least_flows()`] are the library's calls over slices that the caller lends;
+//! each takes any arguments and returns an [`Answer`]. [`Plan`] owns its words, is made of [`Row`]s, words or packed
+//! bytes, and returns [`Refusal`]s as errors; that of a run is a [`RunError`], which has the trace up to a clash.
 //!
 //! ```
 //! use baarqidho::{Plan, Row, RunError};
@@ -34,6 +34,7 @@
 mod answer;
 mod clock;
 mod ffi;
+mod least;
 mod long;
 mod plan;
 mod row;
@@ -41,7 +42,8 @@ mod trace;
 
 pub use answer::{Answer, Refusal};
 pub use clock::{Clock, Condition};
-pub use ffi::{check, listing, load_page, long_run, read, run, write};
+pub use ffi::{check, least_flows, least_part, listing, load_page, long_run, read, run, write};
+pub use least::LeastPart;
 pub use long::LongRun;
 pub use plan::{list, Plan};
 pub use row::Row;

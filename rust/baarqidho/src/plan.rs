@@ -1,7 +1,7 @@
 //! A plan that owns its words, and the calls over it.
 
-use crate::{check, listing, load_page, long_run, read, run, write};
-use crate::{Clash, Clock, LongRun, Refusal, Row, RunError, Trace};
+use crate::{check, least_flows, least_part, listing, load_page, long_run, read, run, write};
+use crate::{Clash, Clock, LeastPart, LongRun, Refusal, Row, RunError, Trace};
 use crate::{CLOCK_WORDS, LISTING_MAX, MAX_FLOWS, MAX_LONG_TICKS, MAX_TICKS, PACKED_MAX, PAGE_MAX, ROW_WORDS};
 use crate::{TALLY_WORDS, WINDOW_TICKS};
 
@@ -189,6 +189,39 @@ impl Plan {
         let mut page = vec![0; PAGE_MAX];
         let bytes = load_page(self.count(), &self.words, times, &mut page).result()?;
         Ok(text(page, bytes))
+    }
+
+    /// The least part of it that the check still answers with 21. A part is a set of its flows that has, with a flow,
+    /// all its operands, beats and sources; the flows are renumbered in order. The least has the fewest flows; among
+    /// equals it is the one drawn from the lowest single flow that leads to all the rest of its part.
+    ///
+    /// ```
+    /// use baarqidho::{Plan, Refusal, Row};
+    ///
+    /// // The check names flow 2, which needs flows 0 and 1; flow 3 clashes with flow 0 alone.
+    /// let plan = Plan::from_rows([
+    ///     Row::Input { period: 6, phase: 0 },
+    ///     Row::Less { a: 0, b: 0 },
+    ///     Row::Merge { c: 0, a: 0, b: 1 },
+    ///     Row::Faster { a: 0, k: 3, gap: 3 },
+    /// ]);
+    /// assert_eq!(plan.clocks(), Err(Refusal::ClocksDiffer { flow: 2 }));
+    /// let least = plan.least_part()?;
+    /// assert_eq!(least.flows(), [0, 3]);
+    /// assert_eq!(least.plan().words(), [0, 6, 0, 0, 8, 0, 3, 3]);
+    /// # Ok::<(), Refusal>(())
+    /// ```
+    ///
+    /// # Errors
+    ///
+    /// The refusal of [`least_part()`]: 11, 13, 14, 15, or 38 where the check answers the plan with anything but 21.
+    pub fn least_part(&self) -> Result<LeastPart, Refusal> {
+        let (mut words, mut flows) = (vec![0; ROW_WORDS * MAX_FLOWS], vec![0; MAX_FLOWS]);
+        let count = least_part(self.count(), &self.words, &mut words).result()?;
+        words.truncate(ROW_WORDS * count);
+        let count = least_flows(self.count(), &self.words, &mut flows).result()?;
+        flows.truncate(count);
+        Ok(LeastPart::new(self, words, flows))
     }
 
     /// How many cells a clash has before it. That of a register is found after all flows of its tick.
