@@ -6,7 +6,7 @@
  * reply is number, flow, tick and count, then the slices written into, as they are afterwards. All in the machine's
  * order of bytes.
  *
- * `declared.h` is made from `baarqidho.h` by the test: READ_DECLARED and the six others are the calls with the
+ * `declared.h` is made from `baarqidho.h` by the test: READ_DECLARED and the eight others are the calls with the
  * header's own parameter names for arguments. A name that stands in another's place there is a wrong argument here.
  */
 #include <stdio.h>
@@ -137,6 +137,24 @@ static void answer_load_page(void)
     GIVE(page);
 }
 
+static void answer_least_part(void)
+{
+    uint32_t plan_count = take_number();
+    TAKE(uint32_t, words);
+    TAKE(uint32_t, part);
+    ANSWER(LEAST_PART_DECLARED);
+    GIVE(part);
+}
+
+static void answer_least_flows(void)
+{
+    uint32_t plan_count = take_number();
+    TAKE(uint32_t, words);
+    TAKE(uint32_t, flows);
+    ANSWER(LEAST_FLOWS_DECLARED);
+    GIVE(flows);
+}
+
 int main(void)
 {
     int letter;
@@ -150,6 +168,8 @@ int main(void)
         case 'X': answer_long_run(); break;
         case 'l': answer_listing(); break;
         case 'p': answer_load_page(); break;
+        case 'm': answer_least_part(); break;
+        case 'n': answer_least_flows(); break;
         default: return 1;
         }
         fflush(stdout);

@@ -374,6 +374,83 @@ static void all_of_load_page(void)
         same("the total", bytes[BAARQIDHO_MAX_FLOWS * BAARQIDHO_PAGE_LINE + row], (uint8_t)total[row]);
 }
 
+static void takes_least(const char *name, int of_flows, uint32_t plan_count, const uint32_t *of, size_t words_len,
+                        size_t len)
+{
+    begin(name);
+    if (of_flows)
+        number = baarqidho_least_flows(plan_count, of, words_len, words, len, &flow, &tick, &count);
+    else
+        number = baarqidho_least_part(plan_count, of, words_len, words, len, &flow, &tick, &count);
+}
+
+/* The least part, and then its flows, are refused alike. */
+static void refuses_least(const char *name, const uint32_t *of, size_t words_len, size_t len, uint32_t of_number,
+                          uint32_t of_flow)
+{
+    int of_flows;
+
+    for (of_flows = 0; of_flows < 2; of_flows++) {
+        takes_least(name, of_flows, (uint32_t)(words_len / BAARQIDHO_ROW_WORDS), of, words_len, len);
+        refuses(of_number, of_flow);
+    }
+}
+
+static void all_of_least(void)
+{
+    /* Inputs (6, 0), (7, 1) and (4, 2), a register, the sum of the last two inputs, and faster 2 gap 3 of the first. */
+    static const uint32_t refused[] = {0, 6, 0, 0, 0, 7, 1, 0, 0, 4, 2, 0, 7, 9, 2, 4, 2, 1, 2, 0, 8, 0, 2, 3};
+    static const uint32_t part[] = {0, 7, 1, 0, 0, 4, 2, 0, 2, 0, 1, 0};
+    static const uint32_t flows[] = {1, 2, 4};
+    uint32_t chain[BAARQIDHO_MAX_FLOWS * BAARQIDHO_ROW_WORDS];
+    size_t row;
+
+    takes_least("least part", 0, 6, refused, LENGTH(refused), 3 * BAARQIDHO_ROW_WORDS);
+    answers(BAARQIDHO_OK, 0, 0, 3);
+    wrote(NULL, 0, part, LENGTH(part));
+    takes_least("flows of the least part", 1, 6, refused, LENGTH(refused), 3);
+    answers(BAARQIDHO_OK, 0, 0, 3);
+    wrote(NULL, 0, flows, LENGTH(flows));
+    takes_least("least part, more room than it needs", 0, 6, refused, LENGTH(refused), LENGTH(words));
+    answers(BAARQIDHO_OK, 0, 0, 3);
+    wrote(NULL, 0, part, LENGTH(part));
+    takes_least("least part into too little", 0, 6, refused, LENGTH(refused), 3 * BAARQIDHO_ROW_WORDS - 1);
+    refuses(BAARQIDHO_OUTPUT_TOO_SHORT, 0);
+    takes_least("flows of the least part into too little", 1, 6, refused, LENGTH(refused), 2);
+    refuses(BAARQIDHO_OUTPUT_TOO_SHORT, 0);
+    takes_least("least part, count 5", 0, 5, refused, LENGTH(refused), LENGTH(words));
+    refuses(BAARQIDHO_BAD_COUNT, 0);
+    takes_least("flows of the least part, count 5", 1, 5, refused, LENGTH(refused), LENGTH(words));
+    refuses(BAARQIDHO_BAD_COUNT, 0);
+    refuses_least("least part of an accepted plan", plan, LENGTH(plan), 0, BAARQIDHO_NOT_DIFFERING, 0);
+    refuses_least("least part, period 4158", beyond, LENGTH(beyond), LENGTH(words), BAARQIDHO_NOT_DIFFERING, 0);
+    refuses_least("least part, tail of a sampled flow", sampled, LENGTH(sampled), LENGTH(words),
+                  BAARQIDHO_NOT_DIFFERING, 0);
+
+    memset(chain, 0, sizeof chain);
+    chain[1] = 1;
+    for (row = 1; row < BAARQIDHO_MAX_FLOWS; row++) {
+        chain[row * BAARQIDHO_ROW_WORDS] = 10;
+        chain[row * BAARQIDHO_ROW_WORDS + 1] = (uint32_t)row - 1;
+        chain[row * BAARQIDHO_ROW_WORDS + 2] = 3;
+    }
+    /* The last row is a head of the one before it. */
+    row = (BAARQIDHO_MAX_FLOWS - 1) * BAARQIDHO_ROW_WORDS;
+    chain[row] = 11;
+    takes_least("least part, all flows", 0, BAARQIDHO_MAX_FLOWS, chain, LENGTH(chain), LENGTH(chain));
+    answers(BAARQIDHO_OK, 0, 0, BAARQIDHO_MAX_FLOWS);
+    wrote(NULL, 0, chain, LENGTH(chain));
+    chain[row] = 16;
+    refuses_least("least part, kind 16", chain, LENGTH(chain), 0, BAARQIDHO_UNKNOWN_KIND, BAARQIDHO_MAX_FLOWS - 1);
+    chain[row] = 12;
+    refuses_least("least part, unused word", chain, LENGTH(chain), 0, BAARQIDHO_FIELD_OUT_OF_RANGE,
+                  BAARQIDHO_MAX_FLOWS - 1);
+    chain[row] = 10;
+    chain[row + 1]++;
+    refuses_least("least part, operand itself", chain, LENGTH(chain), 0, BAARQIDHO_BAD_OPERAND,
+                  BAARQIDHO_MAX_FLOWS - 1);
+}
+
 int main(void)
 {
     all_of_read();
@@ -383,5 +460,6 @@ int main(void)
     all_of_long_run();
     all_of_listing();
     all_of_load_page();
+    all_of_least();
     return is_wrong;
 }

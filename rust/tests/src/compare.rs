@@ -2,7 +2,7 @@
 
 use std::fmt::Debug;
 
-use crate::implementation::{Implementation, Parts};
+use crate::implementation::{Implementation, Parts, REFERENCE};
 use crate::Plan;
 
 /// The cells behind a lent buffer that no call may touch.
@@ -15,7 +15,7 @@ pub struct Outcome {
     pub parts: Parts,
     /// The buffer of bytes: packed, marks, text or page.
     pub bytes: Vec<u8>,
-    /// The buffer of words: plain words, clocks or values.
+    /// The buffer of words: plain words, clocks, values, a least part or its flows.
     pub words: Vec<u32>,
     /// The tallies of a long run.
     pub tallies: Vec<u32>,
@@ -168,6 +168,30 @@ pub fn load_page_exactly(of: &[&Implementation], plan: &Plan, times: &[u16]) -> 
     load_page(of, plan, times, page_bytes(plan.words.len() / 4))
 }
 
+/// Those of some implementations that answer for the least part of a plan. The paper word by word tries all sets of
+/// flows, and is left out where these are too many and the plan has a least part.
+fn trying<'a>(of: &[&'a Implementation], plan: &Plan) -> Vec<&'a Implementation> {
+    let is_long = plan.words.len() > 4 * reference::LEAST_MAX;
+    let are_too_many = is_long && (REFERENCE.check)(plan.count, &plan.words, &mut [0; 7 * 64]).0 == 21;
+    of.iter().copied().filter(|of| !(are_too_many && of.name == REFERENCE.name)).collect()
+}
+
+/// Gives the least part of a plan in a buffer of that many words.
+pub fn least_part(of: &[&Implementation], plan: &Plan, part_len: usize) -> Outcome {
+    let context = || format!("least part of {plan:?} into {part_len} words");
+    compare(&trying(of, plan), lengths(0, part_len), context, |of, lent| {
+        (of.least_part)(plan.count, &plan.words, lent.words)
+    })
+}
+
+/// Gives the flows of the least part of a plan in a buffer of that many words.
+pub fn least_flows(of: &[&Implementation], plan: &Plan, flows_len: usize) -> Outcome {
+    let context = || format!("flows of the least part of {plan:?} into {flows_len} words");
+    compare(&trying(of, plan), lengths(0, flows_len), context, |of, lent| {
+        (of.least_flows)(plan.count, &plan.words, lent.words)
+    })
+}
+
 /// A run in words, for messages.
 fn of_run(plan: &Plan, log: &[u32], ticks: u32) -> String {
     let shown = &log[..log.len().min(200)];
@@ -204,6 +228,12 @@ pub fn long_run(of: &[&Implementation], plan: &Plan, log: &[u32], ticks: u32, le
 /// Makes a long run of a plan over a log with buffers of exactly the cells needed.
 pub fn long_run_exactly(of: &[&Implementation], plan: &Plan, log: &[u32], ticks: u32) -> Outcome {
     long_run(of, plan, log, ticks, window(plan.words.len() / 4))
+}
+
+/// Whether a call wrote exactly these words, and left the pattern everywhere behind them.
+pub fn words_are(outcome: &Outcome, words: &[u32]) -> bool {
+    outcome.words[..words.len()] == *words
+        && (words.len()..outcome.words.len()).all(|place| outcome.words[place] == pattern_word(place))
 }
 
 /// Whether a trace has exactly the first `cells` cells written, each a mark 0 or 1 and value 0 where absent, and the

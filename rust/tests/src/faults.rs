@@ -4,7 +4,7 @@ use crate::rng::Rng;
 use crate::Plan;
 
 /// The fields of each kind: f a flow, s a source, k copies, p a period or gap, t a phase, delay or tick, v a value.
-const FIELDS: [&str; 16] =
+pub const FIELDS: [&str; 16] =
     ["pt", "vpt", "ff", "ff", "ff", "ff", "ff", "vfs", "fkp", "fk", "ft", "fvt", "f", "ff", "ff", "fff"];
 
 /// Plants one to three faults of any kind.
@@ -182,6 +182,29 @@ pub fn disturb(rng: &mut Rng, plan: &mut Plan) {
             'p' => rng.range(1, 12),
             _ => rng.range(0, 12),
         };
+    }
+}
+
+/// Breaks a sound plan so that the check mostly answers it with 21: other numbers and like kinds, other sources, rows
+/// over flows that do not go together.
+pub fn break_clocks(rng: &mut Rng, plan: &mut Plan) {
+    for _ in 0..rng.pick(&[1, 2, 3, 5, 8]) {
+        match rng.below(20) {
+            0 => beyond(rng, plan),
+            1..=5 => other_source(rng, plan),
+            6..=9 => any_operands(rng, plan),
+            _ => disturb(rng, plan),
+        }
+    }
+}
+
+/// A row that needs its operands' clocks to be equal or of some sort, over any lower flows.
+fn any_operands(rng: &mut Rng, plan: &mut Plan) {
+    let flow = some_row(rng, plan).unwrap_or(0) / 4;
+    if flow > 0 {
+        let [a, b, c] = [(); 3].map(|_| rng.below(flow) as u32);
+        let row = rng.pick(&[[2, a, b, 0], [8, a, 2, 3], [11, a, 5, 7], [13, a, b, 0], [15, a, b, c]]);
+        plan.words[4 * flow..][..4].copy_from_slice(&row);
     }
 }
 

@@ -3,7 +3,7 @@
 /// Number, flow, tick and count of an answer.
 pub type Parts = (u32, u32, u32, u32);
 
-/// An implementation of the seven calls.
+/// An implementation of the nine calls.
 #[derive(Debug)]
 pub struct Implementation {
     /// Its name, for messages.
@@ -24,6 +24,10 @@ pub struct Implementation {
     pub listing: fn(&[u8], &mut [u8]) -> Parts,
     /// Count, words and worst times to a load page.
     pub load_page: fn(u32, &[u32], &[u16], &mut [u8]) -> Parts,
+    /// Count and words to the least part.
+    pub least_part: fn(u32, &[u32], &mut [u32]) -> Parts,
+    /// Count and words to the flows of the least part.
+    pub least_flows: fn(u32, &[u32], &mut [u32]) -> Parts,
 }
 
 macro_rules! implementation {
@@ -39,6 +43,8 @@ macro_rules! implementation {
             },
             listing: |packed, text| parts!($krate::listing(packed, text)),
             load_page: |count, words, times, page| parts!($krate::load_page(count, words, times, page)),
+            least_part: |count, words, part| parts!($krate::least_part(count, words, part)),
+            least_flows: |count, words, flows| parts!($krate::least_flows(count, words, flows)),
         }
     };
 }

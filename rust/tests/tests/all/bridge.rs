@@ -148,4 +148,8 @@ pub static C: Implementation = Implementation {
     load_page: |count, words, times, page| {
         Request::new(b'p').number(count).words(words).times(times).bytes(page).answer(page, [])
     },
+    least_part: |count, words, part| Request::new(b'm').number(count).words(words).words(part).answer(&mut [], [part]),
+    least_flows: |count, words, flows| {
+        Request::new(b'n').number(count).words(words).words(flows).answer(&mut [], [flows])
+    },
 };

@@ -1,7 +1,7 @@
 //! Every limit, and one past it.
 
-use tests::compare::{check, listing, load_page, long_run, read, run, run_exactly, write, written_up_to};
-use tests::compare::{Lengths, Outcome};
+use tests::compare::{check, least_flows, least_part, listing, load_page, long_run, read, run, run_exactly, write};
+use tests::compare::{written_up_to, Lengths, Outcome};
 use tests::implementation::{Parts, ALL, QUICK};
 use tests::rng::Rng;
 use tests::{Plan, LISTING_MAX};
@@ -16,21 +16,27 @@ fn without_times(plan: &Plan) -> Outcome {
     load_page(&ALL, plan, &[], 0)
 }
 
-/// What the check answers. A long run and a load page hand on its refusal.
+/// What the check answers. A long run and a load page hand on its refusal; the least part is refused by 38, or for its
+/// room where the answer is 21.
 fn checked(rows: &[[u32; 4]]) -> Parts {
     let plan = Plan::of(rows);
     let parts = check(&ALL, &plan, 7 * rows.len()).parts;
     for (outcome, number) in [(without_buffers(&plan), 35), (without_times(&plan), 36)] {
         assert_eq!(outcome.parts, if parts.0 == 0 { (number, 0, 0, 0) } else { parts }, "{rows:?}");
     }
+    for outcome in [least_part(&ALL, &plan, 0), least_flows(&ALL, &plan, 0)] {
+        assert_eq!(outcome.parts, (if parts.0 == 21 { 10 } else { 38 }, 0, 0, 0), "{rows:?}");
+    }
     parts
 }
 
-/// Write, check, run, long run and load page refuse a plain table alike, by number and row, and touch nothing.
+/// Write, check, run, long run, load page and least part refuse a plain table alike, by number and row, and touch
+/// nothing.
 fn refused_plan(plan: &Plan, number: u32, row: u32) {
     let run = run(&ALL, plan, &[1, 2], 2, (9, 8));
     let page = load_page(&ALL, plan, &[1, 2], 1_690);
-    for outcome in [write(&ALL, plan, 489), check(&ALL, plan, 489), run, without_buffers(plan), page] {
+    let [part, flows] = [least_part(&ALL, plan, 0), least_flows(&ALL, plan, 64)];
+    for outcome in [write(&ALL, plan, 489), check(&ALL, plan, 489), run, without_buffers(plan), page, part, flows] {
         assert_eq!(outcome.parts, (number, row, 0, 0), "{plan:?}");
         assert!(outcome.is_untouched(), "{plan:?}");
     }

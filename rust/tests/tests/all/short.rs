@@ -1,6 +1,7 @@
 //! Many plans with short runs: all calls of all implementations, every cell compared.
 
-use tests::compare::{check, listing, load_page, long_run, page_bytes, read, run, window, write, Lengths};
+use tests::compare::{check, least_flows, least_part, listing, load_page, long_run, page_bytes, read, run, window};
+use tests::compare::{write, Lengths};
 use tests::faults::{any_rows, disturb, plant};
 use tests::generate::{accepted, Clock, Shape};
 use tests::implementation::{Implementation, ALL};
@@ -31,6 +32,7 @@ pub fn every_call(rng: &mut Rng, of: &[&Implementation], plan: &Plan, tally: &mu
     short_run(rng, of, plan, tally);
     short_long_run(rng, of, plan, tally);
     page(rng, of, plan, tally);
+    least(rng, of, plan, tally);
 
     let written = write(of, plan, 520);
     tally.add("write", written.parts.0);
@@ -91,6 +93,17 @@ fn page(rng: &mut Rng, of: &[&Implementation], plan: &Plan, tally: &mut Tally) {
     let outcome = load_page(of, plan, &times, rng.around(page_bytes(flows)));
     tally.add("load page", outcome.parts.0);
     assert!(outcome.parts.0 == 0 || outcome.is_untouched());
+}
+
+/// The least part and its flows, the room now and then too little.
+fn least(rng: &mut Rng, of: &[&Implementation], plan: &Plan, tally: &mut Tally) {
+    let flows = plan.words.len() / 4;
+    let part = least_part(of, plan, rng.around(4 * flows));
+    tally.add("least part", part.parts.0);
+    assert!(part.parts.0 == 0 || part.is_untouched());
+    let numbers = least_flows(of, plan, rng.around(flows));
+    tally.add("least flows", numbers.parts.0);
+    assert!(numbers.parts.0 == 0 || numbers.is_untouched());
 }
 
 /// Sound plans: accepted with the clocks that they were made to have, read back as written, and never a clash.

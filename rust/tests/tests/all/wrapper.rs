@@ -3,7 +3,8 @@
 use std::error::Error;
 
 use baarqidho::{list, Answer, Clash, LongRun, Plan, Refusal, Row, RunError};
-use tests::compare::{load_page_exactly, long_run_exactly, run_exactly, written_up_to, Outcome};
+use tests::compare::{least_flows, least_part, load_page_exactly, long_run_exactly, run_exactly, written_up_to};
+use tests::compare::{words_are, Outcome};
 use tests::faults::any_rows;
 use tests::implementation::LIBRARY;
 use tests::rng::Rng;
@@ -273,6 +274,70 @@ fn load_pages_of_random_plans() {
     assert!(printed > plans / 10, "{printed}");
 }
 
+/// I's plan with its last two swapped, between rows that do not matter.
+fn swapped() -> Plan {
+    let rows = [[0, 9, 0, 0], [0, 4, 0, 0], [0, 4, 0, 0], [9, 0, 2, 0], [13, 1, 2, 0], [14, 1, 2, 0], [15, 2, 5, 4]];
+    Plan::new(rows.concat())
+}
+
+#[test]
+fn least_parts() {
+    let least = swapped().least_part().expect("clocks that differ");
+    let part = [[0, 4, 0, 0], [0, 4, 0, 0], [13, 0, 1, 0], [14, 0, 1, 0], [15, 1, 3, 2]];
+    assert_eq!((least.plan(), least.flows()), (&Plan::new(part.concat()), &[1, 2, 4, 5, 6][..]));
+    let rows: Vec<(u32, Row)> = least.rows().collect();
+    assert_eq!(rows[..2], [1, 2].map(|flow| (flow, Row::Input { period: 4, phase: 0 })));
+    assert_eq!(rows[2..4], [(4, Row::When { a: 1, c: 2 }), (5, Row::WhenNot { a: 1, c: 2 })]);
+    assert_eq!(rows[4..], [(6, Row::Merge { c: 2, a: 5, b: 4 })]);
+    let again = least.plan().least_part().expect("clocks that differ");
+    assert_eq!((again.plan(), again.flows()), (least.plan(), &[0, 1, 2, 3, 4][..]));
+}
+
+#[test]
+fn errors_of_a_least_part() {
+    assert_eq!(merged().least_part(), Err(Refusal::NotDiffering));
+    assert_eq!(Plan::new([0, 1, 1, 0, 10, 0, 4095, 0]).least_part(), Err(Refusal::NotDiffering));
+    assert_eq!(Plan::new([0, 1, 1, 0, 13, 0, 0, 0, 12, 1, 0, 0]).least_part(), Err(Refusal::NotDiffering));
+    assert_eq!(Plan::new([0; 4 * 65]).least_part(), Err(Refusal::BadCount));
+    assert_eq!(Plan::new([]).least_part(), Err(Refusal::BadCount));
+    assert_eq!(Plan::new([0, 1, 0]).least_part(), Err(Refusal::BadCount));
+    assert_eq!(Plan::new([0, 1, 0, 0, 16, 0, 0, 0]).least_part(), Err(Refusal::UnknownKind { row: 1 }));
+    assert_eq!(Plan::new([0, 1, 0, 0, 12, 0, 0, 1]).least_part(), Err(Refusal::FieldOutOfRange { row: 1 }));
+    assert_eq!(Plan::new([0, 1, 0, 0, 12, 1, 0, 0]).least_part(), Err(Refusal::BadOperand { row: 1 }));
+    let plan = swapped();
+    let short = baarqidho::least_part(7, plan.words(), &mut [0; 19]);
+    assert_eq!(short.result(), Err(Refusal::OutputTooShort));
+    let short = baarqidho::least_flows(7, plan.words(), &mut [0; 4]);
+    assert_eq!(short.result(), Err(Refusal::OutputTooShort));
+    assert_eq!(Refusal::NotDiffering.to_string(), "the check does not answer the plan with 21 (38)");
+}
+
+#[test]
+fn least_parts_of_random_plans() {
+    let mut rng = Rng::new(98);
+    let (mut found, plans) = (0, rounds(5_000));
+    for round in 0..plans {
+        let mut plan = if round % 2 == 0 { any_rows(&mut rng) } else { faulty(&mut rng) };
+        plan.count = plan.words.len() as u32 / 4;
+        let part = least_part(&[&LIBRARY], &plan, plan.words.len());
+        let flows = least_flows(&[&LIBRARY], &plan, plan.words.len());
+        let whole = Plan::new(&plan.words[..]);
+        let (number, flow, tick, count) = part.parts;
+        match whole.least_part() {
+            Ok(least) => {
+                assert_eq!((number, flows.parts, least.flows().len()), (0, part.parts, count as usize), "{plan:?}");
+                assert!(words_are(&part, least.plan().words()) && words_are(&flows, least.flows()), "{plan:?}");
+                let rows: Vec<Option<Row>> = whole.rows().collect();
+                assert!(least.rows().all(|(flow, row)| rows[flow as usize] == Some(row)), "{plan:?}");
+                assert!(least.rows().map(|(flow, _)| flow).eq(least.flows().iter().copied()), "{plan:?}");
+                found += 1;
+            }
+            Err(refusal) => assert_eq!(Err(refusal), Answer { number, flow, tick, count }.result(), "{plan:?}"),
+        }
+    }
+    assert!(found > plans / 5, "{found}");
+}
+
 #[test]
 fn errors_of_a_run() {
     let plan = Plan::new([0, 10, 0, 0, 0, 20, 0, 0, 2, 0, 1, 0]);
@@ -292,7 +357,7 @@ fn errors_of_a_run() {
 #[test]
 fn numbers_and_refusals() {
     let mut meanings = Vec::new();
-    for number in (10..=16).chain(21..=23).chain(31..=37) {
+    for number in (10..=16).chain(21..=23).chain(31..=38) {
         let refusal = Answer { number, flow: 3, tick: 5, count: 0 }.result().expect_err("a refusal");
         assert_eq!(refusal.number(), number);
         assert!(!matches!(refusal, Refusal::Other { .. }));
