@@ -1,7 +1,8 @@
 //! The proved library against Rust, in one process and on the same input. The run is measured against two others: the
 //! same algorithm in safe Rust (`peer::mirror`), and a quick run with rows made ready beforehand (`peer::run`). The
 //! long run is measured against the long runs of both, and against the library's run of the same ticks. Check, write,
-//! read and load page are measured against the quick implementation.
+//! read, load page and least part are measured against the quick implementation, the least part over plans whose last
+//! row is one that clashes.
 //!
 //!     cargo run --release -p bench
 //!
@@ -17,7 +18,8 @@
 //!
 //! `bench call CALL PLAN FLOWS CALLS` makes one call of the library so many times and nothing else that depends on how
 //! many, so that the instructions of a call are the difference between two counts of calls, divided by the calls
-//! between them, here 1,000. CALL is check, write, read, listing or page, the load page:
+//! between them, here 1,000. CALL is check, write, read, listing, page (the load page), least (the least part) or flows
+//! (the numbers of its flows), the last two over at least two flows:
 //!
 //!     valgrind --tool=callgrind --callgrind-out-file=/dev/null target/release/bench call page mixed 64 1000
 //!     valgrind --tool=callgrind --callgrind-out-file=/dev/null target/release/bench call page mixed 64 2000
@@ -74,7 +76,7 @@ fn report() {
     let growth = [65_535, 524_287, MOST_LONG_TICKS].map(|ticks| runs::run(&LONG, &mixed(4), ticks));
     runs::linear("64 times the ticks", &growth);
 
-    tables::heading("Check, write, read and load page, a call");
+    tables::heading("Check, write, read, load page and least part, a call");
     for flows in [1, 4, 16, 64] {
         tables::table(&mixed(flows));
         tables::table(&sums(flows));

@@ -18,6 +18,16 @@ impl Plan {
         self.words.len() / 4
     }
 
+    /// Its words with the last row a merge of the flow before by itself, which clashes whatever that flow's clock is. A
+    /// plan of one flow has no such row and stays as it is.
+    pub fn clashing(&self) -> Vec<u32> {
+        let mut words = self.words.clone();
+        if let Some(before) = self.flows().checked_sub(2) {
+            words[4 * before + 4..].copy_from_slice(&[15, before as u32, before as u32, before as u32]);
+        }
+        words
+    }
+
     /// A log for some ticks: small numbers and large ones in turn.
     pub fn log(&self, ticks: usize) -> Vec<u32> {
         let inputs = self.words.chunks_exact(4).filter(|row| row[0] == 0).count();
