@@ -8,6 +8,7 @@ ghost use Rattle.semantics.specs.Answers.{runAnswer, marksAfter, valuesAfter};
 ghost use Rattle.runner.specs.Long.{longRunning, longAnswer, LongLeft};
 ghost use Rattle.lister.specs.Listing.{listingAnswer, textAfter};
 ghost use Rattle.loads.specs.Loads.{pageAnswer, pageAfter};
+ghost use Rattle.least.specs.Answers.{leastAnswer, partAfter, flowsAnswer, flowsAfter};
 ghost use Rattle.exports.specs.Parts.{Given};
 use table::Answer;
 
@@ -157,5 +158,41 @@ pub extern "C" fn baarqidho_load_page(
     ensures stored { λ r. ⌜ now (page .exit) ≡ pageAfter flows (now (words .entry)) (now (times .entry)) (now (page .entry)) ⌝ }
 {
     let answer = loads::page(flows, words, times, page);
+    give(answer, flow, tick, count)
+}
+
+// Gives the least part of a table in plain form that the check still answers with 21: the count of its flows, and four words a flow.
+#[no_mangle]
+pub extern "C" fn baarqidho_least_part(
+    flows: u32,
+    words: &[u32],
+    part: &mut [u32],
+    flow: &mut u32,
+    tick: &mut u32,
+    count: &mut u32,
+) -> u32
+    ensures answered { λ r. ⌜ Given (leastAnswer flows (now (words .entry)) (length (now (part .entry))))
+        r (now (flow .exit)) (now (tick .exit)) (now (count .exit)) ⌝ }
+    ensures stored { λ r. ⌜ now (part .exit) ≡ partAfter flows (now (words .entry)) (now (part .entry)) ⌝ }
+{
+    let answer = least::least(flows, words, part);
+    give(answer, flow, tick, count)
+}
+
+// Gives the numbers that the flows of the least part have in the table: their count, and a word a flow.
+#[no_mangle]
+pub extern "C" fn baarqidho_least_flows(
+    flows: u32,
+    words: &[u32],
+    numbers: &mut [u32],
+    flow: &mut u32,
+    tick: &mut u32,
+    count: &mut u32,
+) -> u32
+    ensures answered { λ r. ⌜ Given (flowsAnswer flows (now (words .entry)) (length (now (numbers .entry))))
+        r (now (flow .exit)) (now (tick .exit)) (now (count .exit)) ⌝ }
+    ensures stored { λ r. ⌜ now (numbers .exit) ≡ flowsAfter flows (now (words .entry)) (now (numbers .entry)) ⌝ }
+{
+    let answer = least::least_flows(flows, words, numbers);
     give(answer, flow, tick, count)
 }

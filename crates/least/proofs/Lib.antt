@@ -9,3 +9,6 @@ pub mod LeastParts
 pub mod SamePart
 pub mod PartChecks
 pub mod Given
+mod Ranks
+mod Storing
+mod Choosing

@@ -11,7 +11,7 @@ use table::ROW_SIZE;
 ghost use mathlib.Core.Path.{_≡_};
 ghost use mathlib.Core.Bool.{true};
 ghost use Prim.Native.Nat.{_*_, _<_, _≤_};
-ghost use lib.ListN.{length, getD};
+ghost use lib.ListN.{length, take};
 ghost use Rattle.table.specs.Answers.{good};
 ghost use Rattle.table.specs.Rows.{maxFlows, rowSize};
 ghost use Rattle.table.specs.Plain.{tableOf, rowsIn};
@@ -46,6 +46,15 @@ fn differs(count: u32, words: &[u32]) -> bool
     answer.number == CLOCKS_DIFFER
 }
 
+// Whether the check answers with 21 the plan in the first rows.
+fn part_differs(count: u32, rows: &[u32]) -> bool
+    requires { ⌜ rowSize * count ≤ length (now rows) ⌝ }
+    ensures { λ r. ⌜ r ≡ differing count (take (rowSize * count) (now (rows .entry))) ⌝ }
+{
+    let size = ROW_SIZE * (count as usize);
+    differs(count, &rows[0..size])
+}
+
 // Flow f, whose closure is the set, where that has fewer flows and is answered with 21; else the choice before. The rows are for trying it.
 fn better(n: u32, words: &[u32], set: u64, f: u32, before: Choice, rows: &mut [u32]) -> Choice
     requires { ⌜ (tableOf n (now words) ≡ good (rowsIn (tableOf n (now words)))) × (length (now rows) ≡ rowSize * maxFlows)
@@ -57,8 +66,7 @@ fn better(n: u32, words: &[u32], set: u64, f: u32, before: Choice, rows: &mut [u
         return before;
     }
     store_rows(n, words, set, rows);
-    let size = ROW_SIZE * (count as usize);
-    if !differs(count, &rows[0..size]) {
+    if !part_differs(count, rows) {
         return before;
     }
     Choice { flow: f, count }
