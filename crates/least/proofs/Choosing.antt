@@ -1,17 +1,17 @@
 -- The flows tried one after the other, and what is given of the set that is found. Assumes nothing.
 use mathlib.Core.Path.{_≡_, refl, sym, _∙_, ap, ap₂}
-use Prim.Native.Nat.{ℕ, suc, _+_, _*_, _≤_, _<_}
+use Prim.Native.Nat.{ℕ, _+_, _*_, _≤_, _<_}
 use native.Mathlib.Numerals.{add-one}
 use native.Mathlib.Omega.{arith}
-use mathlib.Core.Bool.{Bool, true, false, cond, _&&_}
+use mathlib.Core.Bool.{Bool, true, false, _&&_}
 use mathlib.Core.List.{List}
 use lib.Dec.{ltb}
 use lib.ListN.{length, take}
 use lib.Seq.{take-at}
 use borrow.Author.Tests.{lt-ltb, le-ltb, le-leb, lt-leb, eqb-true}
 use Rattle.table.specs.declared.Answer.{Answer}
-use Rattle.table.specs.Answers.{Refusal, Result, good, refused, unless, then, over, number, refusal, numbered, success, answer, noRoom, notDiffering}
-use Rattle.table.specs.Rows.{Row, Words, rowSize, maxFlows}
+use Rattle.table.specs.Answers.{Refusal, good, refused, unless, over, number, refusal, numbered, success, answer, noRoom, notDiffering}
+use Rattle.table.specs.Rows.{Row, rowSize, maxFlows}
 use Rattle.table.specs.Plain.{joined, tableOf, rowsIn, plainAnswer}
 use Rattle.table.proofs.Tests.{then-good}
 use Rattle.table.proofs.Tables.{Table, table-made}

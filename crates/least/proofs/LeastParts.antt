@@ -47,7 +47,9 @@ module _ (m : ℕ) (words : List ℕ) where
             near = omega arith;
             is = λ x. (omega arith, d, refl);
             least = below-suc (λ (f : ℕ). drawnDiffers m words f ≡ true → drawnCount m words n ≤ drawnCount m words f) n (λ f x y. omega (arith, h .least f x y)) (λ x. omega arith);
-            lowest = below-suc (λ (f : ℕ). drawnDiffers m words f ≡ true → drawnCount m words f ≡ drawnCount m words n → n ≤ f) n (λ f x y z. absurd (omega (arith, h .least f x y, z))) (λ x y. omega arith);
+            lowest =
+                below-suc (λ (f : ℕ). drawnDiffers m words f ≡ true → drawnCount m words f ≡ drawnCount m words n → n ≤ f)
+                n (λ f x y z. absurd (omega (arith, h .least f x y, z))) (λ x y. omega arith);
           }
       go (failed e) h =
           rw (e, best)

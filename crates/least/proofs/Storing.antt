@@ -3,10 +3,10 @@ use mathlib.Core.Path.{_≡_, refl, sym, _∙_, ap, ap₂, subst}
 use Prim.Native.Nat.{ℕ, suc, _+_, _*_, _≤_, _<_}
 use native.Mathlib.Numerals.{add-one}
 use native.Mathlib.Omega.{arith}
-use mathlib.Core.Bool.{true, false, cond}
+use mathlib.Core.Bool.{true, cond}
 use mathlib.Core.List.{List, [], _∷_, _++_, append-assoc}
-use lib.ListN.{length, take, drop, set, length-append, length-drop}
-use lib.Seq.{take-at, drop-at, drop-drop, drop-cons, set-at, append-snoc}
+use lib.ListN.{length, take, drop, set, length-append}
+use lib.Seq.{take-at, drop-at, drop-drop, drop-cons, set-at}
 use borrow.Author.Tests.{le-leb}
 use Rattle.table.specs.Answers.{over}
 use Rattle.table.specs.Bits.{bit}

@@ -1,13 +1,9 @@
 -- `least::better` meets its contract. Assumes nothing.
-use mathlib.Core.Path.{_≡_, _∙_, ap}
-use Prim.Native.Nat.{ℕ, _*_}
 use native.Mathlib.Omega.{arith}
 use denote.Ref.{now}
 use borrow.Author.Tests.{not-true, not-false}
-use Rattle.table.specs.Rows.{rowSize}
-use Rattle.table.proofs.Tables.{Table, table-made}
+use Rattle.table.proofs.Tables.{table-made}
 use Rattle.reach.specs.Sets.{has}
-use Rattle.least.specs.Parts.{below}
 use Rattle.least.specs.Private.Steps.{shown}
 use Rattle.least.proofs.Numbers.{below-le}
 use Rattle.least.proofs.Choosing.{not-fewer, not-differing, fewer}
@@ -24,7 +20,7 @@ returns c =
     let start = after-rank .before .before .before in
     let a = start .args in
     not-fewer (a .n) (now (a .words)) _ (table-made (a .n) (now (a .words)) _ (start .pre .0)) (a .f) (a .set) (start .pre .2) (shown (a .before)) (after-rank .rank .result)
-    (after-rank .rank .ensures) (c .if1 .taken)
+    (after-rank .rank .ensures) (omega (arith, c .if1 .taken))
 
 store-rows-requires : tie.Need-store-rows-requires
 store-rows-requires c κs =
@@ -67,7 +63,7 @@ returns-3 c =
     let start = after-rank .before .before .before in
     let a = start .args in
     fewer (a .n) (now (a .words)) _ (table-made (a .n) (now (a .words)) _ (start .pre .0)) (a .f) (a .set) (start .pre .2) (shown (a .before)) (after-rank .rank .result)
-    (after-rank .rank .ensures) (now (a .rows)) _ (after-store .store-rows .ensures .1) (after-differs .part-differs .result) (after-differs .part-differs .ensures) (else1 .if1 .left)
+    (after-rank .rank .ensures) (now (a .rows)) _ (after-store .store-rows .ensures .1) (after-differs .part-differs .result) (after-differs .part-differs .ensures) (omega (arith, else1 .if1 .left))
     (not-false _ (c .if2 .left))
 
 pub better-spec : {M : Type 1} → statement M

@@ -1,5 +1,4 @@
 -- `table::put_record` meets its contract. Assumes nothing.
-use native.Mathlib.Omega.{arith}
 use borrow.Author.Tests.{le-leb, lt-leb}
 use borrow.Author.Needs.{needs}
 use Rattle.table.proofs.put_record.Statement.{statement}

@@ -1,6 +1,5 @@
 -- `least::part::renumbered` meets its contract. Assumes nothing.
 use mathlib.Core.Path.{_∙_, ap}
-use mathlib.Core.Bool.{Bool}
 use Rattle.table.specs.declared.FlowFields.{FlowFields}
 use Rattle.least.specs.Private.Steps.{moved}
 use Rattle.least.specs.Parts.{renumberedRow}
