@@ -20,10 +20,10 @@ use Rattle.checker.specs.Rules.{clockOf, clockAt, clocksFrom, sourced, sourceFi
 use Rattle.checker.proofs.CheckLaws.{clocks-past}
 use Rattle.reach.specs.Sets.{Flows}
 use Rattle.least.specs.Parts.{Part, below, chosen}
-use Rattle.least.specs.PartChecks.{moveClock}
+use Rattle.least.specs.PartChecks.{moveClock, moveResult}
 use Rattle.least.proofs.Chosen.{chosen-in, chosen-out, chosen-length, chosen-at, chosen-split}
 use Rattle.least.proofs.Renumbering.{renumber, renumber-register, Member}
-use Rattle.least.proofs.Moving.{movedClock, Inside, clock-moved-same, clock-moved, inside-clock}
+use Rattle.least.proofs.Moving.{Inside, clock-moved-same, clock-moved, inside-clock}
 use Rattle.least.proofs.Outcomes.{fits, Known, Passing, Accepting, Refusing, by-rule, by-source}
 
 -- steps of the check
@@ -70,10 +70,11 @@ module _ (m : ℕ) (words : List ℕ) (rows : List Row) (t : Table m words rows)
     moved-at : (n a : ℕ) → a < n → s a ≡ true → clockAt (movedClocks clk n) (ρ a) ≡ moveClock ρ (clk a)
     moved-at n a l e = chosen-at s (λ f. moveClock ρ (clk f)) (every 1 0) n a l e
 
-    -- the rules of flow n, given those below it
-    module _ (n : ℕ) (l : n < m) (e : s n ≡ true) (inside : (a : ℕ) → a < n → s a ≡ true → Inside s (clk a .conditions)) where
-      agree : (a : ℕ) → Linked (Member s) m n operand a → clockAt (movedClocks clk n) (ρ a) ≡ moveClock ρ (clk a)
-      agree a x = moved-at n a (x .0) (x .1 refl)
+    -- the rule of flow n, given the clocks below it in the plan and in the part
+    module _ (n : ℕ) (l : n < m) (e : s n ≡ true) (inside : (a : ℕ) → a < n → s a ≡ true → Inside s (clk a .conditions))
+        (clk′ : ℕ → Clock) (both : (a : ℕ) → a < n → s a ≡ true → clk′ (ρ a) ≡ moveClock ρ (clk a)) where
+      agree : (a : ℕ) → Linked (Member s) m n operand a → clk′ (ρ a) ≡ moveClock ρ (clk a)
+      agree a x = both a (x .0) (x .1 refl)
 
       within : (a : ℕ) → Linked (Member s) m n operand a → Inside s (clk a .conditions)
       within a x = inside a (x .0) (x .1 refl)
@@ -81,37 +82,40 @@ module _ (m : ℕ) (words : List ℕ) (rows : List Row) (t : Table m words rows)
       member : (a : ℕ) → Linked (Member s) m n operand a → s a ≡ true
       member a x = x .1 refl
 
-      row-carried : clockOf (clockAt (movedClocks clk n)) (length (movedClocks clk n)) (renumber ρ (rowAt rows n)) ≡ movedClock ρ (clockOf clk n (rowAt rows n))
-      row-carried =
-          ap (λ (i : ℕ). clockOf (clockAt (movedClocks clk n)) i (renumber ρ (rowAt rows n))) (chosen-length s (λ f. moveClock ρ (clk f)) n)
-          ∙ clock-moved s n (Linked (Member s) m n) clk (clockAt (movedClocks clk n)) agree within member (rowAt rows n) (links n l e)
+      pub row-moved : clockOf clk′ (ρ n) (renumber ρ (rowAt rows n)) ≡ moveResult ρ (clockOf clk n (rowAt rows n))
+      row-moved = clock-moved s n (Linked (Member s) m n) clk clk′ agree within member (rowAt rows n) (links n l e)
 
       row-inside : (k : Clock) → clockOf clk n (rowAt rows n) ≡ good k → Inside s (k .conditions)
-      row-inside k v = inside-clock s n (Linked (Member s) m n) clk (clockAt (movedClocks clk n)) agree within member (rowAt rows n) k v (links n l e)
+      row-inside k v = inside-clock s n (Linked (Member s) m n) clk clk′ agree within member (rowAt rows n) k v (links n l e)
 
     -- the conditions of the set's clocks are on flows of it
-    all-inside : (n : ℕ) → n ≤ m → Known m rows s clk n → (a : ℕ) → a < n → s a ≡ true → Inside s (clk a .conditions)
+    pub all-inside : (n : ℕ) → n ≤ m → Known m rows s clk n → (a : ℕ) → a < n → s a ≡ true → Inside s (clk a .conditions)
     all-inside zero l h = λ a x. absurd (omega arith)
     all-inside (suc n) l h =
         let before = all-inside n (omega arith) (λ f x. h f (omega arith)) in
-        below-suc (λ (a : ℕ). s a ≡ true → Inside s (clk a .conditions)) n before (λ e. row-inside n l e before (clk n) (h n (omega arith) e))
+        below-suc (λ (a : ℕ). s a ≡ true → Inside s (clk a .conditions)) n before (λ e. row-inside n l e before (clockAt (movedClocks clk n)) (moved-at n) (clk n) (h n (omega arith) e))
+
+    row-carried : (n : ℕ) → n < m → s n ≡ true → Known m rows s clk n
+        → clockOf (clockAt (movedClocks clk n)) (length (movedClocks clk n)) (renumber ρ (rowAt rows n)) ≡ moveResult ρ (clockOf clk n (rowAt rows n))
+    row-carried n l e h =
+        ap (λ (i : ℕ). clockOf (clockAt (movedClocks clk n)) i (renumber ρ (rowAt rows n))) (chosen-length s (λ f. moveClock ρ (clk f)) n)
+        ∙ row-moved n l e (all-inside n (omega arith) h) (clockAt (movedClocks clk n)) (moved-at n)
 
     clocks-carried : (n : ℕ) → n ≤ m → Known m rows s clk n → clocksFrom [] (movedRows n) ≡ good (movedClocks clk n)
     unfolding chosen clocksFrom
     clocks-carried zero l h = refl
-    clocks-carried (suc n) l h = go (try (s n)) (clocks-carried n (omega arith) before) (all-inside n (omega arith) before)
+    clocks-carried (suc n) l h = go (try (s n)) (clocks-carried n (omega arith) before)
       where
         before : Known m rows s clk n
         before f x = h f (omega arith)
 
-        go : Tried (s n) → clocksFrom [] (movedRows n) ≡ good (movedClocks clk n) → ((a : ℕ) → a < n → s a ≡ true → Inside s (clk a .conditions))
-            → clocksFrom [] (movedRows (suc n)) ≡ good (movedClocks clk (suc n))
-        go (passed e) c i =
+        go : Tried (s n) → clocksFrom [] (movedRows n) ≡ good (movedClocks clk n) → clocksFrom [] (movedRows (suc n)) ≡ good (movedClocks clk (suc n))
+        go (passed e) c =
             ap (clocksFrom []) (chosen-in s (λ f. renumber ρ (rowAt rows f)) n e)
             ∙ clocks-past [] (movedRows n) (renumber ρ (rowAt rows n) ∷ []) (movedClocks clk n) c
-            ∙ clocks-good (movedClocks clk n) (renumber ρ (rowAt rows n)) [] (moveClock ρ (clk n)) (row-carried n l e i ∙ ap (movedClock ρ) (h n (omega arith) e))
+            ∙ clocks-good (movedClocks clk n) (renumber ρ (rowAt rows n)) [] (moveClock ρ (clk n)) (row-carried n l e before ∙ ap (moveResult ρ) (h n (omega arith) e))
             ∙ clocks-none (movedClocks clk n ++ (moveClock ρ (clk n) ∷ [])) ∙ ap good (sym (chosen-in s (λ f. moveClock ρ (clk f)) n e))
-        go (failed e) c i =
+        go (failed e) c =
             ap (clocksFrom []) (chosen-out s (λ f. renumber ρ (rowAt rows f)) n e) ∙ c ∙ ap good (sym (chosen-out s (λ f. moveClock ρ (clk f)) n e))
 
     -- the sources
@@ -166,6 +170,6 @@ module _ (m : ℕ) (words : List ℕ) (rows : List Row) (t : Table m words rows)
       ap (clocksFrom []) (x .1)
       ∙ clocks-past [] (movedRows h) (renumber ρ (rowAt rows h) ∷ x .0) (movedClocks clk h) (clocks-carried clk h (omega arith) k)
       ∙ clocks-stop (movedClocks clk h) (renumber ρ (rowAt rows h)) (x .0) why (ρ g)
-      (row-carried clk h l e (all-inside clk h (omega arith) k) ∙ ap (movedClock ρ) r) in
+      (row-carried clk h l e k ∙ ap (moveResult ρ) r) in
       rw c
   part-refusing why g (by-source clk h l e k p r) = sources-carried clk k (some (ρ g)) (one-bad clk k g l e p r)

@@ -17,14 +17,9 @@ use Rattle.checker.specs.Rules.{maxDerived, maxConditions, withinLimits, limite
 use Rattle.checker.proofs.RuleLaws.{Rule, by-input, by-constant, by-combine, by-register, by-faster, by-slower, by-later, by-head, by-tail, by-sample, by-merge, rule-of}
 use Rattle.reach.specs.Sets.{Flows}
 use Rattle.least.specs.Parts.{below}
-use Rattle.least.specs.PartChecks.{moveCondition, moveClock}
+use Rattle.least.specs.PartChecks.{moveCondition, moveClock, moveResult}
 use Rattle.least.proofs.Numbers.{below-inj}
 use Rattle.least.proofs.Renumbering.{renumber}
-
--- a rule's clock renumbered, or its refusal with the flow renumbered
-abbrev pub movedClock : (ℕ → ℕ) → Result Clock → Result Clock
-movedClock ρ (good k) = good (moveClock ρ k)
-movedClock ρ (refused why f) = refused why (ρ f)
 
 -- the conditions are on flows of the set
 abbrev pub Inside : Flows → List Condition → Type 0
@@ -78,24 +73,24 @@ module _ (s : Flows) where
       ap (λ (l : List Condition). let j : Clock = record { period = k .period; phase = k .phase; conditions = l } in j)
       (map-snoc ρ (k .conditions) (record { flow = c; truth = u }))
 
-  unless-moved : (b b′ : Bool) (why : Refusal) (f : ℕ) (r r′ : Result Clock) → b ≡ b′ → r ≡ movedClock ρ r′ → unless b why (ρ f) r ≡ movedClock ρ (unless b′ why f r′)
+  unless-moved : (b b′ : Bool) (why : Refusal) (f : ℕ) (r r′ : Result Clock) → b ≡ b′ → r ≡ moveResult ρ r′ → unless b why (ρ f) r ≡ moveResult ρ (unless b′ why f r′)
   unless-moved true true why f r r′ e h = h
   unless-moved true false why f r r′ e h = absurd (let z : _≡_ {A = ℕ} 0 1 = cc in omega arith)
   unless-moved false true why f r r′ e h = absurd (let z : _≡_ {A = ℕ} 0 1 = cc in omega arith)
   unless-moved false false why f r r′ e h = refl
 
-  limited-moved : (f : ℕ) (k : Clock) → limited (ρ f) (moveClock ρ k) ≡ movedClock ρ (limited f k)
+  limited-moved : (f : ℕ) (k : Clock) → limited (ρ f) (moveClock ρ k) ≡ moveResult ρ (limited f k)
   limited-moved f k = unless-moved (withinLimits (moveClock ρ k)) (withinLimits k) beyondLimits f _ (good k) (limits-moved k) refl
 
   -- the clocks of lower flows of the set have been renumbered, and their conditions are on flows of it
   module _ (f : ℕ) (P : Field → ℕ → Type 0) (clk clk′ : ℕ → Clock) (agree : (a : ℕ) → P operand a → clk′ (ρ a) ≡ moveClock ρ (clk a))
       (inside : (a : ℕ) → P operand a → Inside s (clk a .conditions)) (member : (a : ℕ) → P operand a → s a ≡ true) where
     abbrev Moved : Row → Type 0
-    Moved r = clockOf clk′ (ρ f) (renumber ρ r) ≡ movedClock ρ (clockOf clk f r)
+    Moved r = clockOf clk′ (ρ f) (renumber ρ r) ≡ moveResult ρ (clockOf clk f r)
 
     -- a rule that asks for a plain clock
-    plain-first : (a : ℕ) (r r′ : Result Clock) → P operand a → r ≡ movedClock ρ r′
-        → unless (plain (clk′ (ρ a))) notPlain (ρ f) r ≡ movedClock ρ (unless (plain (clk a)) notPlain f r′)
+    plain-first : (a : ℕ) (r r′ : Result Clock) → P operand a → r ≡ moveResult ρ r′
+        → unless (plain (clk′ (ρ a))) notPlain (ρ f) r ≡ moveResult ρ (unless (plain (clk a)) notPlain f r′)
     plain-first a r r′ l e = unless-moved (plain (clk′ (ρ a))) (plain (clk a)) notPlain f r r′ (ap plain (agree a l) ∙ plain-moved (clk a)) e
 
     -- two clocks compared

@@ -79,7 +79,7 @@ module _ (m : ℕ) (words : List ℕ) (rows : List Row) (t : Table m words rows)
             ap (rowsFrom (below s m) 0) (chosen-out s (λ f. renumberedRow s (rowWords words f)) n e) ∙ h ∙ ap good (sym (chosen-out s (λ f. renumber (below s) (rowAt rows f)) n e))
 
     module _ (least : 1 ≤ partCount m s) where
-      table-of-part : tableOf (partCount m s) (joined (partRows m words s)) ≡ good (movedRows m words rows t s part m)
+      pub table-of-part : tableOf (partCount m s) (joined (partRows m words s)) ≡ good (movedRows m words rows t s part m)
       unfolding tableOf
       table-of-part =
           let c : (countFits (below s m) && eqb (length (joined (partRows m words s))) (rowSize * below s m)) ≡ true =
