@@ -13,7 +13,7 @@ use Rattle.table.specs.declared.Answer.{Answer}
 use Rattle.table.specs.Answers.{Refusal, good, refused, unless, over, number, refusal, numbered, success, answer, noRoom, notDiffering}
 use Rattle.table.specs.Rows.{Row, rowSize, maxFlows}
 use Rattle.table.specs.Plain.{joined, tableOf, rowsIn, plainAnswer}
-use Rattle.table.proofs.Tests.{then-good}
+use Rattle.table.proofs.Tests.{and-false, then-good}
 use Rattle.table.proofs.Tables.{Table, table-made}
 use Rattle.table.proofs.AnswerLaws.{answer-other, refused-leaves}
 use Rattle.reach.specs.Sets.{Flows, setOf, has}
@@ -44,10 +44,6 @@ module _ (n : ℕ) (words : List ℕ) (rows : List Row) (t : Table n words rows)
   set-flows = flows-same (has x) s n same
 
 -- ---- a flow tried
-
-and-false : (a : Bool) → (a && false) ≡ false
-and-false true = refl
-and-false false = refl
 
 module _ (n : ℕ) (words : List ℕ) (rows : List Row) (t : Table n words rows) (f x : ℕ) (is : x ≡ setOf (closure n words f) n)
     (b : Best) (c : ℕ) (count : c ≡ below (has x) n) where

@@ -4,15 +4,16 @@ use Prim.Native.Nat.{ℕ, suc, _+_, _*_, _≤_, _<_}
 use native.Mathlib.Numerals.{add-one}
 use native.Mathlib.Omega.{arith}
 use mathlib.Core.Bool.{true, cond}
-use mathlib.Core.List.{List, [], _∷_, _++_, append-assoc}
+use mathlib.Core.List.{List, [], _++_, append-assoc}
 use lib.ListN.{length, take, drop, set, length-append}
-use lib.Seq.{take-at, drop-at, drop-drop, drop-cons, set-at}
+use lib.Seq.{take-at, drop-at, drop-drop}
 use borrow.Author.Tests.{le-leb}
 use Rattle.table.specs.Answers.{over}
 use Rattle.table.specs.Bits.{bit}
 use Rattle.table.specs.Rows.{Words, rowSize, maxFlows}
 use Rattle.table.specs.Plain.{rowWords, plainRow, joined, putRow}
 use Rattle.table.proofs.Tests.{Tried, passed, failed, try}
+use Rattle.table.proofs.AnswerLaws.{set-over}
 use Rattle.table.proofs.PlainRows.{joined-next}
 use Rattle.reach.specs.Sets.{Flows}
 use Rattle.least.specs.Parts.{below, renumberedRow, chosen, partRows, partFlows}
@@ -20,13 +21,7 @@ use Rattle.least.proofs.Numbers.{below-lt, below-le}
 use Rattle.least.proofs.Chosen.{chosen-in, chosen-out, chosen-length}
 use Rattle.least.proofs.PartTables.{words-count}
 
--- a word more, and a row
-over-next : (xs old : List ℕ) (v : ℕ) → length xs < length old → set (over xs old) (length xs) v ≡ over (xs ++ (v ∷ [])) old
-over-next xs old v l =
-    let k : suc (length xs) ≡ length (xs ++ (v ∷ [])) = omega (arith, length-append xs (v ∷ [])) in
-    ap (λ (d : List ℕ). set (xs ++ d) (length xs) v) (drop-cons old (length xs) 0 l) ∙ set-at xs _ (drop (suc (length xs)) old) v (length xs) refl
-    ∙ ap (λ (i : ℕ). xs ++ v ∷ drop i old) k ∙ sym (append-assoc xs (v ∷ []) (drop (length (xs ++ (v ∷ []))) old))
-
+-- a row more
 over-row : (xs ys old : List ℕ) (i : ℕ) → length xs ≡ i → length ys ≡ rowSize → take i (over xs old) ++ (ys ++ drop (i + rowSize) (over xs old)) ≡ over (xs ++ ys) old
 over-row xs ys old i n m =
     let a : take i (over xs old) ≡ xs = take-at xs (drop (length xs) old) i n in
@@ -99,6 +94,6 @@ module _ (s : Flows) (n : ℕ) (old : List ℕ) (at f : ℕ) (new : List ℕ) wh
       go : Tried (s f) → cond (s f) (set new at f) new ≡ over (flowsLaid s (suc f)) old
       go (passed p) =
           rw p
-          (ap₂ (λ (l : List ℕ) (i : ℕ). set l i f) (t .is) count ∙ over-next (flowsLaid s f) old f (omega (arith, room p, count, t .kept))
+          (ap (λ (l : List ℕ). set l at f) (t .is) ∙ set-over (flowsLaid s f) old at f (sym count) (omega (arith, room p, t .kept))
           ∙ ap (λ (l : List ℕ). over l old) (sym (chosen-in s (λ g. g) f p)))
       go (failed p) = rw p (t .is ∙ ap (λ (l : List ℕ). over l old) (sym (chosen-out s (λ g. g) f p)))

@@ -11,6 +11,7 @@ use lib.Pow.{pow-lt, pow-add, pow-pos, shl-shr}
 use borrow.Author.Tests.{lt-ltb, le-ltb, eq-eqb, ne-eqb}
 use Rattle.table.specs.Bits.{bit}
 use Rattle.table.specs.Rows.{maxFlows}
+use Rattle.table.proofs.Tests.{and-true, and-false, or-false}
 use Rattle.reach.specs.Sets.{Flows, setOf, has}
 
 -- ---- bits
@@ -110,18 +111,6 @@ set-or s t (suc n) =
     ∙ ap₂ (λ (x y : ℕ). x * 2 ^ n + y) (bit-or (s n) (t n)) (set-or s t n)
 
 -- its bits
-pub or-false : (b : Bool) → (b || false) ≡ b
-or-false true = refl
-or-false false = refl
-
-and-false : (b : Bool) → (b && false) ≡ false
-and-false true = refl
-and-false false = refl
-
-and-true : (b : Bool) → (b && true) ≡ b
-and-true true = refl
-and-true false = refl
-
 module _ (s : Flows) (g : ℕ) (l : g < maxFlows) where
   one-more : (n : ℕ) (b : Bool) → has (bit b * 2 ^ n + setOf s n) g ≡ ((b && eqb n g) || has (setOf s n) g)
   one-more n b =

@@ -15,13 +15,14 @@ use Rattle.table.specs.Answers.{good, over}
 use Rattle.table.specs.Rows.{Row, Kind, kindAt, Words, maxFlows}
 use Rattle.table.specs.Plain.{rowWords, tableOf}
 use Rattle.table.specs.Links.{isFlow, fieldNames, names}
+use Rattle.table.proofs.Tests.{or-false}
 use Rattle.table.proofs.Tables.{table-made}
 use Rattle.table.proofs.Linked.{first-named, second-named, third-named}
 use Rattle.reach.specs.Sets.{Flows, setOf, has}
 use Rattle.reach.specs.Reach.{named, through, setsOf}
 use Rattle.reach.specs.Private.Steps.{withFlow, namedSet, absorbed, Reached, Swept, Left}
 use Rattle.reach.proofs.Closing.{named-inside}
-use Rattle.reach.proofs.SetBits.{set-same, set-none, set-one, set-or, set-has, or-false}
+use Rattle.reach.proofs.SetBits.{set-same, set-none, set-one, set-or, set-has}
 use Rattle.reach.proofs.SetLists.{sets-length, over-entry}
 
 -- ---- the flows that a row names

@@ -1,7 +1,7 @@
 -- What a run promises, refusal by refusal. Assumes nothing.
 use mathlib.Core.Path.{_≡_, refl, sym, _∙_, ap}
 use Prim.Native.Nat.{ℕ, _*_, _≤_}
-use mathlib.Core.Bool.{Bool, true, false, _&&_}
+use mathlib.Core.Bool.{_&&_}
 use mathlib.Core.List.{List, map}
 use lib.ListN.{length}
 use native.Mathlib.Omega.{arith}
@@ -12,6 +12,7 @@ use Rattle.table.specs.Answers.{Refusal, shortTrace, Result, good, refused, ans
 use Rattle.table.specs.Rows.{Row}
 use Rattle.table.specs.Plain.{tableOf, rowsIn as goodRows, plainAnswer}
 use Rattle.table.proofs.AnswerLaws.{no-zero}
+use Rattle.table.proofs.Tests.{and-true}
 use Rattle.semantics.specs.Cells.{value}
 use Rattle.semantics.specs.Runs.{Ran, trace}
 use Rattle.semantics.specs.Answers.{maxTicks, running, ranAnswer, markByte}
@@ -31,10 +32,6 @@ called m words log ticks ms vs ms′ vs′ r x e a p q =
       marks = p ∙ ap (λ (z : Result Ran). leaves (λ (y : Ran). map markByte (trace y)) z ms) (sym e);
       values = q ∙ ap (λ (z : Result Ran). leaves (λ (y : Ran). map value (trace y)) z vs) (sym e);
     }
-
-and-true : (b : Bool) → (b && true) ≡ b
-and-true true = refl
-and-true false = refl
 
 -- a run that has room for every tick, and tallies nothing
 pub ran : (m : ℕ) (words log : List ℕ) (ticks room : ℕ) (ms vs ts ms′ vs′ ts′ : List ℕ) (r : Answer) → Plain m words → ticks ≤ room

@@ -1,28 +1,19 @@
 -- Cells that stand at the front of marks and values. Assumes nothing.
 use mathlib.Core.Path.{_≡_, refl, sym, _∙_, ap, subst, fun-ext}
-use Prim.Native.Nat.{ℕ, suc, _<_}
-use native.Mathlib.Numerals.{add-one}
+use Prim.Native.Nat.{ℕ, _<_}
 use native.Mathlib.Omega.{arith}
 use mathlib.Core.List.{List, [], _∷_, _++_, map, map-append}
-use lib.ListN.{length, getD, set, drop, length-append, length-map, List·getD-map, List·getD-append, List·getD-eq-default}
-use lib.Seq.{drop-cons, set-at, append-snoc}
+use lib.ListN.{length, getD, set, drop, length-map, List·getD-map, List·getD-append, List·getD-eq-default}
 use lib.Dec.{ltb}
 use borrow.Author.Tests.{ltb-true, ltb-false}
 use Rattle.table.specs.Answers.{over}
 use Rattle.table.proofs.Tests.{Tried, passed, failed, try}
+use Rattle.table.proofs.AnswerLaws.{set-over}
 use Rattle.semantics.specs.Cells.{Cell, absent, present, value}
 use Rattle.semantics.specs.Runs.{cellIn}
 use Rattle.semantics.specs.Answers.{markByte}
 use Rattle.runner.specs.Private.Carried.{cellAt, cellsIn}
 use Rattle.runner.specs.Private.Ready.{Wrote}
-
-set-over : (xs ys : List ℕ) (f a : ℕ) → length xs ≡ f → f < length ys → set (over xs ys) f a ≡ over (xs ++ (a ∷ [])) ys
-set-over xs ys f a e h =
-    let h′ : length xs < length ys = omega arith in
-    ap (λ (l : List ℕ). set (xs ++ l) f a) (drop-cons ys (length xs) 0 h′)
-    ∙ set-at xs (getD ys (length xs) 0) (drop (suc (length xs)) ys) a f e
-    ∙ sym (append-snoc xs a (drop (suc (length xs)) ys))
-    ∙ ap (λ (k : ℕ). xs ++ (a ∷ []) ++ drop k ys) (sym (add-one (length xs)) ∙ sym (length-append xs (a ∷ [])))
 
 -- one cell more
 put-over : (g : Cell → ℕ) (xs : List Cell) (c : Cell) (ys zs zs′ : List ℕ) (f : ℕ) → length xs ≡ f → f < length ys → zs ≡ over (map g xs) ys → zs′ ≡ set zs f (g c)

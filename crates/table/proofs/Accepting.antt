@@ -8,7 +8,7 @@ use borrow.Author.Tests.{leb-true, ltb-true, le-leb, lt-ltb}
 use Rattle.table.specs.Answers.{number, unknownKind, outOfRange, misplaced}
 use Rattle.table.specs.Rows.{Field, operand, source, copies, period, ticks, value, unused, ranged, placed, each, Kind, kindAt, kindCount, maxFlows, Words, rowOf, fieldsOf}
 use Rattle.table.specs.Private.Codes.{bounds, bounded, verdict}
-use Rattle.table.proofs.Tests.{and-right, and-both, same-test}
+use Rattle.table.proofs.Tests.{and-right, and-both, and-true, and-false, same-test}
 use Rattle.table.proofs.Entries.{kind-there, kind-gone}
 
 -- ---- one field
@@ -18,10 +18,6 @@ below-or-at x n =
     same-test (ltb x (suc n)) (leb x n)
     (λ e. le-leb x n (let h : x < suc n = ltb-true x (suc n) e in omega arith))
     (λ e. lt-ltb x (suc n) (let h : x ≤ n = leb-true x n e in omega arith))
-
-and-true : (a : Bool) → (a && true) ≡ a
-and-true true = refl
-and-true false = refl
 
 -- what is below a bound up to n + 1 is at most n; behind another test
 below-both : (a : Bool) (x b n : ℕ) → b ≤ suc n → (a && ltb x b) ≡ ((a && leb x n) && ltb x b)
@@ -58,15 +54,11 @@ bounded-both m f hm hf unused x = bounded-range unused x ∙ sym (and-true _)
 pub each-same : (p q : Field → ℕ → Bool) → ((t : Field) (x : ℕ) → p t x ≡ q t x) → (k : Kind) (w : Words) → each p k w ≡ each q k w
 each-same p q h k w = rw (h (k .one) (w .one), h (k .two) (w .two), h (k .three) (w .three))
 
-and-no : (a : Bool) → (a && false) ≡ false
-and-no true = refl
-and-no false = refl
-
 and-six : (a b c d e f : Bool) → ((a && b) && ((c && d) && (e && f))) ≡ ((a && (c && e)) && (b && (d && f)))
 and-six false b c d e f = refl
-and-six true false c d e f = sym (and-no (c && e))
+and-six true false c d e f = sym (and-false (c && e))
 and-six true true false d e f = refl
-and-six true true true d false f = and-no d
+and-six true true true d false f = and-false d
 and-six true true true d true f = refl
 
 each-both : (p q : Field → ℕ → Bool) (k : Kind) (w : Words) → each (λ t x. p t x && q t x) k w ≡ (each p k w && each q k w)

@@ -1,11 +1,14 @@
 -- What an answer's number says of the work behind it. Assumes nothing.
-use mathlib.Core.Path.{_≡_, refl}
-use Prim.Native.Nat.{ℕ}
+use mathlib.Core.Path.{_≡_, refl, sym, _∙_, ap}
+use Prim.Native.Nat.{ℕ, suc, _<_}
+use native.Mathlib.Numerals.{add-one}
 use native.Mathlib.Omega.{arith}
-use mathlib.Core.List.{List}
+use mathlib.Core.List.{List, [], _∷_, _++_}
+use lib.ListN.{length, getD, set, drop, length-append}
+use lib.Seq.{drop-cons, set-at, append-snoc}
 use Rattle.table.specs.Answers.{Refusal, noRoom, badCount, cutShort, unknownKind, outOfRange, misplaced, badFilling, clocksDiffer}
 use Rattle.table.specs.Answers.{beyondLimits, notPlain, tooManyTicks, wrongLog, shortTrace, clash, shortWindow, wrongTimes, shortPage, notDiffering}
-use Rattle.table.specs.Answers.{number, Result, good, refused, refusal, answer, leaves}
+use Rattle.table.specs.Answers.{number, Result, good, refused, refusal, over, answer, leaves}
 
 -- no refusal has the number 0
 pub no-zero : (why : Refusal) → number why ≡ 0 → ⊥
@@ -42,6 +45,15 @@ answer-other size (refused why f) e = (why, f, refl)
 pub refused-leaves : {A : Type 0} (size : A → ℕ) (cells : A → List ℕ) (r : Result A) (old : List ℕ) (why : Refusal) (f : ℕ) → r ≡ refused why f
     → (refusal why f ≡ answer size r) × (old ≡ leaves cells r old)
 refused-leaves size cells r old why f e = (rw e, rw e)
+
+-- a cell more from the first on
+pub set-over : (xs ys : List ℕ) (f a : ℕ) → length xs ≡ f → f < length ys → set (over xs ys) f a ≡ over (xs ++ (a ∷ [])) ys
+set-over xs ys f a e h =
+    let h′ : length xs < length ys = omega arith in
+    ap (λ (l : List ℕ). set (xs ++ l) f a) (drop-cons ys (length xs) 0 h′)
+    ∙ set-at xs (getD ys (length xs) 0) (drop (suc (length xs)) ys) a f e
+    ∙ sym (append-snoc xs a (drop (suc (length xs)) ys))
+    ∙ ap (λ (k : ℕ). xs ++ (a ∷ []) ++ drop k ys) (sym (add-one (length xs)) ∙ sym (length-append xs (a ∷ [])))
 
 -- 21 is the number of one cause
 pub is-differing : (why : Refusal) → number why ≡ number clocksDiffer → why ≡ clocksDiffer
