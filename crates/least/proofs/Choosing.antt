@@ -10,7 +10,7 @@ use lib.ListN.{length, take}
 use lib.Seq.{take-at}
 use borrow.Author.Tests.{lt-ltb, le-ltb, le-leb, lt-leb, eqb-true}
 use Rattle.table.specs.declared.Answer.{Answer}
-use Rattle.table.specs.Answers.{Refusal, good, refused, unless, over, number, refusal, numbered, success, answer, noRoom, notDiffering}
+use Rattle.table.specs.Answers.{Refusal, Result, good, refused, unless, over, number, refusal, numbered, success, answer, leaves, noRoom, notDiffering}
 use Rattle.table.specs.Rows.{Row, rowSize, maxFlows}
 use Rattle.table.specs.Plain.{joined, tableOf, rowsIn, plainAnswer}
 use Rattle.table.proofs.Tests.{and-false, then-good}
@@ -20,12 +20,10 @@ use Rattle.reach.specs.Sets.{Flows, setOf, has}
 use Rattle.reach.specs.Reach.{closure}
 use Rattle.reach.proofs.SetBits.{set-has}
 use Rattle.least.specs.Parts.{below, partCount, partRows, partFlows}
-use Rattle.least.specs.Answers.{differing, drawnCount, drawnDiffers, Best, better, best, leastFlow, leastSet, seeking, leasting, numbering}
-use Rattle.least.specs.Answers.{leastAnswer, partAfter, flowsAnswer, flowsAfter}
+use Rattle.least.specs.Answers.{differing, drawnCount, drawnDiffers, Best, better, best, leastFlow, leastSet, seeking, offering}
 use Rattle.least.specs.Private.Steps.{Refusing, Giving}
-use Rattle.least.proofs.Chosen.{chosen-length}
 use Rattle.least.proofs.SamePart.{count-same, rows-same, flows-same}
-use Rattle.least.proofs.PartTables.{rows-count, words-count}
+use Rattle.least.proofs.PartTables.{words-count}
 use Rattle.least.proofs.LeastParts.{is}
 use Rattle.least.proofs.Given.{plan-refused}
 
@@ -104,60 +102,42 @@ module _ (m : ℕ) (words : List ℕ) (x : ℕ) (g : Giving m words x) where
   pub giving-flows : partFlows m (has x) ≡ partFlows m (leastSet m words)
   giving-flows = set-flows m words (table .0) (table .1) (leastSet m words) x (g .is)
 
-module _ (m : ℕ) (words : List ℕ) (found : seeking m words ≡ good (leastSet m words)) (c : ℕ) (count : c ≡ partCount m (leastSet m words)) (old : List ℕ) where
-  few-words : length old < rowSize * c → leasting m words (length old) ≡ refused noRoom 0
-  unfolding leasting
-  few-words l = rw (found, lt-leb (rowSize * partCount m (leastSet m words)) (length old) (omega (arith, count)))
+-- what either call makes of it, and the words that it leaves
+module _ {A : Type 0} (size : ℕ) (make : Flows → List A) (cells : List A → List ℕ) (m : ℕ) (words old : List ℕ) where
+  abbrev outcome : Result (List A)
+  outcome = offering size make m words (length old)
 
-  enough-words : rowSize * c ≤ length old → leasting m words (length old) ≡ good (partRows m words (leastSet m words))
-  unfolding leasting
-  enough-words l = rw (found, le-leb (rowSize * partCount m (leastSet m words)) (length old) (omega (arith, count)))
+  abbrev Called : Answer → List ℕ → Type 0
+  Called r new = (r ≡ answer length outcome) × (new ≡ leaves cells outcome old)
 
-  pub no-rows : length old < rowSize * c → (refusal noRoom 0 ≡ leastAnswer m words (length old)) × (old ≡ partAfter m words old)
-  no-rows l = refused-leaves length joined (leasting m words (length old)) old noRoom 0 (few-words l)
+  module _ (found : seeking m words ≡ good (leastSet m words)) (c : ℕ) (count : c ≡ partCount m (leastSet m words)) where
+    sizes : size * c ≡ size * partCount m (leastSet m words)
+    sizes = ap (λ (i : ℕ). size * i) count
 
-  pub rows-laid : rowSize * c ≤ length old → (new : List ℕ) → new ≡ over (joined (partRows m words (leastSet m words))) old
-      → (success c ≡ leastAnswer m words (length old)) × (new ≡ partAfter m words old)
-  rows-laid l new e =
-      let g = enough-words l in
-      (ap success (count ∙ sym (rows-count words (leastSet m words) m)) ∙ ap (answer length) (sym g), rw g e)
+    too-small : length old < size * c → outcome ≡ refused noRoom 0
+    unfolding offering
+    too-small l = rw (found, lt-leb (size * partCount m (leastSet m words)) (length old) (omega (arith, l, sizes)))
 
-  few-flows : length old < c → numbering m words (length old) ≡ refused noRoom 0
-  unfolding numbering
-  few-flows l = rw (found, lt-leb (partCount m (leastSet m words)) (length old) (omega (arith, count)))
+    enough : size * c ≤ length old → outcome ≡ good (make (leastSet m words))
+    unfolding offering
+    enough l = rw (found, le-leb (size * partCount m (leastSet m words)) (length old) (omega (arith, l, sizes)))
 
-  enough-flows : c ≤ length old → numbering m words (length old) ≡ good (partFlows m (leastSet m words))
-  unfolding numbering
-  enough-flows l = rw (found, le-leb (partCount m (leastSet m words)) (length old) (omega (arith, count)))
+    pub no-room : length old < size * c → Called (refusal noRoom 0) old
+    no-room l = refused-leaves length cells outcome old noRoom 0 (too-small l)
 
-  pub no-flows : length old < c → (refusal noRoom 0 ≡ flowsAnswer m words (length old)) × (old ≡ flowsAfter m words old)
-  no-flows l = refused-leaves length (λ (flows : List ℕ). flows) (numbering m words (length old)) old noRoom 0 (few-flows l)
+    pub laid : size * c ≤ length old → length (make (leastSet m words)) ≡ c → (new : List ℕ) → new ≡ over (cells (make (leastSet m words))) old → Called (success c) new
+    laid l n new e = let g = enough l in (ap success (sym n) ∙ ap (answer length) (sym g), rw g e)
 
-  pub flows-laid : c ≤ length old → (new : List ℕ) → new ≡ over (partFlows m (leastSet m words)) old
-      → (success c ≡ flowsAnswer m words (length old)) × (new ≡ flowsAfter m words old)
-  flows-laid l new e =
-      let g = enough-flows l in
-      (ap success (count ∙ sym (chosen-length (leastSet m words) (λ f. f) m)) ∙ ap (answer length) (sym g), rw g e)
+  -- a refusal by its number
+  module _ (n f : ℕ) (r : Refusing m words n f) where
+    stopped : outcome ≡ refused (r .why) f
+    unfolding offering
+    stopped = rw (r .comes)
 
--- what a refusal comes to in both calls
-module _ (m : ℕ) (words : List ℕ) (n f : ℕ) (r : Refusing m words n f) (old : List ℕ) where
-  stopped-rows : leasting m words (length old) ≡ refused (r .why) f
-  unfolding leasting
-  stopped-rows = rw (r .comes)
-
-  stopped-flows : numbering m words (length old) ≡ refused (r .why) f
-  unfolding numbering
-  stopped-flows = rw (r .comes)
-
-  pub rows-refused : (a : Answer) → a ≡ numbered n f → (a ≡ leastAnswer m words (length old)) × (old ≡ partAfter m words old)
-  rows-refused a e =
-      let x = refused-leaves length joined (leasting m words (length old)) old (r .why) f stopped-rows in
-      (e ∙ ap (λ (i : ℕ). numbered i f) (r .is) ∙ x .0, x .1)
-
-  pub flows-refused : (a : Answer) → a ≡ numbered n f → (a ≡ flowsAnswer m words (length old)) × (old ≡ flowsAfter m words old)
-  flows-refused a e =
-      let x = refused-leaves length (λ (flows : List ℕ). flows) (numbering m words (length old)) old (r .why) f stopped-flows in
-      (e ∙ ap (λ (i : ℕ). numbered i f) (r .is) ∙ x .0, x .1)
+    pub handed-on : (a : Answer) → a ≡ numbered n f → Called a old
+    handed-on a e =
+        let x = refused-leaves length cells outcome old (r .why) f stopped in
+        (e ∙ ap (λ (i : ℕ). numbered i f) (r .is) ∙ x .0, x .1)
 
 -- ---- what is sought
 

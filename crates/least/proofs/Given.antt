@@ -6,7 +6,7 @@ use mathlib.Core.List.{List}
 use lib.ListN.{length}
 use borrow.Author.Tests.{eq-eqb, le-leb}
 use Rattle.table.specs.Answers.{Refusal, Result, good, refused, then, over, answer, leaves, number, success, clocksDiffer}
-use Rattle.table.specs.Rows.{Row, Words, rowSize}
+use Rattle.table.specs.Rows.{Row, rowSize}
 use Rattle.table.specs.Plain.{tableOf, joined}
 use Rattle.table.proofs.AnswerLaws.{is-differing}
 use Rattle.table.proofs.Tables.{Table, table-made}
@@ -14,7 +14,7 @@ use Rattle.checker.specs.Clocks.{Clock}
 use Rattle.checker.specs.Rules.{clocksOf}
 use Rattle.reach.specs.Sets.{Flows}
 use Rattle.least.specs.Parts.{partRows, partFlows, partCount, checkNumber, LeastPart}
-use Rattle.least.specs.Answers.{leastSet, seeking, leasting, numbering, leastAnswer, partAfter, flowsAnswer, flowsAfter}
+use Rattle.least.specs.Answers.{leastSet, seeking, offering, leastAnswer, partAfter, flowsAnswer, flowsAfter}
 use Rattle.least.specs.Given.{Given}
 use Rattle.least.proofs.Chosen.{chosen-length}
 use Rattle.least.proofs.PartTables.{check-number, rows-count}
@@ -48,24 +48,24 @@ module _ (m : ℕ) (words : List ℕ) (rows : List Row) (e : tableOf m words ≡
     count : partCount m (leastSet m words) ≡ partCount m s
     count = count-same (leastSet m words) s m same
 
-    rows-fit : rowSize * partCount m s ≤ length old → leasting m words (length old) ≡ good (partRows m words s)
-    unfolding leasting
-    rows-fit l =
-        rw (sought, le-leb (rowSize * partCount m (leastSet m words)) (length old) (omega (arith, count)))
-        (ap good (rows-same m words rows t (leastSet m words) s same))
+    fits : {A : Type 0} (size : ℕ) (make : Flows → List A) → make (leastSet m words) ≡ make s → size * partCount m s ≤ length old → offering size make m words (length old) ≡ good (make s)
+    unfolding offering
+    fits size make e l =
+        rw (sought, le-leb (size * partCount m (leastSet m words)) (length old) (omega (arith, l, ap (λ (i : ℕ). size * i) count))) (ap good e)
+
+    -- so a call counts its flows, and leaves what it makes of it
+    called : {A : Type 0} (size : ℕ) (make : Flows → List A) (cells : List A → List ℕ) → make (leastSet m words) ≡ make s → length (make s) ≡ partCount m s → size * partCount m s ≤ length old
+        → (answer length (offering size make m words (length old)) ≡ success (partCount m s)) × (leaves cells (offering size make m words (length old)) old ≡ over (cells (make s)) old)
+    called {A} size make cells e n l =
+        let r = fits size make e l in
+        (ap (answer length) r ∙ ap success n, ap (λ (v : Result (List A)). leaves cells v old) r)
 
     rows-given : rowSize * partCount m s ≤ length old
         → (leastAnswer m words (length old) ≡ success (partCount m s)) × (partAfter m words old ≡ over (joined (partRows m words s)) old)
-    rows-given l = (ap (answer length) (rows-fit l) ∙ ap success (rows-count words s m), ap (λ (v : Result (List Words)). leaves joined v old) (rows-fit l))
-
-    flows-fit : partCount m s ≤ length old → numbering m words (length old) ≡ good (partFlows m s)
-    unfolding numbering
-    flows-fit l =
-        rw (sought, le-leb (partCount m (leastSet m words)) (length old) (omega (arith, count))) (ap good (flows-same (leastSet m words) s m same))
+    rows-given l = called rowSize (partRows m words) joined (rows-same m words rows t (leastSet m words) s same) (rows-count words s m) l
 
     flows-given : partCount m s ≤ length old → (flowsAnswer m words (length old) ≡ success (partCount m s)) × (flowsAfter m words old ≡ over (partFlows m s) old)
-    flows-given l =
-        (ap (answer length) (flows-fit l) ∙ ap success (chosen-length s (λ f. f) m), ap (λ (v : Result (List ℕ)). leaves (λ (flows : List ℕ). flows) v old) (flows-fit l))
+    flows-given l = called 1 (partFlows m) (λ (flows : List ℕ). flows) (flows-same (leastSet m words) s m same) (chosen-length s (λ f. f) m) (omega arith)
 
 pub given : Given
 given = record {

@@ -48,12 +48,16 @@ leastSet m words = closure m words (leastFlow m words)
 unfoldable pub seeking : ℕ → List ℕ → Result Flows
 seeking m words = then (tableOf m words) λ rows. unless (differing m words) notDiffering 0 (good (leastSet m words))
 
--- what the two calls come to where there is room for so many words: the rows of the least part, and the numbers that its flows have in the plan
-unfoldable pub leasting : ℕ → List ℕ → ℕ → Result (List Words)
-leasting m words room = then (seeking m words) λ s. unless (leb (rowSize * partCount m s) room) noRoom 0 (good (partRows m words s))
+-- what a call comes to that makes something of the least part, of a size a flow, where there is room for so many words
+unfoldable pub offering : {A : Type 0} → ℕ → (Flows → List A) → ℕ → List ℕ → ℕ → Result (List A)
+offering size make m words room = then (seeking m words) λ s. unless (leb (size * partCount m s) room) noRoom 0 (good (make s))
 
-unfoldable pub numbering : ℕ → List ℕ → ℕ → Result (List ℕ)
-numbering m words room = then (seeking m words) λ s. unless (leb (partCount m s) room) noRoom 0 (good (partFlows m s))
+-- the two calls: the rows of the least part, and the numbers that its flows have in the plan
+abbrev pub leasting : ℕ → List ℕ → ℕ → Result (List Words)
+leasting m words room = offering rowSize (partRows m words) m words room
+
+abbrev pub numbering : ℕ → List ℕ → ℕ → Result (List ℕ)
+numbering m words room = offering 1 (partFlows m) m words room
 
 abbrev pub leastAnswer : ℕ → List ℕ → ℕ → Answer
 leastAnswer m words room = answer length (leasting m words room)

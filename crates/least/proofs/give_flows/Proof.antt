@@ -1,11 +1,14 @@
 -- `least::give_flows` meets its contract. Assumes nothing.
-use mathlib.Core.Path.{_∙_, ap}
+use mathlib.Core.Path.{sym, _∙_, ap}
 use mathlib.Core.List.{List}
 use Prim.Native.Nat.{ℕ}
 use native.Mathlib.Omega.{arith}
 use denote.Ref.{now}
 use Rattle.table.specs.Answers.{over, success}
-use Rattle.least.proofs.Choosing.{giving-few, giving-count, giving-flows, no-flows, flows-laid}
+use Rattle.least.specs.Parts.{partFlows}
+use Rattle.least.specs.Answers.{leastSet}
+use Rattle.least.proofs.Chosen.{chosen-length}
+use Rattle.least.proofs.Choosing.{giving-few, giving-count, giving-flows, no-room, laid}
 use borrow.Author.Needs.{needs}
 use Rattle.least.proofs.give_flows.Statement.{statement}
 use Rattle.least.proofs.give_flows.Tie as tie
@@ -27,7 +30,7 @@ returns c =
     let a = start .args in
     let ws = now (a .words) in
     let count = after-rank .rank .ensures ∙ giving-count (a .n) ws (a .set) (start .pre) in
-    let x = no-flows (a .n) ws (start .pre .comes) (after-rank .rank .result) count (now (a .flows)) (then1 .if1 .taken) in
+    let x = no-room 1 (partFlows (a .n)) (λ (l : List ℕ). l) (a .n) ws (now (a .flows)) (start .pre .comes) (after-rank .rank .result) count (omega (arith, then1 .if1 .taken)) in
     (c .refusal .ensures ∙ x .0, x .1)
 
 store-flows-requires : tie.Need-store-flows-requires
@@ -54,7 +57,7 @@ returns-2 c =
     let ws = now (a .words) in
     let p = after-store .store-flows in
     let count = p .ensures .0 ∙ giving-count (a .n) ws (a .set) (start .pre) in
-    let x = flows-laid (a .n) ws (start .pre .comes) (p .result) count (now (a .flows)) (omega (arith, after-rank .rank .ensures, p .ensures .0, else1 .if1 .left)) (p .last .1 .1 .0)
+    let x = laid 1 (partFlows (a .n)) (λ (l : List ℕ). l) (a .n) ws (now (a .flows)) (start .pre .comes) (p .result) count (omega (arith, after-rank .rank .ensures, p .ensures .0, else1 .if1 .left)) (chosen-length (leastSet (a .n) ws) (λ f. f) (a .n) ∙ sym count) (p .last .1 .1 .0)
     (p .ensures .1 ∙ ap (λ (l : List ℕ). over l (now (a .flows))) (giving-flows (a .n) ws (a .set) (start .pre))) in
     (c .success .ensures ∙ x .0, x .1)
 

@@ -1,12 +1,15 @@
 -- `least::give_rows` meets its contract. Assumes nothing.
-use mathlib.Core.Path.{_∙_, ap}
+use mathlib.Core.Path.{sym, _∙_, ap}
 use mathlib.Core.List.{List}
 use native.Mathlib.Omega.{arith}
 use denote.Ref.{now}
 use Rattle.table.specs.Answers.{over, success}
-use Rattle.table.specs.Rows.{Words}
+use Rattle.table.specs.Rows.{Words, rowSize}
 use Rattle.table.specs.Plain.{joined}
-use Rattle.least.proofs.Choosing.{giving-few, giving-count, giving-rows, no-rows, rows-laid}
+use Rattle.least.specs.Parts.{partRows}
+use Rattle.least.specs.Answers.{leastSet}
+use Rattle.least.proofs.PartTables.{rows-count}
+use Rattle.least.proofs.Choosing.{giving-few, giving-count, giving-rows, no-room, laid}
 use borrow.Author.Needs.{needs}
 use Rattle.least.proofs.give_rows.Statement.{statement}
 use Rattle.least.proofs.give_rows.Tie as tie
@@ -31,7 +34,7 @@ returns c =
     let a = start .args in
     let ws = now (a .words) in
     let count = after-rank .rank .ensures ∙ giving-count (a .n) ws (a .set) (start .pre) in
-    let x = no-rows (a .n) ws (start .pre .comes) (after-rank .rank .result) count (now (a .part)) (then1 .if1 .taken) in
+    let x = no-room rowSize (partRows (a .n) ws) joined (a .n) ws (now (a .part)) (start .pre .comes) (after-rank .rank .result) count (omega (arith, then1 .if1 .taken)) in
     (c .refusal .ensures ∙ x .0, x .1)
 
 store-rows-requires : tie.Need-store-rows-requires
@@ -58,7 +61,7 @@ returns-2 c =
     let ws = now (a .words) in
     let p = after-store .store-rows in
     let count = p .ensures .0 ∙ giving-count (a .n) ws (a .set) (start .pre) in
-    let x = rows-laid (a .n) ws (start .pre .comes) (p .result) count (now (a .part)) (omega (arith, after-rank .rank .ensures, p .ensures .0, else1 .if1 .left)) (p .last .1 .1 .1 .0)
+    let x = laid rowSize (partRows (a .n) ws) joined (a .n) ws (now (a .part)) (start .pre .comes) (p .result) count (omega (arith, after-rank .rank .ensures, p .ensures .0, else1 .if1 .left)) (rows-count ws (leastSet (a .n) ws) (a .n) ∙ sym count) (p .last .1 .1 .1 .0)
     (p .ensures .1 ∙ ap (λ (l : List Words). over (joined l) (now (a .part))) (giving-rows (a .n) ws (a .set) (start .pre))) in
     (c .success .ensures ∙ x .0, x .1)
 

@@ -1,8 +1,11 @@
 -- `least::least` meets its contract. Assumes nothing.
 use mathlib.Core.Path.{subst}
 use denote.Ref.{now}
+use Rattle.table.specs.Rows.{rowSize}
+use Rattle.table.specs.Plain.{joined}
+use Rattle.least.specs.Parts.{partRows}
 use Rattle.least.specs.Private.Steps.{Found}
-use Rattle.least.proofs.Choosing.{rows-refused}
+use Rattle.least.proofs.Choosing.{handed-on}
 use borrow.Author.Needs.{needs}
 use Rattle.least.proofs.least.Statement.{statement}
 use Rattle.least.proofs.least.Tie as tie
@@ -32,7 +35,7 @@ returns c =
     let after-seek = after-found .before .before in
     let a = after-seek .before .before .before .args in
     let r = subst (Found (a .count) (now (a .words))) (after-found .found .given .1) (after-seek .seek .ensures) in
-    rows-refused (a .count) (now (a .words)) _ _ r (now (a .part)) (c .refusal .result) (c .refusal .ensures)
+    handed-on rowSize (partRows (a .count) (now (a .words))) joined (a .count) (now (a .words)) (now (a .part)) _ _ r (c .refusal .result) (c .refusal .ensures)
 
 same-length : tie.Need-same-length
 same-length c = search needs

@@ -1,8 +1,11 @@
 -- `least::least_flows` meets its contract. Assumes nothing.
 use mathlib.Core.Path.{subst}
 use denote.Ref.{now}
+use mathlib.Core.List.{List}
+use Prim.Native.Nat.{ℕ}
+use Rattle.least.specs.Parts.{partFlows}
 use Rattle.least.specs.Private.Steps.{Found}
-use Rattle.least.proofs.Choosing.{flows-refused}
+use Rattle.least.proofs.Choosing.{handed-on}
 use borrow.Author.Needs.{needs}
 use Rattle.least.proofs.least_flows.Statement.{statement}
 use Rattle.least.proofs.least_flows.Tie as tie
@@ -32,7 +35,7 @@ returns c =
     let after-seek = after-found .before .before in
     let a = after-seek .before .before .before .args in
     let r = subst (Found (a .count) (now (a .words))) (after-found .found .given .1) (after-seek .seek .ensures) in
-    flows-refused (a .count) (now (a .words)) _ _ r (now (a .flows)) (c .refusal .result) (c .refusal .ensures)
+    handed-on 1 (partFlows (a .count)) (λ (l : List ℕ). l) (a .count) (now (a .words)) (now (a .flows)) _ _ r (c .refusal .result) (c .refusal .ensures)
 
 same-length : tie.Need-same-length
 same-length c = search needs
