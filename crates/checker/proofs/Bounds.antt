@@ -15,7 +15,7 @@ use Rattle.table.proofs.Tests.{unless-good, then-good}
 use Rattle.table.proofs.Tables.{table-made}
 use Rattle.checker.specs.Clocks.{Clock}
 use Rattle.checker.specs.Rules.{clockAt, clocksOf, Within, AllWithin}
-use Rattle.checker.specs.Answers.{clockSize, clocksFor, checking, checkAnswer}
+use Rattle.checker.specs.Answers.{clockSize, clocksFor, checking, checkAnswer, checkNumber}
 use Rattle.checker.proofs.RuleLaws.{within-limits}
 use Rattle.checker.proofs.CheckLaws.{Sane, AllSane, below-le, sane-clocks}
 
@@ -50,6 +50,9 @@ check-whole m words room l = go (tableOf m words) refl
     go : (r : Result (List Row)) → tableOf m words ≡ r → then r (λ rows. unless (leb (clockSize * m) room) noRoom 0 (clocksOf rows)) ≡ then r clocksOf
     go (good rows) e = let h : clockSize * m ≤ room = omega (arith, table-made m words rows e .few) in rw (le-leb (clockSize * m) room h)
     go (refused why f) e = refl
+
+pub check-number : (m : ℕ) (words : List ℕ) → checkNumber m words ≡ answer length (clocksFor m words) .number
+check-number m words = ap (λ (r : Result (List Clock)). answer length r .number) (check-whole m words (clockSize * maxFlows) (omega arith))
 
 -- what the check's answer tells then: the clocks, or why there are none
 module _ (m : ℕ) (words : List ℕ) (room : ℕ) (r : Answer) (l : clockSize * maxFlows ≤ room) (e : r ≡ checkAnswer m words room) where

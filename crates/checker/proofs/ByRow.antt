@@ -1,13 +1,14 @@
 -- What the code's rule makes of a row is its clock, or why it has none. Assumes nothing.
 use mathlib.Core.Path.{_≡_, refl}
 use Prim.Native.Nat.{ℕ, zero, suc, _+_, _*_, _≤_, _<_}
+use native.Mathlib.Decide.{decLt}
 use native.Mathlib.Omega.{arith}
 use mathlib.Core.Bool.{Bool, true, false, _&&_}
 use lib.Dec.{eqb}
 use borrow.Author.Tests.{lt-ltb, le-ltb}
 use Rattle.table.specs.Answers.{Result, good, unless, number, unknownKind, clocksDiffer, notPlain}
-use Rattle.table.specs.Rows.{Row, input, constant, combine, register, faster, slower, later, head, tail, sample, merge}
-use Rattle.table.specs.Rows.{kinds, kindCount, Words, maxFlows}
+use Rattle.table.specs.Rows.{Row, input, constant, combine, register, faster, slower, later, head, tail, sample, merge, unrated}
+use Rattle.table.specs.Rows.{kinds, kindCount, unratedKind, Words, maxFlows}
 use Rattle.table.specs.Tables.{Fits}
 use Rattle.table.proofs.Tables.{Made, row-fits}
 use Rattle.checker.specs.Clocks.{Clock, every, plain, sameClock, under}
@@ -78,12 +79,13 @@ module _ (m f : ℕ) (small : f < maxFlows) (clk : ℕ → Clock) (h : ℕ → K
   rule-agrees (merge c a b) t =
       rw (held c (t .0), held a (t .1), held b (t .2))
       (agree-merged f c (clk c) (clk a) (clk b) (within c (t .0)) (within a (t .1)) (within b (t .2)) (omega (arith, t .0)))
+  rule-agrees unrated t = (refl, refl)
 
   pub row-agrees : (w : Words) (r : Row) → Made m f w r → Agrees f (Kept.rule h (w .kind) (w .one) (w .two) (w .three)) (clockOf clk f r)
   unfolding Kept.rule
   row-agrees w r d = rw (lt-ltb (w .kind) kindCount (d .known), d .row) (rule-agrees r (row-fits m f w r d))
 
--- the rule of kinds 2 to 6, and of a number that is no kind
+-- the rule of kinds 2 to 6, of an unrated row, and of a number that is no kind
 pub rule-combine : (h : ℕ → Kept) (n p q r : ℕ) → (n ≡ 0 → ⊥) → (n ≡ 1 → ⊥) → n ≤ 6 → Kept.rule h n p q r ≡ Kept.combined (h p) (h q)
 unfolding Kept.rule Kept.ruleOf kinds
 rule-combine h zero p q r a b l = absurd (a refl)
@@ -95,6 +97,10 @@ rule-combine h (suc (suc (suc (suc (suc zero))))) p q r a b l = refl
 rule-combine h (suc (suc (suc (suc (suc (suc zero)))))) p q r a b l = refl
 rule-combine h (suc (suc (suc (suc (suc (suc (suc n))))))) p q r a b l = absurd (omega arith)
 
-pub rule-unknown : (h : ℕ → Kept) (n p q r : ℕ) → kindCount ≤ n → Kept.rule h n p q r ≡ Refused (number unknownKind)
-unfolding Kept.rule
-rule-unknown h n p q r l = rw (le-ltb n kindCount l)
+pub rule-unknown : (h : ℕ → Kept) (n p q r : ℕ) → unratedKind ≤ n → Kept.rule h n p q r ≡ Refused (number unknownKind)
+unfolding Kept.rule Kept.ruleOf kinds
+rule-unknown h n p q r l =
+    elim (decLt n kindCount) [
+      | yes x ↦ let e : n ≡ unratedKind = omega arith in rw e
+      | no x ↦ rw (le-ltb n kindCount (omega arith))
+    ]

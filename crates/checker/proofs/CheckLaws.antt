@@ -10,7 +10,7 @@ use lib.ListN.{length, length-append, List·getD-append}
 use lib.Seq.{getD-append-seam}
 use Rattle.table.specs.Tables.{Fits}
 use Rattle.table.specs.Answers.{Refusal, Result, good, refused, then, clocksDiffer}
-use Rattle.table.specs.Rows.{Row, input, constant, combine, register, faster, slower, later, head, tail, sample, merge, onRegister, badRegister}
+use Rattle.table.specs.Rows.{Row, input, constant, combine, register, faster, slower, later, head, tail, sample, merge, unrated, onRegister, badRegister}
 use Rattle.table.proofs.Tests.{not-good, good-inj}
 use Rattle.table.proofs.Lists.{Each, below-suc}
 use Rattle.table.proofs.Registers.{Passes, Registers, all-pass, one-fails, registers}
@@ -34,6 +34,7 @@ clock-local clk clk′ m f (head a v t) w s = rw (s a (w .0))
 clock-local clk clk′ m f (tail a) w s = rw (s a (w .0))
 clock-local clk clk′ m f (sample u a c) w s = rw (s a (w .0), s c (w .1))
 clock-local clk clk′ m f (merge c a b) w s = rw (s c (w .0), s a (w .1), s b (w .2))
+clock-local clk clk′ m f unrated w s = refl
 
 -- the rows from number f on have the clocks that the rules give them
 abbrev pub Clocked : (ℕ → Clock) → ℕ → List Row → Type 0

@@ -2,7 +2,7 @@ pub mod ClockLaws
 pub mod RuleLaws
 pub mod CheckLaws
 pub mod WordLaws
-mod Laws
+pub mod Laws
 pub mod Agree
 mod ByRow
 pub mod Folds

@@ -6,8 +6,8 @@ use lib.ListN.{length}
 use lib.Dec.{eqb, leb}
 use borrow.Author.Tests.{eqb-true, leb-true, le-leb}
 use Rattle.table.specs.Answers.{Refusal, Result, good, refused, unless, clocksDiffer, beyondLimits, notPlain}
-use Rattle.table.specs.Rows.{Row, Op, input, constant, combine, register, faster, slower, later, head, tail, sample, merge}
-use Rattle.table.proofs.Tests.{and-left, and-right, and-both, good-inj, unless-good}
+use Rattle.table.specs.Rows.{Row, Op, input, constant, combine, register, faster, slower, later, head, tail, sample, merge, unrated}
+use Rattle.table.proofs.Tests.{and-left, and-right, and-both, good-inj, not-good, unless-good}
 use Rattle.checker.specs.Clocks.{Clock, every, plain, sameClock, under}
 use Rattle.checker.specs.Rules.{maxDerived, maxConditions, withinLimits, limited, clockOf}
 use Rattle.checker.proofs.ClockLaws.{same-clock}
@@ -60,6 +60,7 @@ own-row clk f (head a v s) = own-unless f (plain (clk a)) notPlain _ (own-unless
 own-row clk f (tail a) = own-unless f (plain (clk a)) notPlain _ (own-limited f (every (clk a .period) (clk a .phase + clk a .period)))
 own-row clk f (sample u a c) = own-unless f (sameClock (clk a) (clk c)) clocksDiffer _ (own-limited f (under (clk a) c u))
 own-row clk f (merge c a b) = own-unless f (sameClock (clk a) (under (clk c) c true) && sameClock (clk b) (under (clk c) c false)) clocksDiffer (good (clk c)) tt
+own-row clk f unrated = refl
 
 -- The rules once more, as what holds where a row has a clock.
 pub data Rule (clk : ℕ → Clock) : Row → Clock → Type 0 where
@@ -110,3 +111,4 @@ module _ (clk : ℕ → Clock) (f : ℕ) where
       let left : Bool = sameClock (clk a) (under (clk c) c true) in
       tested (left && sameClock (clk b) (under (clk c) c false)) clocksDiffer (clk c) k (merge c a b)
       (λ x. by-merge (same-clock _ _ (and-left left _ x)) (same-clock _ _ (and-right left _ x))) e
+  rule-of unrated k e = not-good e

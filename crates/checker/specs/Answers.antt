@@ -6,6 +6,7 @@ use lib.Dec.{leb}
 use Rattle.table.specs.declared.Answer.{Answer}
 use Rattle.table.specs.Answers.{Result, unless, then, answer, leaves, noRoom}
 use Rattle.table.specs.Bits.{bit}
+use Rattle.table.specs.Rows.{maxFlows}
 use Rattle.table.specs.Plain.{tableOf}
 use Rattle.checker.specs.Clocks.{Condition, Clock}
 use Rattle.checker.specs.Rules.{clocksOf}
@@ -36,6 +37,10 @@ checking m words room = then (tableOf m words) λ rows. unless (leb (clockSize *
 
 abbrev pub checkAnswer : ℕ → List ℕ → ℕ → Answer
 checkAnswer m words room = answer length (checking m words room)
+
+-- the number that it answers, given room for the clocks of any plan
+abbrev pub checkNumber : ℕ → List ℕ → ℕ
+checkNumber m words = checkAnswer m words (clockSize * maxFlows) .number
 
 abbrev pub clocksAfter : ℕ → List ℕ → List ℕ → List ℕ
 clocksAfter m words old = leaves clocksWords (checking m words (length old)) old

@@ -6,8 +6,8 @@ use mathlib.Core.List.{List, [], _∷_, _++_}
 use mathlib.Core.Option.{Option, none, some}
 use lib.ListN.{length, getD}
 use lib.Dec.{eqb, leb}
-use Rattle.table.specs.Answers.{Result, good, refused, unless, then, clocksDiffer, beyondLimits, notPlain}
-use Rattle.table.specs.Rows.{Row, input, constant, combine, register, faster, slower, later, head, tail, sample, merge, badRegister, maxFlows}
+use Rattle.table.specs.Answers.{Result, good, refused, unless, then, unknownKind, clocksDiffer, beyondLimits, notPlain}
+use Rattle.table.specs.Rows.{Row, input, constant, combine, register, faster, slower, later, head, tail, sample, merge, unrated, badRegister, maxFlows}
 use Rattle.checker.specs.Clocks.{Condition, Clock, every, plain, sameClock, under}
 
 -- the limits of what a rule derives
@@ -44,6 +44,7 @@ clockOf clk f (sample u a c) = unless (sameClock (clk a) (clk c)) clocksDiffer f
 clockOf clk f (merge c a b) =
     unless (sameClock (clk a) (under (clk c) c true) && sameClock (clk b) (under (clk c) c false)) clocksDiffer f
     (good (clk c))
+clockOf clk f unrated = refused unknownKind f
 
 abbrev pub clockAt : List Clock → ℕ → Clock
 clockAt ks f = getD ks f (every 1 0)

@@ -22,7 +22,7 @@ ghost use Rattle.table.specs.Answers.{good, answer};
 ghost use Rattle.table.specs.Rows.{badRegister, maxFlows};
 ghost use Rattle.table.specs.Plain.{rowWords, tableOf, rowsIn};
 ghost use Rattle.checker.specs.Rules.{clocksFrom, clocksOf};
-ghost use Rattle.checker.specs.Answers.{clockSize, checkAnswer, clocksAfter};
+ghost use Rattle.checker.specs.Answers.{clockSize, checkAnswer, clocksAfter, checkNumber};
 ghost use Rattle.checker.specs.Private.Kept.{clockIn, words, same, combined, rule, fitsIn, sourceIn, place, Assigned};
 
 // A clock as the check keeps it: its words, of which the conditions that are not used are 0.
@@ -242,4 +242,13 @@ pub fn check(count: u32, words: &[u32], clocks: &mut [u32]) -> Answer
     }
     table::copy(size, &kept, clocks);
     answer
+}
+
+// The number that the check answers, given room for the clocks.
+pub fn number(count: u32, words: &[u32]) -> u32
+    ensures { λ r. ⌜ r ≡ checkNumber count (now (words .entry)) ⌝ }
+{
+    let mut clocks = [0u32; CLOCKS];
+    let answer = check(count, words, &mut clocks);
+    answer.number
 }

@@ -12,12 +12,14 @@ use Rattle.table.proofs.AnswerLaws.{is-differing}
 use Rattle.table.proofs.Tables.{Table, table-made}
 use Rattle.checker.specs.Clocks.{Clock}
 use Rattle.checker.specs.Rules.{clocksOf}
+use Rattle.checker.specs.Answers.{checkNumber}
+use Rattle.checker.proofs.Bounds.{check-number}
 use Rattle.reach.specs.Sets.{Flows}
-use Rattle.least.specs.Parts.{partRows, partFlows, partCount, checkNumber, LeastPart}
+use Rattle.least.specs.Parts.{partRows, partFlows, partCount, LeastPart}
 use Rattle.least.specs.Answers.{leastSet, seeking, offering, leastAnswer, partAfter, flowsAnswer, flowsAfter}
 use Rattle.least.specs.Given.{Given}
 use Rattle.least.proofs.Chosen.{chosen-length}
-use Rattle.least.proofs.PartTables.{check-number, rows-count}
+use Rattle.least.proofs.PartTables.{rows-count}
 use Rattle.least.proofs.SamePart.{count-same, rows-same, flows-same}
 use Rattle.least.proofs.LeastParts as LeastParts
 

@@ -8,7 +8,7 @@ use lib.Dec.{eqb, leb}
 use lib.ListN.{length}
 use borrow.Author.Tests.{eqb-true, eq-eqb}
 use Rattle.table.specs.Answers.{Refusal, Result, good, unless, clocksDiffer, beyondLimits, notPlain}
-use Rattle.table.specs.Rows.{Row, input, constant, combine, register, faster, slower, later, head, tail, sample, merge}
+use Rattle.table.specs.Rows.{Row, input, constant, combine, register, faster, slower, later, head, tail, sample, merge, unrated}
 use Rattle.table.specs.Rows.{Field, operand}
 use Rattle.table.specs.Tables.{RowHas}
 use Rattle.table.proofs.Tests.{same-test}
@@ -133,6 +133,7 @@ module _ (s : Flows) where
         unless-moved (sameClock (clk′ (ρ a)) (under (clk′ (ρ c)) (ρ c) true) && sameClock (clk′ (ρ b)) (under (clk′ (ρ c)) (ρ c) false))
         (sameClock (clk a) (under (clk c) c true) && sameClock (clk b) (under (clk c) c false)) clocksDiffer f _ (good (clk c))
         (ap₂ _&&_ (branch a c true (l .1) (l .0)) (branch b c false (l .2) (l .0))) (ap good (agree c (l .0)))
+    clock-moved unrated l = refl
 
     -- the row's clock has its conditions on flows of the set too
     inside-rule : (r : Row) (k : Clock) → Rule clk r k → RowHas P r → Inside s (k .conditions)

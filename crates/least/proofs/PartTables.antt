@@ -9,19 +9,19 @@ use lib.ListN.{length}
 use lib.Seq.{take-all}
 use borrow.Author.Tests.{le-leb, eq-eqb}
 use Rattle.table.specs.Answers.{Refusal, Result, good, refused, then, number, answer, clocksDiffer, badCount}
-use Rattle.table.specs.Rows.{Row, tail, Words, rowOf, rowSize, maxFlows}
+use Rattle.table.specs.Rows.{Row, tail, Words, rowBy, rowSize, maxFlows}
 use Rattle.table.specs.Tables.{rowAt}
-use Rattle.table.specs.Plain.{rowWords, split, joined, rowsFrom, countFits, tableOf}
+use Rattle.table.specs.Plain.{rowWords, split, joined, rowsFrom, countFits, tableBy, tableOf}
 use Rattle.table.proofs.Tests.{Tried, passed, failed, try, and-both, good-inj, not-good, then-good}
 use Rattle.table.proofs.AnswerLaws.{is-differing}
 use Rattle.table.proofs.PlainRows.{split-joined, length-joined}
 use Rattle.table.proofs.Tables.{Table}
 use Rattle.checker.specs.Clocks.{Condition, Clock, every}
 use Rattle.checker.specs.Rules.{clockAt, clocksOf}
-use Rattle.checker.specs.Answers.{clockSize, clocksFor}
-use Rattle.checker.proofs.Bounds.{check-whole}
+use Rattle.checker.specs.Answers.{clocksFor}
+use Rattle.checker.proofs.Bounds.{check-number}
 use Rattle.reach.specs.Sets.{Flows}
-use Rattle.least.specs.Parts.{Part, below, renumberedRow, chosen, partCount, partRows, checkNumber, Differs}
+use Rattle.least.specs.Parts.{Part, below, renumberedRow, chosen, partCount, partRows, Differs}
 use Rattle.least.specs.PartChecks.{moveCondition, moveClock, checkedPart}
 use Rattle.least.proofs.Numbers.{below-lt, below-le}
 use Rattle.least.proofs.Chosen.{chosen-in, chosen-out, chosen-length, chosen-at, everyFlow, below-every, chosen-every}
@@ -30,18 +30,18 @@ use Rattle.least.proofs.Outcomes.{Accepting, Refusing, Outcome, accepti
 use Rattle.least.proofs.Carried.{movedRows, movedClocks, part-accepting, part-refusing}
 
 -- one row more of a table
-rows-next : (n f : ℕ) (ws : List Words) (rs : List Row) (w : Words) (r : Row) → rowsFrom n f ws ≡ good rs → rowOf n (f + length ws) w ≡ good r
-    → rowsFrom n f (ws ++ (w ∷ [])) ≡ good (rs ++ (r ∷ []))
+rows-next : (n f : ℕ) (ws : List Words) (rs : List Row) (w : Words) (r : Row) → rowsFrom true n f ws ≡ good rs → rowBy true n (f + length ws) w ≡ good r
+    → rowsFrom true n f (ws ++ (w ∷ [])) ≡ good (rs ++ (r ∷ []))
 unfolding rowsFrom
 rows-next n f [] rs w r e h =
     let z : f + 0 ≡ f = omega arith in
-    let k : rowOf n f w ≡ good r = ap (λ (i : ℕ). rowOf n i w) (sym z) ∙ h in
+    let k : rowBy true n f w ≡ good r = ap (λ (i : ℕ). rowBy true n i w) (sym z) ∙ h in
     rw k (ap (λ (l : List Row). good (l ++ (r ∷ []))) (good-inj e))
 rows-next n f (v ∷ ws) rs w r e h =
-    let a = then-good (rowOf n f v) _ rs e in
-    let b = then-good (rowsFrom n (suc f) ws) (λ ys. good (a .0 ∷ ys)) rs (a .2) in
+    let a = then-good (rowBy true n f v) _ rs e in
+    let b = then-good (rowsFrom true n (suc f) ws) (λ ys. good (a .0 ∷ ys)) rs (a .2) in
     let z : f + suc (length ws) ≡ suc f + length ws = omega arith in
-    let next = rows-next n (suc f) ws (b .0) w r (b .1) (ap (λ (i : ℕ). rowOf n i w) (sym z) ∙ h) in
+    let next = rows-next n (suc f) ws (b .0) w r (b .1) (ap (λ (i : ℕ). rowBy true n i w) (sym z) ∙ h) in
     rw (a .1, next) (ap (λ (l : List Row). good (l ++ (r ∷ []))) (good-inj (b .2)))
 
 -- how many rows a part has
@@ -51,36 +51,32 @@ rows-count words s n = chosen-length s (λ f. renumberedRow s (rowWords words f)
 pub words-count : (words : List ℕ) (s : Flows) (n : ℕ) → length (joined (partRows n words s)) ≡ rowSize * below s n
 words-count words s n = length-joined (partRows n words s) ∙ ap (λ (i : ℕ). rowSize * i) (rows-count words s n)
 
--- what the check answers, given room
-pub check-number : (n : ℕ) (words : List ℕ) → checkNumber n words ≡ answer length (clocksFor n words) .number
-check-number n words = ap (λ (r : Result (List Clock)). answer length r .number) (check-whole n words (clockSize * maxFlows) (omega arith))
-
 no-flows : (words : List ℕ) → clocksFor 0 words ≡ refused badCount 0
-unfolding tableOf
+unfolding tableBy
 no-flows words = refl
 
 module _ (m : ℕ) (words : List ℕ) (rows : List Row) (t : Table m words rows) where
   module _ (s : Flows) (part : Part m words s) where
-    made : (n : ℕ) → n ≤ m → rowsFrom (below s m) 0 (partRows n words s) ≡ good (movedRows m words rows t s part n)
+    made : (n : ℕ) → n ≤ m → rowsFrom true (below s m) 0 (partRows n words s) ≡ good (movedRows m words rows t s part n)
     unfolding chosen rowsFrom
     made zero l = refl
     made (suc n) l = go (try (s n)) (made n (omega arith))
       where
-        go : Tried (s n) → rowsFrom (below s m) 0 (partRows n words s) ≡ good (movedRows m words rows t s part n)
-            → rowsFrom (below s m) 0 (partRows (suc n) words s) ≡ good (movedRows m words rows t s part (suc n))
+        go : Tried (s n) → rowsFrom true (below s m) 0 (partRows n words s) ≡ good (movedRows m words rows t s part n)
+            → rowsFrom true (below s m) 0 (partRows (suc n) words s) ≡ good (movedRows m words rows t s part (suc n))
         go (passed e) h =
             let z : 0 + length (partRows n words s) ≡ below s n = omega (arith, rows-count words s n) in
-            ap (rowsFrom (below s m) 0) (chosen-in s (λ f. renumberedRow s (rowWords words f)) n e)
+            ap (rowsFrom true (below s m) 0) (chosen-in s (λ f. renumberedRow s (rowWords words f)) n e)
             ∙ rows-next (below s m) 0 (partRows n words s) (movedRows m words rows t s part n) (renumberedRow s (rowWords words n)) (renumber (below s) (rowAt rows n)) h
-            (ap (λ (i : ℕ). rowOf (below s m) i (renumberedRow s (rowWords words n))) z
-            ∙ row-of-part s m n (rowWords words n) (rowAt rows n) (t .row-at n l) (λ x y. part n x l e y))
+            (ap (λ (i : ℕ). rowBy true (below s m) i (renumberedRow s (rowWords words n))) z
+            ∙ row-of-part s m n (rowWords words n) (rowAt rows n) (t .taken n l) (t .row-at n l) (λ x y. part n x l e y))
             ∙ ap good (sym (chosen-in s (λ f. renumber (below s) (rowAt rows f)) n e))
         go (failed e) h =
-            ap (rowsFrom (below s m) 0) (chosen-out s (λ f. renumberedRow s (rowWords words f)) n e) ∙ h ∙ ap good (sym (chosen-out s (λ f. renumber (below s) (rowAt rows f)) n e))
+            ap (rowsFrom true (below s m) 0) (chosen-out s (λ f. renumberedRow s (rowWords words f)) n e) ∙ h ∙ ap good (sym (chosen-out s (λ f. renumber (below s) (rowAt rows f)) n e))
 
     module _ (least : 1 ≤ partCount m s) where
       pub table-of-part : tableOf (partCount m s) (joined (partRows m words s)) ≡ good (movedRows m words rows t s part m)
-      unfolding tableOf
+      unfolding tableBy
       table-of-part =
           let c : (countFits (below s m) && eqb (length (joined (partRows m words s))) (rowSize * below s m)) ≡ true =
           and-both (and-both (le-leb 1 (below s m) least) (le-leb (below s m) maxFlows (omega (arith, below-le s m, t .few)))) (eq-eqb _ _ (words-count words s m)) in

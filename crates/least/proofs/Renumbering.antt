@@ -5,8 +5,8 @@ use native.Mathlib.Omega.{arith}
 use mathlib.Core.Bool.{Bool, true}
 use borrow.Author.Tests.{lt-ltb, le-leb}
 use Rattle.table.specs.Answers.{good}
-use Rattle.table.specs.Rows.{Row, input, constant, combine, register, faster, slower, later, head, tail, sample, merge, onRegister, Field}
-use Rattle.table.specs.Rows.{operand, source, copies, period, ticks, value, unused, ranged, placed, Kind, kinds, kindAt, Words, each, fieldsOf, rowOf}
+use Rattle.table.specs.Rows.{Row, input, constant, combine, register, faster, slower, later, head, tail, sample, merge, unrated, onRegister, Field}
+use Rattle.table.specs.Rows.{operand, source, copies, period, ticks, value, unused, ranged, placed, Kind, kinds, kindAt, Words, each, fieldsOf, rowOf, takes, rowBy}
 use Rattle.table.specs.Tables.{Linked}
 use Rattle.table.specs.Links.{names}
 use Rattle.table.proofs.Tests.{and-both}
@@ -30,6 +30,7 @@ renumber ρ (head a v s) = head (ρ a) v s
 renumber ρ (tail a) = tail (ρ a)
 renumber ρ (sample u a c) = sample u (ρ a) (ρ c)
 renumber ρ (merge c a b) = merge (ρ c) (ρ a) (ρ b)
+renumber ρ unrated = unrated
 
 -- a test of its beat and source
 pub renumber-register : (ρ : ℕ → ℕ) (test : ℕ → ℕ → Bool) (r : Row) → onRegister test (renumber ρ r) ≡ onRegister (λ b a. test (ρ b) (ρ a)) r
@@ -44,6 +45,7 @@ renumber-register ρ test (head a v s) = refl
 renumber-register ρ test (tail a) = refl
 renumber-register ρ test (sample u a c) = refl
 renumber-register ρ test (merge c a b) = refl
+renumber-register ρ test unrated = refl
 
 -- numbers that stay
 pub renumber-same : (ρ : ℕ → ℕ) (r : Row) → ((a : ℕ) → ρ a ≡ a) → renumber ρ r ≡ r
@@ -58,6 +60,7 @@ renumber-same ρ (head a v s) e = rw (e a)
 renumber-same ρ (tail a) e = rw (e a)
 renumber-same ρ (sample u a c) e = rw (e a, e c)
 renumber-same ρ (merge c a b) e = rw (e c, e a, e b)
+renumber-same ρ unrated e = refl
 
 -- each kind makes of renumbered fields its row renumbered
 module _ (s : Flows) where
@@ -66,7 +69,7 @@ module _ (s : Flows) where
 
   kinds-move : (x y z : ℕ) → Each (Moves x y z) 0 kinds
   unfolding kinds Moves
-  kinds-move x y z = (refl, (refl, (refl, (refl, (refl, (refl, (refl, (refl, (refl, (refl, (refl, (refl, (refl, (refl, (refl, (refl, tt))))))))))))))))
+  kinds-move x y z = (refl, (refl, (refl, (refl, (refl, (refl, (refl, (refl, (refl, (refl, (refl, (refl, (refl, (refl, (refl, (refl, (refl, tt)))))))))))))))))
 
   -- a field renumbered is in range, and in its place among the part's flows
   field-ranged : (t : Field) (x : ℕ) → ranged t x ≡ true → ranged t (renumbered s t x) ≡ true
@@ -93,10 +96,10 @@ module _ (s : Flows) where
   field-placed m f unused x l = refl
 
   -- the words of a row whose flows are all in the set, renumbered, are its row renumbered
-  pub row-of-part : (m f : ℕ) (w : Words) (r : Row) → Made m f w r → ((x : ℕ) → names w x ≡ true → s x ≡ true)
-      → rowOf (below s m) (below s f) (renumberedRow s w) ≡ good (renumber (below s) r)
+  pub row-of-part : (m f : ℕ) (w : Words) (r : Row) → takes true (w .kind) ≡ true → Made m f w r → ((x : ℕ) → names w x ≡ true → s x ≡ true)
+      → rowBy true (below s m) (below s f) (renumberedRow s w) ≡ good (renumber (below s) r)
   unfolding rowOf fieldsOf renumberedRow Moves
-  row-of-part m f w r d h =
+  row-of-part m f w r u d h =
       let k : Kind = kindAt (w .kind) in
       let l = words-linked w Member m f r d h in
       let v : Words = record { kind = w .kind; one = renumbered s (k .one) (w .one); two = renumbered s (k .two) (w .two); three = renumbered s (k .three) (w .three) } in
@@ -105,5 +108,5 @@ module _ (s : Flows) where
       (and-both (field-ranged (k .two) (w .two) (each-two ranged k w (d .in-range))) (field-ranged (k .three) (w .three) (each-three ranged k w (d .in-range)))) in
       let put : each (placed (below s m) (below s f)) k v ≡ true =
       and-both (field-placed m f (k .one) (w .one) (l .0)) (and-both (field-placed m f (k .two) (w .two) (l .1)) (field-placed m f (k .three) (w .three) (l .2))) in
-      rw (kind-there (w .kind) (d .known), ok, put)
+      rw (u, kind-there (w .kind) (d .known), ok, put)
       (ap good (each-entry (Moves (w .one) (w .two) (w .three)) 0 kinds (w .kind) k (kinds-move (w .one) (w .two) (w .three)) (kind-there (w .kind) (d .known)) ∙ ap (renumber (below s)) (d .row)))

@@ -1,35 +1,23 @@
 -- The rows and the flows of a part, laid down one after the other. Assumes nothing.
-use mathlib.Core.Path.{_≡_, refl, sym, _∙_, ap, ap₂, subst}
+use mathlib.Core.Path.{_≡_, refl, sym, _∙_, ap, subst}
 use Prim.Native.Nat.{ℕ, suc, _+_, _*_, _≤_, _<_}
 use native.Mathlib.Numerals.{add-one}
 use native.Mathlib.Omega.{arith}
 use mathlib.Core.Bool.{true, cond}
-use mathlib.Core.List.{List, [], _++_, append-assoc}
-use lib.ListN.{length, take, drop, set, length-append}
-use lib.Seq.{take-at, drop-at, drop-drop}
-use borrow.Author.Tests.{le-leb}
+use mathlib.Core.List.{List, []}
+use lib.ListN.{length, set}
 use Rattle.table.specs.Answers.{over}
 use Rattle.table.specs.Bits.{bit}
 use Rattle.table.specs.Rows.{Words, rowSize, maxFlows}
-use Rattle.table.specs.Plain.{rowWords, plainRow, joined, putRow}
+use Rattle.table.specs.Plain.{rowWords, joined, putRow}
 use Rattle.table.proofs.Tests.{Tried, passed, failed, try}
 use Rattle.table.proofs.AnswerLaws.{set-over}
-use Rattle.table.proofs.PlainRows.{joined-next}
+use Rattle.table.proofs.PlainRows.{put-next}
 use Rattle.reach.specs.Sets.{Flows}
 use Rattle.least.specs.Parts.{below, renumberedRow, chosen, partRows, partFlows}
 use Rattle.least.proofs.Numbers.{below-lt, below-le}
 use Rattle.least.proofs.Chosen.{chosen-in, chosen-out, chosen-length}
-use Rattle.least.proofs.PartTables.{words-count}
-
--- a row more
-over-row : (xs ys old : List ℕ) (i : ℕ) → length xs ≡ i → length ys ≡ rowSize → take i (over xs old) ++ (ys ++ drop (i + rowSize) (over xs old)) ≡ over (xs ++ ys) old
-over-row xs ys old i n m =
-    let a : take i (over xs old) ≡ xs = take-at xs (drop (length xs) old) i n in
-    let d : drop i (over xs old) ≡ drop (length xs) old = drop-at xs (drop (length xs) old) i n in
-    let k : length xs + rowSize ≡ length (xs ++ ys) = omega (arith, length-append xs ys) in
-    let b : drop (i + rowSize) (over xs old) ≡ drop (length (xs ++ ys)) old =
-    sym (drop-drop rowSize i (over xs old)) ∙ ap (drop rowSize) d ∙ drop-drop rowSize (length xs) old ∙ ap (λ (j : ℕ). drop j old) k in
-    ap₂ (λ (x y : List ℕ). x ++ (ys ++ y)) a b ∙ sym (append-assoc xs ys (drop (length (xs ++ ys)) old))
+use Rattle.least.proofs.PartTables.{rows-count}
 
 -- what has been laid down of the flows below f
 pub record Storing (s : Flows) (laid : ℕ → List ℕ) (n : ℕ) (old : List ℕ) (at f : ℕ) (new : List ℕ) : Type 0 where
@@ -70,10 +58,9 @@ module _ (words : List ℕ) (s : Flows) (n : ℕ) (old : List ℕ) (at f : ℕ) 
     where
       go : Tried (s f) → cond (s f) (putRow at (renumberedRow s (rowWords words f)) new) new ≡ over (rowsLaid words s (suc f)) old
       go (passed p) =
-          rw (p, le-leb (rowSize * at + rowSize) (length new) (room p))
-          (ap (λ (l : List ℕ). take (rowSize * at) l ++ (plainRow (renumberedRow s (rowWords words f)) ++ drop (rowSize * at + rowSize) l)) (t .is)
-          ∙ over-row (rowsLaid words s f) (plainRow (renumberedRow s (rowWords words f))) old (rowSize * at) (words-count words s f ∙ ap (λ (i : ℕ). rowSize * i) (sym (t .count))) refl
-          ∙ ap (λ (l : List ℕ). over l old) (sym (ap joined (chosen-in s (λ g. renumberedRow s (rowWords words g)) f p) ∙ joined-next (partRows f words s) (renumberedRow s (rowWords words f)))))
+          rw p
+          (put-next (partRows f words s) (renumberedRow s (rowWords words f)) old new at (rows-count words s f ∙ sym (t .count)) (t .is) (room p)
+          ∙ ap (λ (l : List Words). over (joined l) old) (sym (chosen-in s (λ g. renumberedRow s (rowWords words g)) f p)))
       go (failed p) = rw p (t .is ∙ ap (λ (l : List Words). over (joined l) old) (sym (chosen-out s (λ g. renumberedRow s (rowWords words g)) f p)))
 
 -- flows

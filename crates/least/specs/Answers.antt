@@ -8,9 +8,10 @@ use Rattle.table.specs.declared.Answer.{Answer}
 use Rattle.table.specs.Answers.{Result, good, unless, then, answer, leaves, number, noRoom, clocksDiffer, notDiffering}
 use Rattle.table.specs.Rows.{Words, rowSize, maxFlows}
 use Rattle.table.specs.Plain.{joined, tableOf}
+use Rattle.checker.specs.Answers.{checkNumber}
 use Rattle.reach.specs.Sets.{Flows}
 use Rattle.reach.specs.Reach.{closure}
-use Rattle.least.specs.Parts.{partCount, partRows, partFlows, checkNumber}
+use Rattle.least.specs.Parts.{partCount, partRows, partFlows}
 
 -- the check answers the plan with 21
 abbrev pub differing : ℕ → List ℕ → Bool

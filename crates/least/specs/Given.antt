@@ -6,8 +6,9 @@ use lib.ListN.{length}
 use Rattle.table.specs.Answers.{good, number, over, success, clocksDiffer}
 use Rattle.table.specs.Rows.{Row, rowSize}
 use Rattle.table.specs.Plain.{tableOf, joined}
+use Rattle.checker.specs.Answers.{checkNumber}
 use Rattle.reach.specs.Sets.{Flows}
-use Rattle.least.specs.Parts.{partRows, partFlows, partCount, checkNumber, LeastPart}
+use Rattle.least.specs.Parts.{partRows, partFlows, partCount, LeastPart}
 use Rattle.least.specs.Answers.{leastAnswer, partAfter, flowsAnswer, flowsAfter}
 
 pub record Given : Type 0 where

@@ -1,14 +1,14 @@
 -- A part of a plan, and the least part that the check still answers with 21. A plan is its count of flows and its plain words.
 use mathlib.Core.Path.{_≡_}
-use Prim.Native.Nat.{ℕ, zero, suc, _+_, _*_, _≤_, _<_}
+use Prim.Native.Nat.{ℕ, zero, suc, _+_, _≤_, _<_}
 use mathlib.Core.Bool.{true, cond}
 use mathlib.Core.List.{List, [], _∷_, _++_}
 use Rattle.table.specs.Answers.{number, clocksDiffer}
 use Rattle.table.specs.Bits.{bit}
-use Rattle.table.specs.Rows.{Field, Kind, kindAt, Words, maxFlows}
+use Rattle.table.specs.Rows.{Field, Kind, kindAt, Words}
 use Rattle.table.specs.Plain.{rowWords, joined}
 use Rattle.table.specs.Links.{isFlow}
-use Rattle.checker.specs.Answers.{clockSize, checkAnswer}
+use Rattle.checker.specs.Answers.{checkNumber}
 use Rattle.reach.specs.Sets.{Flows}
 use Rattle.reach.specs.Reach.{named, Leads}
 
@@ -43,10 +43,6 @@ partRows m words s = chosen s (λ f. renumberedRow s (rowWords words f)) m
 
 abbrev pub partFlows : ℕ → Flows → List ℕ
 partFlows m s = chosen s (λ f. f) m
-
--- the number that the check answers, given room for the clocks of any plan
-abbrev pub checkNumber : ℕ → List ℕ → ℕ
-checkNumber m words = checkAnswer m words (clockSize * maxFlows) .number
 
 -- the check answers the part with 21
 abbrev pub Differs : ℕ → List ℕ → Flows → Type 0

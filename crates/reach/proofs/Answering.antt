@@ -1,5 +1,6 @@
 -- What the call answers and leaves, by what the test of the table told. Assumes nothing.
 use mathlib.Core.Path.{_≡_, sym, _∙_, ap}
+use mathlib.Core.Bool.{true}
 use Prim.Native.Nat.{ℕ, _≤_, _<_}
 use mathlib.Core.List.{List}
 use lib.ListN.{length}
@@ -31,7 +32,7 @@ module _ (m : ℕ) (words : List ℕ) {found : Answer} (told : found ≡ plainAn
 
   module _ (h : found .number ≡ 0) where
     pub is-table : tableOf m words ≡ good (rowsIn (tableOf m words))
-    is-table = examined m words found told h
+    is-table = examined true m words found told h
 
     pub no-room : (old : List ℕ) → length old < m → (refusal noRoom 0 ≡ reachAnswer m words (length old)) × (old ≡ setsAfter m words old)
     no-room old l =

@@ -2,12 +2,12 @@
 use mathlib.Core.Path.{_≡_}
 use Prim.Native.Nat.{ℕ, zero, suc}
 use mathlib.Core.Bool.{true, _&&_, _||_}
-use mathlib.Core.List.{List, [], _∷_, _++_}
+use mathlib.Core.List.{List}
 use lib.Dec.{eqb, leb}
 use lib.ListN.{length}
 use Rattle.table.specs.declared.Answer.{Answer}
 use Rattle.table.specs.Answers.{Result, good, unless, then, answer, leaves, noRoom}
-use Rattle.table.specs.Plain.{rowWords, tableOf}
+use Rattle.table.specs.Plain.{rowWords, tableOf, perFlow}
 use Rattle.table.specs.Links.{names}
 use Rattle.reach.specs.Sets.{Flows, setOf}
 
@@ -30,9 +30,8 @@ abbrev pub closure : ℕ → List ℕ → ℕ → Flows
 closure m words f = through (named words) m f
 
 -- the closures of the flows below n
-unfoldable pub setsOf : ℕ → List ℕ → ℕ → List ℕ
-setsOf m words zero = []
-setsOf m words (suc n) = setsOf m words n ++ (setOf (closure m words n) m ∷ [])
+abbrev pub setsOf : ℕ → List ℕ → ℕ → List ℕ
+setsOf m words = perFlow (λ f. setOf (closure m words f) m)
 
 -- what the call comes to where there is room for so many sets
 unfoldable pub reaching : ℕ → List ℕ → ℕ → Result (List ℕ)

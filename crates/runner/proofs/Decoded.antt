@@ -5,7 +5,7 @@ use native.Mathlib.Omega.{arith}
 use mathlib.Core.Bool.{Bool, true, false, _||_, not, Bool·beq, false≢true}
 use lib.Dec.{eqb}
 use borrow.Author.Tests.{eqb-true, ne-eqb}
-use Rattle.table.specs.Rows.{Row, Op, input, constant, combine, register, faster, slower, later, head, tail, sample, merge, kinds, kindCount, decode}
+use Rattle.table.specs.Rows.{Row, Op, input, constant, combine, register, faster, slower, later, head, tail, sample, merge, unrated, kinds, kindCount, decode}
 use Rattle.table.proofs.Entries.{every, kind-test}
 use Rattle.checker.proofs.ClockLaws.{beq-true}
 use Rattle.semantics.specs.Runs.{isInput}
@@ -42,6 +42,7 @@ isLater (head a v s) = false
 isLater (tail a) = false
 isLater (sample u a c) = false
 isLater (merge c a b) = false
+isLater unrated = false
 
 laters-told : (x y z : ℕ) → every (λ n k. eqb n 10 || not (isLater (k .make x y z))) 0 kinds ≡ true
 unfolding kinds

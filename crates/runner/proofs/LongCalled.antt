@@ -1,5 +1,6 @@
 -- What a long run promises, refusal by refusal. Assumes nothing.
 use mathlib.Core.Path.{_≡_, refl, sym, _∙_, ap, subst}
+use mathlib.Core.Bool.{true}
 use Prim.Native.Nat.{ℕ, _*_, _≤_}
 use native.Mathlib.Omega.{arith}
 use mathlib.Core.List.{List}
@@ -80,7 +81,7 @@ unfolding Plain rowsIn Clocked
 accepted m words room r b e z =
     let x = told-clocks m words room r b e z in
     let t = then-good (tableOf m words) clocksOf (x .0) (x .2) in
-    (rows-good m words (t .0) (t .1), (x .0, ap (λ (y : Result (List Row)). clocksOf (goodRows y)) (t .1) ∙ t .2))
+    (rows-good true m words (t .0) (t .1), (x .0, ap (λ (y : Result (List Row)). clocksOf (goodRows y)) (t .1) ∙ t .2))
 
 -- the check's refusal is the long run's
 down-by : (m : ℕ) (words log : List ℕ) (ticks a b c : ℕ) (why : Refusal) (f : ℕ) → clocksFor m words ≡ refused why f

@@ -10,7 +10,7 @@ use mathlib.Core.List.{List, [], _∷_}
 use lib.ListN.{length, getD, take, replicate}
 use lib.Seq.{take-all, take-length}
 use lib.Dec.{eqb}
-use Rattle.table.specs.Rows.{Row, input, constant, combine, register, faster, slower, later, head, tail, sample, merge, rowSize, maxFlows}
+use Rattle.table.specs.Rows.{Row, input, constant, combine, register, faster, slower, later, head, tail, sample, merge, unrated, rowSize, maxFlows}
 use Rattle.table.specs.Bits.{bit}
 use Rattle.table.specs.Tables.{Fits, rowAt}
 use Rattle.table.proofs.Tables.{Table}
@@ -34,6 +34,7 @@ row-starts m f rows (head a v s) l = never refl refl
 row-starts m f rows (tail a) l = refl
 row-starts m f rows (sample u a c) l = tt
 row-starts m f rows (merge c a b) l = tt
+row-starts m f rows unrated l = tt
 
 -- the inputs before a row
 inputs-step : (rows : List Row) (f : ℕ) → f < length rows → inputs (take (suc f) rows) ≡ inputs (take f rows) + bit (isInput (rowAt rows f))

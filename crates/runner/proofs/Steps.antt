@@ -6,7 +6,7 @@ use mathlib.Core.List.{List, _∷_}
 use lib.ListN.{length, getD, take}
 use lib.Dec.{eqb}
 use borrow.Author.Tests.{ne-eqb}
-use Rattle.table.specs.Rows.{Row, input, constant, combine, register, faster, slower, later, head, tail, sample, merge}
+use Rattle.table.specs.Rows.{Row, input, constant, combine, register, faster, slower, later, head, tail, sample, merge, unrated}
 use Rattle.table.specs.Tables.{Fits}
 use Rattle.semantics.specs.Cells.{Cell, absent, present, History, back, count, latest}
 use Rattle.semantics.specs.Operators.{is, timed, registered, fasterOf, laterOf, headOf, valueOr}
@@ -50,6 +50,7 @@ module _ (m f : ℕ) (rows : List Row) (log : List ℕ) (past : Ticks) (now : Ti
   row-steps (tail a) l c o e s = tail-steps (history past a) w c (cellIn now a)
   row-steps (sample u a c) l d o e s = refl
   row-steps (merge c a b) l d o e s = refl
+  row-steps unrated l d o e s = refl
 
   pub row-follows : (row : Row) (cell : Cell) → Fits m f row → Carries rows f row (length past) (history past) w → stepOf row (length past) log at (cellIn now) w ≡ is cell
       → Follows rows f row (length past) now past (nextOf row (length past) (cellIn now) w)
@@ -69,6 +70,7 @@ module _ (m f : ℕ) (rows : List Row) (log : List ℕ) (past : Ticks) (now : Ti
   row-follows (tail a) cell l c e = tail-follows (history past a) w c (cellIn now a)
   row-follows (sample u a c) cell l d e = tt
   row-follows (merge c a b) cell l d e = tt
+  row-follows unrated cell l d e = tt
 
 -- what a row's words say of this tick they say of its operand's cell alone
 pub follows-on : (m f t : ℕ) (rows : List Row) (past : Ticks) (now now′ : Tick) (w : Held) (row : Row) → Fits m f row → ((a : ℕ) → a < f → cellIn now a ≡ cellIn now′ a)
@@ -85,3 +87,4 @@ follows-on m f t rows past now now′ w (head a v s) l e c = subst (λ (x : Cell
 follows-on m f t rows past now now′ w (tail a) l e c = subst (λ (x : Cell). eqb (w .x) 0 ≡ eqb (count (x ∷ history past a)) 0) (e a (l .0)) c
 follows-on m f t rows past now now′ w (sample u a c) l e d = d
 follows-on m f t rows past now now′ w (merge c a b) l e d = d
+follows-on m f t rows past now now′ w unrated l e d = d

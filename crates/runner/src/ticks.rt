@@ -24,7 +24,8 @@ pub enum Ticked {
     Stopped(usize),
 }
 
-// What row f comes to at tick t: one decision over the kind. That no other kind is left is told before it, and the arms stand from 15 down: so
+// What row f comes to at tick t: one decision over the kind. That no other kind is left is told before it (no table that is run has an unrated
+// row), and the arms stand from 15 down: so
 // the compiler makes one jump of the decision and of the one over kinds 2 to 6 in it.
 fn outcome(
     kind: u32,
@@ -54,7 +55,7 @@ fn outcome(
         (heldIn (now (state .entry)) (heldSize * f)))
         (heldSize * f) (now (state .entry)) (now (state .exit)) o ⌝ }
 {
-    if table::KINDS <= kind {
+    if table::UNRATED <= kind {
         return CLASH;
     }
     let i = HELD_SIZE * f;

@@ -6,7 +6,7 @@ use mathlib.Core.List.{List, [], _∷_, _++_, map}
 use mathlib.Core.Option.{Option, none, some}
 use lib.ListN.{length, getD, take}
 use Rattle.table.specs.Bits.{bit}
-use Rattle.table.specs.Rows.{Row, input, constant, combine, register, faster, slower, later, head, tail, sample, merge, badRegister}
+use Rattle.table.specs.Rows.{Row, input, constant, combine, register, faster, slower, later, head, tail, sample, merge, unrated, badRegister}
 use Rattle.semantics.specs.Cells.{Cell, absent, present, mark, History}
 use Rattle.semantics.specs.Operators.{Step, is, clashes, timed, combined, registered, fasterOf, slowerOf, laterOf, tailOf, headOf, sampled, merged}
 
@@ -35,6 +35,7 @@ isInput (head a v s) = false
 isInput (tail a) = false
 isInput (sample u a c) = false
 isInput (merge c a b) = false
+isInput unrated = false
 
 -- how many rows are inputs
 unfoldable pub inputs : List Row → ℕ
@@ -46,7 +47,7 @@ abbrev pub word : List Row → List ℕ → ℕ → ℕ → ℕ
 word rows log t f = getD log (t * inputs rows + inputs (take f rows)) 0
 
 -- The cell of the next flow, from the cells of this tick before it and the earlier ticks. The tick is the count of those ticks,
--- the flow the count of those cells.
+-- the flow the count of those cells. A table that is run has no unrated row.
 unfoldable pub cellOf : List Row → List ℕ → Ticks → Tick → Row → Step
 cellOf rows log past now (input n p) = is (timed n p (length past) (word rows log (length past) (length now)))
 cellOf rows log past now (constant v n p) = is (timed n p (length past) v)
@@ -59,6 +60,7 @@ cellOf rows log past now (head a v s) = headOf v s (cellIn now a) (history past 
 cellOf rows log past now (tail a) = is (tailOf (cellIn now a) (history past a))
 cellOf rows log past now (sample u a c) = sampled u (cellIn now a) (cellIn now c)
 cellOf rows log past now (merge c a b) = merged (cellIn now c) (cellIn now a) (cellIn now b)
+cellOf rows log past now unrated = clashes
 
 -- a tick worked out: all of it, or up to a clash that names a flow
 pub data TickEnd : Type 0 where

@@ -4,11 +4,11 @@ use mathlib.Core.Bool.{Bool, true, false, _&&_, false≢true}
 use Prim.Native.Nat.{ℕ, suc, _+_, _<_, _≤_}
 use native.Mathlib.Omega.{arith}
 use lib.Dec.{leb, ltb, eqb}
-use borrow.Author.Tests.{leb-true, ltb-true, le-leb, lt-ltb}
-use Rattle.table.specs.Answers.{number, unknownKind, outOfRange, misplaced}
-use Rattle.table.specs.Rows.{Field, operand, source, copies, period, ticks, value, unused, ranged, placed, each, Kind, kindAt, kindCount, maxFlows, Words, rowOf, fieldsOf}
-use Rattle.table.specs.Private.Codes.{bounds, bounded, verdict}
-use Rattle.table.proofs.Tests.{and-right, and-both, and-true, and-false, same-test}
+use borrow.Author.Tests.{leb-true, ltb-true, ltb-false, le-leb, lt-ltb, eq-eqb, ne-eqb}
+use Rattle.table.specs.Answers.{number, unless, unknownKind, outOfRange, misplaced}
+use Rattle.table.specs.Rows.{Field, operand, source, copies, period, ticks, value, unused, ranged, placed, each, Kind, kindAt, kindCount, unratedKind, maxFlows, Words, rowOf, rowBy, takes, fieldsOf}
+use Rattle.table.specs.Private.Codes.{bounds, bounded, sureKinds, verdict}
+use Rattle.table.proofs.Tests.{and-left, and-right, and-both, and-true, and-false, same-test}
 use Rattle.table.proofs.Entries.{kind-there, kind-gone}
 
 -- ---- one field
@@ -71,42 +71,69 @@ each-both p q k w =
 pub not-zero : (n v : ℕ) → n ≡ v → eqb v 0 ≡ false → n ≡ 0 → ⊥
 not-zero n v e t z = false≢true (sym t ∙ ap (λ (x : ℕ). eqb x 0) (sym e ∙ z))
 
-module _ (m f : ℕ) (w : Words) where
-  pub unknown : kindCount ≤ w .kind → verdict (rowOf m f w) ≡ number unknownKind
-  unfolding rowOf
-  unknown h = rw (kind-gone (w .kind) h)
+-- a row of a kind that is not known, where the rates are asked for or are not
+pub unknown : (rated : Bool) (m f : ℕ) (w : Words) → (takes rated (w .kind) && ltb (w .kind) kindCount) ≡ false → verdict (rowBy rated m f w) ≡ number unknownKind
+unfolding rowOf
+unknown rated m f w e = go (takes rated (w .kind)) e
+  where
+    go : (b : Bool) → (b && ltb (w .kind) kindCount) ≡ false → verdict (unless b unknownKind f (rowOf m f w)) ≡ number unknownKind
+    go true e = rw (kind-gone (w .kind) (ltb-false (w .kind) kindCount e))
+    go false e = refl
 
-  module _ (known : w .kind < kindCount) where
-    pub out : each ranged (kindAt (w .kind)) w ≡ false → verdict (rowOf m f w) ≡ number outOfRange
-    unfolding rowOf fieldsOf
-    out e = rw (kind-there (w .kind) known, e)
+pub sure-le : (rated : Bool) (n : ℕ) → n ≡ sureKinds rated → n ≤ kindCount
+sure-le true n e = omega arith
+sure-le false n e = omega arith
 
-    off : each ranged (kindAt (w .kind)) w ≡ true → each (placed m f) (kindAt (w .kind)) w ≡ false → verdict (rowOf m f w) ≡ number misplaced
-    unfolding rowOf fieldsOf
-    off e o = rw (kind-there (w .kind) known, e, o)
+-- a kind below those that are sure to be known; and one from there on, by where it stands to that of an unrated row
+pub sure-known : (rated : Bool) (k : ℕ) → k < sureKinds rated → (takes rated k && ltb k kindCount) ≡ true
+sure-known true k l = rw (ne-eqb k unratedKind (λ e. omega (arith, e, l)), lt-ltb k kindCount (omega arith))
+sure-known false k l = lt-ltb k kindCount l
 
-    fine : each ranged (kindAt (w .kind)) w ≡ true → each (placed m f) (kindAt (w .kind)) w ≡ true → verdict (rowOf m f w) ≡ 0
-    unfolding rowOf fieldsOf
-    fine e o = rw (kind-there (w .kind) known, e, o)
+pub not-known : (rated : Bool) (k : ℕ) → sureKinds rated ≤ k → k ≤ unratedKind → (takes rated k && ltb k kindCount) ≡ false
+not-known true k l h = rw (eq-eqb k unratedKind (omega arith))
+not-known false k l h = absurd (omega arith)
 
-    passes : (each ranged (kindAt (w .kind)) w && each (placed m f) (kindAt (w .kind)) w) ≡ eqb (verdict (rowOf m f w)) 0
-    passes = go (each ranged (kindAt (w .kind)) w) (each (placed m f) (kindAt (w .kind)) w) refl refl
-      where
-        go : (a b : Bool) → each ranged (kindAt (w .kind)) w ≡ a → each (placed m f) (kindAt (w .kind)) w ≡ b → (a && b) ≡ eqb (verdict (rowOf m f w)) 0
-        go true true e o = rw (fine e o)
-        go true false e o = rw (off e o)
-        go false b e o = rw (out e)
+pub known-after : (rated : Bool) (k : ℕ) → unratedKind < k → (takes rated k && ltb k kindCount) ≡ ltb k kindCount
+known-after rated k l = rw (ne-eqb k unratedKind (λ e. omega (arith, e, l)), and-false rated)
 
-    -- the bounds of the row and the count tell whether it is accepted
-    pub by-bounds : m ≤ maxFlows → f ≤ maxFlows → each (bounded (bounds m f)) (kindAt (w .kind)) w ≡ eqb (verdict (rowOf m f w)) 0
-    by-bounds hm hf =
-        each-same (bounded (bounds m f)) (λ t x. ranged t x && placed m f t x) (bounded-both m f hm hf) (kindAt (w .kind)) w
-        ∙ each-both ranged (placed m f) (kindAt (w .kind)) w ∙ passes
+-- and of one that is
+module _ (rated : Bool) (m f : ℕ) (w : Words) (is : (takes rated (w .kind) && ltb (w .kind) kindCount) ≡ true) where
+  pub kind-is : w .kind < kindCount
+  kind-is = ltb-true (w .kind) kindCount (and-right (takes rated (w .kind)) _ is)
 
-    -- a row in range that is not accepted has a field out of place
-    pub must-be-off : each ranged (kindAt (w .kind)) w ≡ true → eqb (verdict (rowOf m f w)) 0 ≡ false → number misplaced ≡ verdict (rowOf m f w)
-    must-be-off e n = go (each (placed m f) (kindAt (w .kind)) w) refl
-      where
-        go : (b : Bool) → each (placed m f) (kindAt (w .kind)) w ≡ b → number misplaced ≡ verdict (rowOf m f w)
-        go true o = absurd (false≢true (sym n ∙ ap (λ (x : ℕ). eqb x 0) (fine e o)))
-        go false o = sym (off e o)
+  there : takes rated (w .kind) ≡ true
+  there = and-left (takes rated (w .kind)) _ is
+
+  pub out : each ranged (kindAt (w .kind)) w ≡ false → verdict (rowBy rated m f w) ≡ number outOfRange
+  unfolding rowOf fieldsOf
+  out e = rw (there, kind-there (w .kind) kind-is, e)
+
+  off : each ranged (kindAt (w .kind)) w ≡ true → each (placed m f) (kindAt (w .kind)) w ≡ false → verdict (rowBy rated m f w) ≡ number misplaced
+  unfolding rowOf fieldsOf
+  off e o = rw (there, kind-there (w .kind) kind-is, e, o)
+
+  fine : each ranged (kindAt (w .kind)) w ≡ true → each (placed m f) (kindAt (w .kind)) w ≡ true → verdict (rowBy rated m f w) ≡ 0
+  unfolding rowOf fieldsOf
+  fine e o = rw (there, kind-there (w .kind) kind-is, e, o)
+
+  passes : (each ranged (kindAt (w .kind)) w && each (placed m f) (kindAt (w .kind)) w) ≡ eqb (verdict (rowBy rated m f w)) 0
+  passes = go (each ranged (kindAt (w .kind)) w) (each (placed m f) (kindAt (w .kind)) w) refl refl
+    where
+      go : (a b : Bool) → each ranged (kindAt (w .kind)) w ≡ a → each (placed m f) (kindAt (w .kind)) w ≡ b → (a && b) ≡ eqb (verdict (rowBy rated m f w)) 0
+      go true true e o = rw (fine e o)
+      go true false e o = rw (off e o)
+      go false b e o = rw (out e)
+
+  -- the bounds of the row and the count tell whether it is accepted
+  pub by-bounds : m ≤ maxFlows → f ≤ maxFlows → each (bounded (bounds m f)) (kindAt (w .kind)) w ≡ eqb (verdict (rowBy rated m f w)) 0
+  by-bounds hm hf =
+      each-same (bounded (bounds m f)) (λ t x. ranged t x && placed m f t x) (bounded-both m f hm hf) (kindAt (w .kind)) w
+      ∙ each-both ranged (placed m f) (kindAt (w .kind)) w ∙ passes
+
+  -- a row in range that is not accepted has a field out of place
+  pub must-be-off : each ranged (kindAt (w .kind)) w ≡ true → eqb (verdict (rowBy rated m f w)) 0 ≡ false → number misplaced ≡ verdict (rowBy rated m f w)
+  must-be-off e n = go (each (placed m f) (kindAt (w .kind)) w) refl
+    where
+      go : (b : Bool) → each (placed m f) (kindAt (w .kind)) w ≡ b → number misplaced ≡ verdict (rowBy rated m f w)
+      go true o = absurd (false≢true (sym n ∙ ap (λ (x : ℕ). eqb x 0) (fine e o)))
+      go false o = sym (off e o)

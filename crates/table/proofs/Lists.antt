@@ -49,3 +49,9 @@ module _ {A : Type 0} where
     subst (λ (j : ℕ). P j a) (omega arith) (h 0 (omega arith)),
     each-of P (suc i) l d (λ j x. subst (λ (n : ℕ). P n (getD l j d)) (omega arith) (h (suc j) (omega arith))),
   )
+
+  -- and back
+  pub each-get : (P : ℕ → A → Type 0) (i : ℕ) (l : List A) (d : A) (j : ℕ) → j < length l → Each P i l → P (i + j) (getD l j d)
+  each-get P i [] d j x h = absurd (omega arith)
+  each-get P i (a ∷ l) d zero x h = subst (λ (n : ℕ). P n a) (omega arith) (h .0)
+  each-get P i (a ∷ l) d (suc j) x h = subst (λ (n : ℕ). P n (getD l j d)) (omega arith) (each-get P (suc i) l d j (omega arith) (h .1))

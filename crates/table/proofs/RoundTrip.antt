@@ -13,14 +13,14 @@ use borrow.Author.Tests.{le-leb, leb-true, lt-ltb, ltb-true, eq-eqb, eqb-true}
 use Rattle.table.specs.Answers.{Result, good, refused, then, answer, leaves, over, success, cutShort, badCount, badFilling, noRoom}
 use Rattle.table.specs.Rows.{Row, Field, operand, source, copies, period, ticks, value, unused, width, ranged, Kind, kinds, kindAt, Words}
 use Rattle.table.specs.Rows.{rowSize, kindOf, fieldsOf, rowOf, maxFlows}
-use Rattle.table.specs.Plain.{split, joined, rowsFrom, countFits, tableOf}
+use Rattle.table.specs.Plain.{split, joined, rowsFrom, countFits, tableBy, draftOf}
 use Rattle.table.specs.Bits.{toBits, fromBits, bits, bytesFrom, byteCount}
 use Rattle.table.specs.Packed.{Taken, takeField, TakenRow, takeFields, takeRow, takeRows, filling, unpacked, rowBits, rowsBits, packed, reading}
 use Rattle.table.specs.Packed.{writing, readAnswer, wordsAfter, writeAnswer, bytesAfter, countWidth, kindWidth}
 use Rattle.table.specs.RoundTrip.{bytesGiven, wordsGiven, RoundTrip}
 use Rattle.table.specs.Private.Laid.{fill, whole}
 use Rattle.table.proofs.Tests.{and-left, and-right, and-both, good-inj, unless-good, then-good}
-use Rattle.table.proofs.Tables.{ranges, known-good, Made, made, each-one, each-two, each-three, table-made}
+use Rattle.table.proofs.Tables.{ranges, known-good, Made, made, each-one, each-two, each-three, made-by}
 use Rattle.table.proofs.BitLaws.{length-toBits, from-to, to-from, to-from-at, zeros, length-bits}
 use Rattle.table.proofs.ByteLaws.{bytes-pad, bytes-bits, bits-packed}
 use Rattle.table.proofs.AnswerLaws.{no-zero}
@@ -120,13 +120,13 @@ row-back m f bs t e =
 
 -- ---- all rows
 
-rows-taken : (m f : ℕ) (ws : List Words) (rs : List Row) (rest : List Bool) → rowsFrom m f ws ≡ good rs → filling rest ≡ true
+rows-taken : (m f : ℕ) (ws : List Words) (rs : List Row) (rest : List Bool) → rowsFrom false m f ws ≡ good rs → filling rest ≡ true
     → takeRows m (length ws) f (rowsBits ws ++ rest) ≡ good ws
 unfolding takeRows rowsBits rowsFrom
 rows-taken m f [] rs rest e h = rw h
 rows-taken m f (w ∷ ws) rs rest e h =
     let a = then-good (rowOf m f w) _ rs e in
-    let b = then-good (rowsFrom m (suc f) ws) (λ vs. good (a .0 ∷ vs)) rs (a .2) in
+    let b = then-good (rowsFrom false m (suc f) ws) (λ vs. good (a .0 ∷ vs)) rs (a .2) in
     rw (append-assoc (rowBits w) (rowsBits ws) rest, row-taken m f w (a .0) (rowsBits ws ++ rest) (a .1), rows-taken m (suc f) ws (b .0) rest (b .1) h)
 
 record Rows-back (m f : ℕ) (bs : List Bool) (ws : List Words) : Type 0 where
@@ -134,7 +134,7 @@ record Rows-back (m f : ℕ) (bs : List Bool) (ws : List Words) : Type 0 where
   put : rowsBits ws ++ rest ≡ bs
   filled : filling rest ≡ true
   rows : List Row
-  made-rows : rowsFrom m f ws ≡ good rows
+  made-rows : rowsFrom false m f ws ≡ good rows
 
 rows-back : (m n f : ℕ) (bs : List Bool) (ws : List Words) → takeRows m n f bs ≡ good ws → Rows-back m f bs ws
 unfolding takeRows rowsBits rowsFrom
@@ -174,13 +174,13 @@ zero-bits bs e =
 -- ---- the whole table
 
 -- what is read of the bytes of an accepted table is its words
-pub unpacked-packed : (m : ℕ) (words : List ℕ) (rows : List Row) → tableOf m words ≡ good rows → unpacked (packed (split m words)) ≡ good (split m words)
-unfolding unpacked tableOf
+pub unpacked-packed : (m : ℕ) (words : List ℕ) (rows : List Row) → draftOf m words ≡ good rows → unpacked (packed (split m words)) ≡ good (split m words)
+unfolding unpacked tableBy
 unpacked-packed m words rows e =
     let ws = split m words in
     let table = tableBits m words in
-    let d = table-made m words rows e in
-    let u = unless-good (countFits m && eqb (length words) (rowSize * m)) badCount 0 (rowsFrom m 0 ws) rows e in
+    let d = made-by false m words rows e in
+    let u = unless-good (countFits m && eqb (length words) (rowSize * m)) badCount 0 (rowsFrom false m 0 ws) rows e in
     let end = fill (length table) in
     let g : bits (packed ws) ≡ toBits countWidth m ++ (rowsBits ws ++ end) =
     ap bits (packed-split m words) ∙ bits-packed table ∙ append-assoc (toBits countWidth m) (rowsBits ws) end in
@@ -197,8 +197,8 @@ module _ (bs : List ℕ) (ws : List Words) (e : unpacked bs ≡ good ws) where
   back = rows-back (length ws) (length ws) 0 (drop countWidth (bits bs)) ws (o .rows)
 
   -- its words are an accepted table
-  table-unpacked : tableOf (length ws) (joined ws) ≡ good (back .rows)
-  unfolding tableOf
+  table-unpacked : draftOf (length ws) (joined ws) ≡ good (back .rows)
+  unfolding tableBy
   table-unpacked =
       rw (
         le-leb 1 (length ws) (o .some-flow),
@@ -237,9 +237,9 @@ read-back m words old buf ok room = go (writing m words (length old)) refl ok
         × (wordsAfter (take (answer length r .count) (leaves (λ bs. bs) r old)) buf ≡ over words buf)
     go (refused why f) e z = absurd (no-zero why z)
     go (good bs) e z =
-        let t = then-good (tableOf m words) _ bs e in
+        let t = then-good (draftOf m words) _ bs e in
         let u = unless-good (leb (length (packed (split m words))) (length old)) noRoom 0 (good (packed (split m words))) bs (t .2) in
-        let d = table-made m words (t .0) (t .1) in
+        let d = made-by false m words (t .0) (t .1) in
         let p : take (length bs) (bs ++ drop (length bs) old) ≡ packed (split m words) = take-at bs (drop (length bs) old) (length bs) refl ∙ sym (good-inj (u .1)) in
         rw (p, unpacked-packed m words (t .0) (t .1), length-split m words, le-leb (rowSize * m) (length buf) room)
         (ap success (length-split m words), ap (λ (l : List ℕ). over l buf) (joined-split m words (d .words-size)))

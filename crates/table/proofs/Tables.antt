@@ -10,10 +10,10 @@ use lib.Seq.{drop-drop, getD-drop}
 use lib.Dec.{eqb, leb}
 use borrow.Author.Tests.{leb-true, ltb-true, eqb-true}
 use Rattle.table.specs.declared.Answer.{Answer}
-use Rattle.table.specs.Answers.{good, outOfRange, misplaced, badCount}
+use Rattle.table.specs.Answers.{good, answer, unknownKind, outOfRange, misplaced, badCount}
 use Rattle.table.specs.Rows.{Row, Field, operand, source, copies, period, ticks, value, unused, least, most, ranged, placed}
-use Rattle.table.specs.Rows.{Kind, kinds, kindCount, kindAt, decode, Words, rowSize, each, known, kindOf, fieldsOf, rowOf, maxFlows}
-use Rattle.table.specs.Plain.{four, rowWords, split, rowsFrom, countFits, tableOf, rowsIn, plainAnswer}
+use Rattle.table.specs.Rows.{Kind, kinds, kindCount, kindAt, decode, Words, rowSize, each, known, kindOf, fieldsOf, rowOf, takes, rowBy, maxFlows}
+use Rattle.table.specs.Plain.{four, rowWords, split, rowsFrom, countFits, tableBy, tableOf, rowsIn}
 use Rattle.table.specs.Tables.{rowAt, In, Holds, WordsHave, RowHas, FieldsFit, Fits}
 use Rattle.table.proofs.Lists.{Each, each-entry}
 use Rattle.table.proofs.Entries.{kind-there, kind-known}
@@ -100,7 +100,7 @@ Makes P x y z i k = WordsHave P k x y z → RowHas P (k .make x y z)
 
 kinds-make : (P : Field → ℕ → Type 0) (x y z : ℕ) → Each (Makes P x y z) 0 kinds
 unfolding kinds Makes
-kinds-make P x y z = (first, (last, (first, (first, (first, (first, (first, (last, (all, (first, (first, (outer, (one, (first, (first, (all, tt))))))))))))))))
+kinds-make P x y z = (first, (last, (first, (first, (first, (first, (first, (last, (all, (first, (first, (outer, (one, (first, (first, (all, (none-of, tt)))))))))))))))))
   where
     first : {A B C : Type 0} → A × B × C → A × B
     first h = (h .0, h .1)
@@ -117,6 +117,9 @@ kinds-make P x y z = (first, (last, (first, (first, (first, (first, (first, (las
     all : {A : Type 0} → A → A
     all h = h
 
+    none-of : {A : Type 0} → A → Unit {0}
+    none-of h = tt
+
 pub row-has : (P : Field → ℕ → Type 0) (m f : ℕ) (w : Words) (r : Row) → Made m f w r → WordsHave P (kindAt (w .kind)) (w .one) (w .two) (w .three) → RowHas P r
 unfolding Makes
 row-has P m f w r d h =
@@ -127,50 +130,63 @@ row-has P m f w r d h =
 pub row-fits : (m f : ℕ) (w : Words) (r : Row) → Made m f w r → Fits m f r
 row-fits m f w r d = row-has (Holds m f) m f w r d (fields-fit m f w r d)
 
--- A table that is not refused.
-pub record Table (m : ℕ) (words : List ℕ) (rows : List Row) : Type 0 where
+-- A table that is not refused, where the rates are asked for or are not.
+pub record TableBy (rated : Bool) (m : ℕ) (words : List ℕ) (rows : List Row) : Type 0 where
   pub some-flow : 1 ≤ m
   pub few : m ≤ maxFlows
   pub words-size : length words ≡ rowSize * m
   pub size : length rows ≡ m
   pub fits : AllFit m 0 rows
   pub row-at : (f : ℕ) → f < m → Made m f (rowWords words f) (rowAt rows f)
+  pub taken : (f : ℕ) → f < m → takes rated (rowWords words f .kind) ≡ true
 
-record Rows (m f n : ℕ) (words : List ℕ) (rows : List Row) : Type 0 where
+abbrev pub Table : ℕ → List ℕ → List Row → Type 0
+Table = TableBy true
+
+record Rows (rated : Bool) (m f n : ℕ) (words : List ℕ) (rows : List Row) : Type 0 where
   size : length rows ≡ n
   fits : AllFit m f rows
   row-at : (i : ℕ) → i < n → Made m (f + i) (rowWords words i) (rowAt rows i)
+  taken : (i : ℕ) → i < n → takes rated (rowWords words i .kind) ≡ true
 
-rows-made : (m f n : ℕ) (words : List ℕ) (rows : List Row) → rowsFrom m f (split n words) ≡ good rows → Rows m f n words rows
+rows-made : (rated : Bool) (m f n : ℕ) (words : List ℕ) (rows : List Row) → rowsFrom rated m f (split n words) ≡ good rows → Rows rated m f n words rows
 unfolding split rowsFrom
-rows-made m f zero words rows e =
-    subst (Rows m f 0 words) (good-inj e) record { size = refl; fits = tt; row-at = λ i l. absurd (omega arith) }
-rows-made m f (suc n) words rows e =
+rows-made rated m f zero words rows e =
+    subst (Rows rated m f 0 words) (good-inj e) record { size = refl; fits = tt; row-at = λ i l. absurd (omega arith); taken = λ i l. absurd (omega arith) }
+rows-made rated m f (suc n) words rows e =
     let w : Words = four words in
-    let a = then-good (rowOf m f w) _ rows e in
-    let b = then-good (rowsFrom m (suc f) (split n (drop rowSize words))) (λ rs. good (a .0 ∷ rs)) rows (a .2) in
-    let d : Made m f w (a .0) = made m f w (a .0) (a .1) in
-    subst (Rows m f (suc n) words) (good-inj (b .2)) (longer (a .0) (b .0) d (rows-made m (suc f) n (drop rowSize words) (b .0) (b .1)))
+    let a = then-good (rowBy rated m f w) _ rows e in
+    let b = then-good (rowsFrom rated m (suc f) (split n (drop rowSize words))) (λ rs. good (a .0 ∷ rs)) rows (a .2) in
+    let u = unless-good (takes rated (w .kind)) unknownKind f (rowOf m f w) (a .0) (a .1) in
+    subst (Rows rated m f (suc n) words) (good-inj (b .2))
+    (longer (a .0) (b .0) (u .0) (made m f w (a .0) (u .1)) (rows-made rated m (suc f) n (drop rowSize words) (b .0) (b .1)))
   where
-    longer : (r : Row) (rs : List Row) → Made m f (four words) r → Rows m (suc f) n (drop rowSize words) rs → Rows m f (suc n) words (r ∷ rs)
-    longer r rs d t = record { size = ap suc (t .size); fits = (row-fits m f (four words) r d, t .fits); row-at = at }
+    longer : (r : Row) (rs : List Row) → takes rated (four words .kind) ≡ true → Made m f (four words) r → Rows rated m (suc f) n (drop rowSize words) rs
+        → Rows rated m f (suc n) words (r ∷ rs)
+    longer r rs u d t = record { size = ap suc (t .size); fits = (row-fits m f (four words) r d, t .fits); row-at = at; taken = taken }
       where
+        next : (i : ℕ) → drop (rowSize * i) (drop rowSize words) ≡ drop (rowSize * suc i) words
+        next i = let s : rowSize + rowSize * i ≡ rowSize * suc i = omega arith in drop-drop (rowSize * i) rowSize words ∙ ap (λ (j : ℕ). drop j words) s
+
+        taken : (i : ℕ) → i < suc n → takes rated (rowWords words i .kind) ≡ true
+        taken zero l = u
+        taken (suc i) l = subst (λ (v : List ℕ). takes rated (four v .kind) ≡ true) (next i) (t .taken i (omega arith))
+
         at : (i : ℕ) → i < suc n → Made m (f + i) (rowWords words i) (rowAt (r ∷ rs) i)
         at zero l = let q : f ≡ f + 0 = omega arith in subst (λ (j : ℕ). Made m j (four words) r) q d
         at (suc i) l =
             let q : suc f + i ≡ f + suc i = omega arith in
-            let s : rowSize + rowSize * i ≡ rowSize * suc i = omega arith in
             subst (λ (j : ℕ). Made m j (rowWords words (suc i)) (rowAt rs i)) q
-            (subst (λ (l : List ℕ). Made m (suc f + i) (four l) (rowAt rs i)) (drop-drop (rowSize * i) rowSize words ∙ ap (λ (j : ℕ). drop j words) s) (t .row-at i (omega arith)))
+            (subst (λ (l : List ℕ). Made m (suc f + i) (four l) (rowAt rs i)) (next i) (t .row-at i (omega arith)))
 
-pub table-made : (m : ℕ) (words : List ℕ) (rows : List Row) → tableOf m words ≡ good rows → Table m words rows
-unfolding tableOf
-table-made m words rows e =
+pub made-by : (rated : Bool) (m : ℕ) (words : List ℕ) (rows : List Row) → tableBy rated m words ≡ good rows → TableBy rated m words rows
+unfolding tableBy
+made-by rated m words rows e =
     let a = unless-good (countFits m && eqb (length words) (rowSize * m)) badCount 0 _ rows e in
     let c : countFits m ≡ true = and-left (countFits m) _ (a .0) in
-    go (leb-true 1 m (and-left (leb 1 m) _ c)) (leb-true m maxFlows (and-right (leb 1 m) _ c)) (eqb-true _ _ (and-right (countFits m) _ (a .0))) (rows-made m 0 m words rows (a .1))
+    go (leb-true 1 m (and-left (leb 1 m) _ c)) (leb-true m maxFlows (and-right (leb 1 m) _ c)) (eqb-true _ _ (and-right (countFits m) _ (a .0))) (rows-made rated m 0 m words rows (a .1))
   where
-    go : 1 ≤ m → m ≤ maxFlows → length words ≡ rowSize * m → Rows m 0 m words rows → Table m words rows
+    go : 1 ≤ m → m ≤ maxFlows → length words ≡ rowSize * m → Rows rated m 0 m words rows → TableBy rated m words rows
     go p q s t = record {
       some-flow = p;
       few = q;
@@ -178,16 +194,21 @@ table-made m words rows e =
       size = t .size;
       fits = t .fits;
       row-at = λ f l. subst (λ (j : ℕ). Made m j (rowWords words f) (rowAt rows f)) (omega arith) (t .row-at f l);
+      taken = t .taken;
     }
 
-pub rows-good : (m : ℕ) (words : List ℕ) (rows : List Row) → tableOf m words ≡ good rows → tableOf m words ≡ good (rowsIn (tableOf m words))
-rows-good m words rows e = rw e
+pub table-made : (m : ℕ) (words : List ℕ) (rows : List Row) → tableOf m words ≡ good rows → Table m words rows
+table-made = made-by true
+
+pub rows-good : (rated : Bool) (m : ℕ) (words : List ℕ) (rows : List Row) → tableBy rated m words ≡ good rows → tableBy rated m words ≡ good (rowsIn (tableBy rated m words))
+rows-good rated m words rows e = rw e
 
 -- a table that was examined and not refused
-pub examined : (m : ℕ) (words : List ℕ) (found : Answer) → found ≡ plainAnswer m words → found .number ≡ 0 → tableOf m words ≡ good (rowsIn (tableOf m words))
-examined m words found told z =
-    let x = answer-zero length (tableOf m words) (ap (λ (w : Answer). w .number) (sym told) ∙ z) in
-    rows-good m words (x .0) (x .1)
+pub examined : (rated : Bool) (m : ℕ) (words : List ℕ) (found : Answer) → found ≡ answer length (tableBy rated m words) → found .number ≡ 0
+    → tableBy rated m words ≡ good (rowsIn (tableBy rated m words))
+examined rated m words found told z =
+    let x = answer-zero length (tableBy rated m words) (ap (λ (w : Answer). w .number) (sym told) ∙ z) in
+    rows-good rated m words (x .0) (x .1)
 
 -- four words that are read one by one
 pub four-read : (l : List ℕ) (i : ℕ) → _≡_ {A = Words} (record { kind = getD l i 0; one = getD l (i + 1) 0; two = getD l (i + 2) 0; three = getD l (i + 3) 0 }) (four (drop i l))

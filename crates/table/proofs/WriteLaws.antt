@@ -1,6 +1,6 @@
 -- Writing the packed form: a row, the rows from one on, and the whole. Assumes nothing.
 use mathlib.Core.Path.{_≡_, refl, sym, ap, ap₂, _∙_, subst}
-use mathlib.Core.Bool.{Bool, _&&_}
+use mathlib.Core.Bool.{Bool, false, _&&_}
 use mathlib.Core.List.{List, [], _∷_, _++_, append-assoc, append-nil}
 use Prim.Native.Nat.{ℕ, suc, _+_, _-_, _*_, _%_, _^_, _<_, _≤_}
 use native.Mathlib.Nat.{sub-zero, lt-of-lt-of-le}
@@ -13,14 +13,14 @@ use borrow.Author.Tests.{le-leb, lt-leb}
 use Rattle.table.specs.declared.Answer.{Answer}
 use Rattle.table.specs.Answers.{Result, good, refused, then, answer, success, numbered, badCount, refusal, noRoom}
 use Rattle.table.specs.Rows.{Field, Row, width, Words, rowOf, rowSize, kindAt, kindCount}
-use Rattle.table.specs.Plain.{split, rowsFrom, countFits, tableOf, rowWords}
+use Rattle.table.specs.Plain.{split, rowsFrom, countFits, tableBy, draftOf, rowWords}
 use Rattle.table.specs.Bits.{toBits, byteCount, bytes}
 use Rattle.table.specs.Packed.{countWidth, kindWidth, rowBits, rowsBits, packed, writing, writeAnswer, bytesAfter}
 use Rattle.table.specs.Lengths.{rowLength}
 use Rattle.table.specs.Private.Codes.{code, widths, verdict, Ready}
 use Rattle.table.specs.Private.Laid.{Begun, Put}
 use Rattle.table.proofs.Tests.{unless-good}
-use Rattle.table.proofs.Tables.{table-made}
+use Rattle.table.proofs.Tables.{made-by}
 use Rattle.table.proofs.BitLaws.{length-toBits}
 use Rattle.table.proofs.Entries.{width-at, code-lt, kind-there}
 use Rattle.table.proofs.Lengths.{row-size}
@@ -68,23 +68,23 @@ number-row w h d = (d .below, d .is ∙ rw (kind-there (w .kind) h) (simp append
 -- ---- the rows from one on
 
 -- the rows after one that is accepted are accepted
-row-went : (m f : ℕ) (w : Words) (ws : List Words) → answer (λ rs. m) (rowsFrom m f (w ∷ ws)) ≡ success m → verdict (rowOf m f w) ≡ 0
+row-went : (m f : ℕ) (w : Words) (ws : List Words) → answer (λ rs. m) (rowsFrom false m f (w ∷ ws)) ≡ success m → verdict (rowOf m f w) ≡ 0
 unfolding rowsFrom
 row-went m f w ws e = go (rowOf m f w) (row-outcome m f w) e
   where
-    go : (r : Result Row) → Outcome f r → answer (λ rs. m) (then r λ x. then (rowsFrom m (suc f) ws) λ rs. good (x ∷ rs)) ≡ success m → verdict r ≡ 0
+    go : (r : Result Row) → Outcome f r → answer (λ rs. m) (then r λ x. then (rowsFrom false m (suc f) ws) λ rs. good (x ∷ rs)) ≡ success m → verdict r ≡ 0
     go r (fine x) e = refl
     go r (stopped why) e = ap (λ (a : Answer). a .number) e
 
 -- the rows from row on are still to be put, behind those that are put behind the count
 pub record Putting (m row at size : ℕ) (words out old : List ℕ) : Type 0 where
-  pub accepted : answer (λ rs. m) (rowsFrom m row (split (m - row) (drop (rowSize * row) words))) ≡ success m
+  pub accepted : answer (λ rs. m) (rowsFrom false m row (split (m - row) (drop (rowSize * row) words))) ≡ success m
   pub done : List Bool
   pub place : at ≡ countWidth + length done
   pub put : Put size countWidth done old out
   pub left : done ++ rowsBits (split (m - row) (drop (rowSize * row) words)) ≡ rowsBits (split m words)
 
-pub putting-starts : (m at size : ℕ) (words old : List ℕ) → answer (λ rs. m) (rowsFrom m 0 (split m words)) ≡ success m
+pub putting-starts : (m at size : ℕ) (words old : List ℕ) → answer (λ rs. m) (rowsFrom false m 0 (split m words)) ≡ success m
     → at ≡ countWidth → Putting m 0 at size words old old
 putting-starts m at size words old a e =
     record { accepted = rw sub-zero a; done = []; place = e; put = put-none size countWidth old; left = rw sub-zero }
@@ -101,13 +101,13 @@ module _ {m row at size : ℕ} {words out old : List ℕ} (pt : Putting m row at
     fine-row = rw is (row-went m row (rowWords words row) _ (rw (split-next m row words below) at (pt .accepted)))
 
     pub known-row : w .kind < kindCount
-    known-row = kind-lt m row w fine-row
+    known-row = kind-lt false m row w fine-row
 
     pub room-row : size ≡ byteCount (countWidth + length (rowsBits (split m words))) → at + rowLength (w .kind) ≤ 8 * size
     room-row fits =
         let rest = rowsBits (split (m - row) (drop (rowSize * row) words)) in
         let all : length (pt .done) + length rest ≡ length (rowsBits (split m words)) = sym (length-append (pt .done) rest) ∙ ap length (pt .left) in
-        omega (arith, fits, all, pt .place, size-next m row words w is below fine-row)
+        omega (arith, fits, all, pt .place, size-next false m row words w is below fine-row)
 
     pub putting-goes : (q n : ℕ) (new : List ℕ) → q ≡ at + rowLength (w .kind) → toBits (rowLength (w .kind)) n ≡ rowBits w
         → Put size at (toBits (rowLength (w .kind)) n) out new → Putting m (row + 1) q size words new old
@@ -116,7 +116,7 @@ module _ {m row at size : ℕ} {words out old : List ℕ} (pt : Putting m row at
         let rest = split (m - (row + 1)) (drop (rowSize * (row + 1)) words) in
         let next : w ∷ rest ≡ split (m - row) (drop (rowSize * row) words) = rw (add-one row, is) (sym (split-next m row words below)) in
         record {
-          accepted = survey-next m row words w is below fine-row ∙ pt .accepted;
+          accepted = survey-next false m row words w is below fine-row ∙ pt .accepted;
           done = pt .done ++ rowBits w;
           place = omega (arith, eq, pt .place, length-append (pt .done) (rowBits w), row-size w known-row);
           put =
@@ -141,26 +141,26 @@ packed-length : (m : ℕ) (words : List ℕ) → length (packed (split m words))
 packed-length m words =
     ap length (packed-split m words) ∙ length-bytes (byteCount (length (tableBits m words))) (tableBits m words) ∙ ap byteCount (table-length m words)
 
--- an accepted table has rows
-table-good : (m : ℕ) (words : List ℕ) → answer (λ rs. m) (tableOf m words) ≡ success m → (rows : List Row) × (tableOf m words ≡ good rows)
-table-good m words e = go (tableOf m words) refl e
+-- an accepted draft has rows
+table-good : (m : ℕ) (words : List ℕ) → answer (λ rs. m) (draftOf m words) ≡ success m → (rows : List Row) × (draftOf m words ≡ good rows)
+table-good m words e = go (draftOf m words) refl e
   where
-    go : (r : Result (List Row)) → tableOf m words ≡ r → answer (λ rs. m) r ≡ success m → (rows : List Row) × (tableOf m words ≡ good rows)
+    go : (r : Result (List Row)) → draftOf m words ≡ r → answer (λ rs. m) r ≡ success m → (rows : List Row) × (draftOf m words ≡ good rows)
     go (good rows) u e = (rows, u)
     go (refused why f) u e = absurd (no-zero why (ap (λ (a : Answer). a .number) e))
 
 -- a refusal leaves the bytes
-pub write-refused : (m n f : ℕ) (words old : List ℕ) → answer (λ rs. m) (tableOf m words) ≡ numbered n f
+pub write-refused : (m n f : ℕ) (words old : List ℕ) → answer (λ rs. m) (draftOf m words) ≡ numbered n f
     → (numbered n f ≡ writeAnswer m words (length old)) × (old ≡ bytesAfter m words old)
 unfolding writing
-write-refused m n f words old e = go (tableOf m words) refl e
+write-refused m n f words old e = go (draftOf m words) refl e
   where
-    go : (r : Result (List Row)) → tableOf m words ≡ r → answer (λ rs. m) r ≡ numbered n f
+    go : (r : Result (List Row)) → draftOf m words ≡ r → answer (λ rs. m) r ≡ numbered n f
         → (numbered n f ≡ writeAnswer m words (length old)) × (old ≡ bytesAfter m words old)
-    go (good rows) u e = let z : m ≡ 0 = ap (λ (a : Answer). a .count) e in absurd (omega (arith, z, table-made m words rows u .some-flow))
+    go (good rows) u e = let z : m ≡ 0 = ap (λ (a : Answer). a .count) e in absurd (omega (arith, z, made-by false m words rows u .some-flow))
     go (refused why g) u e = rw u (sym e, refl)
 
-module _ (m size : ℕ) (words old : List ℕ) (ok : answer (λ rs. m) (tableOf m words) ≡ success m) (is : size ≡ byteCount (countWidth + length (rowsBits (split m words)))) where
+module _ (m size : ℕ) (words old : List ℕ) (ok : answer (λ rs. m) (draftOf m words) ≡ success m) (is : size ≡ byteCount (countWidth + length (rowsBits (split m words)))) where
   bytes-size : length (packed (split m words)) ≡ size
   bytes-size = packed-length m words ∙ sym is
 
@@ -182,10 +182,10 @@ module _ (m size : ℕ) (words old : List ℕ) (ok : answer (λ rs. m) (tableOf 
       ∙ ap₂ (λ (a : List ℕ) (k : ℕ). a ++ drop k old) (sym (packed-split m words)) (sym (bytes-size ∙ n)) in
       rw (table-good m words ok .1, le-leb (length (packed (split m words))) (length old) (omega (arith, bytes-size))) (ap success (sym bytes-size), t)
 
-pub ready : (m : ℕ) (words : List ℕ) → answer (λ rs. m) (tableOf m words) ≡ success m → Ready m words
-unfolding tableOf
+pub ready : (m : ℕ) (words : List ℕ) → answer (λ rs. m) (draftOf m words) ≡ success m → Ready m words
+unfolding tableBy
 ready m words ok =
     let t = table-good m words ok in
-    let d = table-made m words (t .0) (t .1) in
-    let r = unless-good (countFits m && eqb (length words) (rowSize * m)) badCount 0 (rowsFrom m 0 (split m words)) (t .0) (t .1) in
+    let d = made-by false m words (t .0) (t .1) in
+    let r = unless-good (countFits m && eqb (length words) (rowSize * m)) badCount 0 (rowsFrom false m 0 (split m words)) (t .0) (t .1) in
     record { few = d .few; words-size = d .words-size; accepted = rw (r .1) }

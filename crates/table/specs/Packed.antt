@@ -8,7 +8,7 @@ use lib.Dec.{leb, ltb, eqb}
 use Rattle.table.specs.declared.Answer.{Answer}
 use Rattle.table.specs.Answers.{Result, good, unless, then, answer, leaves, noRoom, badCount, cutShort, badFilling}
 use Rattle.table.specs.Rows.{Kind, Words, rowSize, kinds, kindOf, fieldsOf, width}
-use Rattle.table.specs.Plain.{split, joined, countFits, tableOf}
+use Rattle.table.specs.Plain.{split, joined, countFits, draftOf}
 use Rattle.table.specs.Bits.{toBits, fromBits, bits, bytes}
 
 abbrev pub countWidth : ℕ
@@ -61,7 +61,7 @@ unpacked packed =
     then (takeField 0 countWidth (bits packed)) λ m.
     unless (countFits (m .field)) badCount 0 (takeRows (m .field) (m .field) 0 (m .rest))
 
--- a packed row; a kind above 15 has no fields
+-- a packed row; a number that is no kind has no fields
 abbrev pub fieldBits : Option Kind → Words → List Bool
 fieldBits none w = []
 fieldBits (some k) w = toBits (width (k .one)) (w .one) ++ (toBits (width (k .two)) (w .two) ++ toBits (width (k .three)) (w .three))
@@ -83,7 +83,7 @@ reading bs room = then (unpacked bs) λ ws. unless (leb (rowSize * length ws) ro
 
 unfoldable pub writing : ℕ → List ℕ → ℕ → Result (List ℕ)
 writing m words room =
-    then (tableOf m words) λ rows.
+    then (draftOf m words) λ rows.
     unless (leb (length (packed (split m words))) room) noRoom 0 (good (packed (split m words)))
 
 -- What both answer, and leave in the lent buffer.

@@ -1,10 +1,10 @@
 -- The rows of a table: a line a kind, and a field's range, width and place.
 use Prim.Native.Nat.{ℕ, suc, _-_}
-use mathlib.Core.Bool.{Bool, true, false, cond, _&&_}
+use mathlib.Core.Bool.{Bool, true, false, cond, not, _&&_}
 use mathlib.Core.List.{List, [], _∷_}
 use mathlib.Core.Option.{Option, none, some}
 use lib.ListN.{getD, getElem?}
-use lib.Dec.{leb, ltb}
+use lib.Dec.{leb, ltb, eqb}
 use Rattle.table.specs.Answers.{Result, good, refused, unless, then, unknownKind, outOfRange, misplaced}
 
 -- The limits of what a table has written in it.
@@ -26,7 +26,8 @@ pub data Op : Type 0 where
 
 -- The row of a flow. Flow is the paper's word for a dataflow signal, row for its equation. The paper's operators in the terms of
 -- synchronous languages: register is fby (a unit delay), clocked by its beat; faster is up-sampling (*^), slower down-sampling (/^),
--- later a phase offset (~>), head concatenation (::). When and when-not are one row, told apart by the truth that they sample.
+-- later a phase offset (~>), head concatenation (::). When and when-not are one row, told apart by the truth that they sample. An unrated row is
+-- an input whose period and phase are not written.
 pub data Row : Type 0 where
   input : (period phase : ℕ) → Row
   constant : (value period phase : ℕ) → Row
@@ -39,6 +40,7 @@ pub data Row : Type 0 where
   tail : (a : ℕ) → Row
   sample : (truth : Bool) (a c : ℕ) → Row
   merge : (c a b : ℕ) → Row
+  unrated : Row
 
 -- What a field holds: a lower flow, any flow of the table, a k, a period or gap, a phase or d or s, a value, or nothing.
 pub data Field : Type 0 where
@@ -95,7 +97,7 @@ pub record Kind : Type 0 where
 abbrev pub kind : Field → Field → Field → (ℕ → ℕ → ℕ → Row) → Kind
 kind a b c make = record { one = a; two = b; three = c; make = make }
 
--- kinds 0 to 15
+-- kinds 0 to 16
 unfoldable pub kinds : List Kind
 kinds =
     kind period ticks unused (λ n p z. input n p)
@@ -114,11 +116,15 @@ kinds =
     ∷ kind operand operand unused (λ a c z. sample true a c)
     ∷ kind operand operand unused (λ a c z. sample false a c)
     ∷ kind operand operand operand (λ c a b. merge c a b)
+    ∷ kind unused unused unused (λ x y z. unrated)
     ∷ []
 
--- how many there are
+-- how many there are, and the kind of an unrated row
 abbrev pub kindCount : ℕ
-kindCount = 16
+kindCount = 17
+
+abbrev pub unratedKind : ℕ
+unratedKind = 16
 
 -- the kind with a number, and the row that it makes of three fields; a number from kindCount on is no kind
 abbrev pub noKind : Kind
@@ -162,6 +168,13 @@ fieldsOf m f k w =
 unfoldable pub rowOf : ℕ → ℕ → Words → Result Row
 rowOf m f w = then (kindOf f (w .kind)) λ k. fieldsOf m f k w
 
+-- The same where the rates are asked for: the kind of an unrated row is then not known.
+abbrev pub takes : Bool → ℕ → Bool
+takes rated k = not (rated && eqb k unratedKind)
+
+abbrev pub rowBy : Bool → ℕ → ℕ → Words → Result Row
+rowBy rated m f w = unless (takes rated (w .kind)) unknownKind f (rowOf m f w)
+
 -- A test of a register's beat and source, which every other row passes.
 abbrev pub onRegister : (ℕ → ℕ → Bool) → Row → Bool
 onRegister test (input n p) = true
@@ -175,6 +188,7 @@ onRegister test (head a v s) = true
 onRegister test (tail a) = true
 onRegister test (sample u a c) = true
 onRegister test (merge c a b) = true
+onRegister test unrated = true
 
 -- the lowest register, from flow f on, that does not pass it
 unfoldable pub badRegister : (ℕ → ℕ → Bool) → ℕ → List Row → Option ℕ

@@ -5,7 +5,7 @@ use Prim.Native.Nat.{ℕ, _≤_, _<_}
 use mathlib.Core.Bool.{true}
 use mathlib.Core.List.{List}
 use lib.ListN.{getD}
-use Rattle.table.specs.Rows.{Row, input, constant, combine, register, faster, slower, later, head, tail, sample, merge, Kind}
+use Rattle.table.specs.Rows.{Row, input, constant, combine, register, faster, slower, later, head, tail, sample, merge, unrated, Kind}
 use Rattle.table.specs.Rows.{Field, operand, source, copies, period, ticks, value, unused, maxField, maxCopies}
 use Rattle.table.specs.Links.{isFlow}
 
@@ -44,6 +44,7 @@ RowHas P (head a v s) = P operand a × P ticks s
 RowHas P (tail a) = P operand a × Unit {0}
 RowHas P (sample u a c) = P operand a × P operand c
 RowHas P (merge c a b) = P operand c × P operand a × P operand b
+RowHas P unrated = Unit {0}
 
 abbrev pub FieldsFit : ℕ → ℕ → Kind → ℕ → ℕ → ℕ → Type 0
 FieldsFit m f k x y z = WordsHave (Holds m f) k x y z
@@ -51,6 +52,9 @@ FieldsFit m f k x y z = WordsHave (Holds m f) k x y z
 abbrev pub Fits : ℕ → ℕ → Row → Type 0
 Fits m f r = RowHas (Holds m f) r
 
--- the fields of row f hold what they may, and the flows that they name have a property
+-- the flows that fields name have a property; and the fields of row f hold what they may
+abbrev pub Named : (ℕ → Type 0) → Field → ℕ → Type 0
+Named Q t x = isFlow t ≡ true → Q x
+
 abbrev pub Linked : (ℕ → Type 0) → ℕ → ℕ → Field → ℕ → Type 0
-Linked Q m f t x = Holds m f t x × (isFlow t ≡ true → Q x)
+Linked Q m f t x = Holds m f t x × Named Q t x

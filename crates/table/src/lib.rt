@@ -2,7 +2,7 @@
 ghost use mathlib.Core.Path.{_≡_};
 ghost use lib.ListN.{getD, length};
 ghost use Rattle.table.specs.Answers.{numbered, parts, success};
-ghost use Rattle.table.specs.Plain.{rowWords, wordsOf, plainAnswer, putRow, copied};
+ghost use Rattle.table.specs.Plain.{rowWords, wordsOf, plainAnswer, draftAnswer, putRow, copied};
 ghost use Rattle.table.specs.Links.{flowFields};
 ghost use Rattle.table.specs.Private.Codes.{told};
 ghost use Rattle.table.specs.Packed.{readAnswer, wordsAfter, writeAnswer, bytesAfter};
@@ -104,8 +104,10 @@ pub enum Scan {
     Stopped(u32, u32),
 }
 
-// How many kinds of rows there are, how many words a row has, and how many flows a table has at most.
-pub const KINDS: u32 = 16;
+// How many kinds of rows there are, the kind of an input with no rate written, how many words a row has, and how many flows a table has at most.
+pub const KINDS: u32 = 17;
+
+pub const UNRATED: u32 = 16;
 
 pub const ROW_SIZE: usize = 4;
 
@@ -150,6 +152,8 @@ pub const WRONG_TIMES: u32 = 36;
 pub const SHORT_PAGE: u32 = 37;
 
 pub const NOT_DIFFERING: u32 = 38;
+
+pub const UNJOINED: u32 = 39;
 
 // The bytes of the longest packed table.
 pub const LONGEST_TABLE: usize = (Cursor::LAST + 7) / 8;
@@ -242,7 +246,14 @@ fn told(count: u32, found: Survey) -> Answer
 pub fn examine(count: u32, words: &[u32]) -> Answer
     ensures { λ r. ⌜ r ≡ plainAnswer count (now (words .entry)) ⌝ }
 {
-    told(count, plain::survey(count, words))
+    told(count, plain::survey(true, count, words))
+}
+
+// The same of a draft, whose inputs may be unrated.
+pub fn examine_draft(count: u32, words: &[u32]) -> Answer
+    ensures { λ r. ⌜ r ≡ draftAnswer count (now (words .entry)) ⌝ }
+{
+    told(count, plain::survey(false, count, words))
 }
 
 // Reads a packed table into plain form: the count of flows, and four words a flow from the first word on.
@@ -281,7 +292,7 @@ pub fn write(count: u32, words: &[u32], packed: &mut [u8]) -> Answer
     ensures answered { λ r. ⌜ r ≡ writeAnswer count (now (words .entry)) (length (now (packed .entry))) ⌝ }
     ensures stored { λ r. ⌜ now (packed .exit) ≡ bytesAfter count (now (words .entry)) (now (packed .entry)) ⌝ }
 {
-    let found = plain::survey(count, words);
+    let found = plain::survey(false, count, words);
     let Survey::Fits(bytes) = found else {
         return told(count, found);
     };

@@ -5,14 +5,16 @@ use super::MISPLACED;
 use super::OUT_OF_RANGE;
 use super::Record;
 use super::UNKNOWN_KIND;
+use super::UNRATED;
 ghost use mathlib.Core.Path.{_≡_};
-ghost use Prim.Native.Nat.{_<_};
+ghost use mathlib.Core.Bool.{true};
+ghost use Prim.Native.Nat.{_<_, _≤_};
 ghost use lib.ListN.{getD, length};
 ghost use Rattle.table.specs.Rows.{unused, each, kindAt, kindCount};
 ghost use Rattle.table.specs.Plain.{wordsOf};
 ghost use Rattle.table.specs.Links.{isFlow};
 ghost use Rattle.table.specs.Lengths.{rowLength, recordLengths};
-ghost use Rattle.table.specs.Private.Codes.{code, fieldList, kindFields, leasts, bounded, Within, Accepted, Fault};
+ghost use Rattle.table.specs.Private.Codes.{code, fieldList, kindFields, leasts, bounded, sureKinds, Within, Known, Accepted, Fault};
 
 const OPERAND: u32 = 0;
 
@@ -56,6 +58,7 @@ pub(crate) const LENGTH: [u32; KINDS as usize] = [
     17, // when
     17, // when-not
     23, // merge
+    5, // unrated input
 ];
 
 // By kind: its three fields as digits to base 8, the first one lowest.
@@ -76,6 +79,7 @@ pub(crate) const FIELDS: [u32; KINDS as usize] = [
     OPERAND + 8 * OPERAND + 64 * UNUSED, // when
     OPERAND + 8 * OPERAND + 64 * UNUSED, // when-not
     OPERAND + 8 * OPERAND + 64 * OPERAND, // merge
+    UNUSED + 8 * UNUSED + 64 * UNUSED, // unrated input
 ];
 
 // The bits of a row of a known kind in packed form.
@@ -126,22 +130,43 @@ fn all_within(r: Record, fields: &[u32], least: &[u32], bound: &[u64]) -> bool
     false
 }
 
-// Whether a row is accepted, by the bounds of the row and the count.
-pub(crate) fn accepts(r: Record, fields: &[u32], least: &[u32], bound: &[u64]) -> bool
-    requires { ⌜ (now fields ≡ kindFields) × (now least ≡ leasts) × (length (now bound) ≡ 7) ⌝ }
-    ensures { λ t. ⌜ Accepted (now (bound .entry)) (wordsOf r) t ⌝ }
+// The kinds below this one are known: where the rates are asked for, that of an unrated input is not.
+pub(crate) fn sure_kinds(rated: bool) -> u32
+    ensures { λ n. ⌜ n ≡ sureKinds rated ⌝ }
 {
-    if KINDS <= r.kind {
+    if rated { UNRATED } else { KINDS }
+}
+
+// Whether a kind is known, by the kinds that are: it is below those, or comes after that of an unrated input.
+fn known(sure: u32, kind: u32) -> bool
+    requires { ⌜ sure ≤ kindCount ⌝ }
+    ensures { λ t. ⌜ Known sure kind t × (t ≡ true → kind < kindCount) ⌝ }
+{
+    if kind < sure {
+        return true;
+    }
+    if kind <= UNRATED {
+        return false;
+    }
+    kind < KINDS
+}
+
+// Whether a row is accepted, by the bounds of the row and the count.
+pub(crate) fn accepts(sure: u32, r: Record, fields: &[u32], least: &[u32], bound: &[u64]) -> bool
+    requires { ⌜ (sure ≤ kindCount) × (now fields ≡ kindFields) × (now least ≡ leasts) × (length (now bound) ≡ 7) ⌝ }
+    ensures { λ t. ⌜ Accepted sure (now (bound .entry)) (wordsOf r) t ⌝ }
+{
+    if !known(sure, r.kind) {
         return false;
     }
     all_within(r, fields, least, bound)
 }
 
 // Why a row that is not accepted is refused.
-pub(crate) fn why(r: Record) -> u32
-    ensures { λ n. ⌜ Fault (wordsOf r) n ⌝ }
+pub(crate) fn why(rated: bool, r: Record) -> u32
+    ensures { λ n. ⌜ Fault rated (wordsOf r) n ⌝ }
 {
-    if KINDS <= r.kind {
+    if !known(sure_kinds(rated), r.kind) {
         return UNKNOWN_KIND;
     }
     if all_within(r, &FIELDS, &LEAST, &BOUND) {

@@ -120,8 +120,8 @@ fn scan_rows(s: &[u8], count: u32, words: &mut [u32]) -> Scan
         let step = cursor.row(s, &fields, &most, &width, &lengths);
         match step {
             Step::Row(r, next) => {
-                if !accepts(r, &fields, &least, &bound) {
-                    return Scan::Stopped(why(r), row);
+                if !accepts(KINDS, r, &fields, &least, &bound) {
+                    return Scan::Stopped(why(false, r), row);
                 }
                 store_row(words, row, r);
                 cursor = next;

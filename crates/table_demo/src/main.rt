@@ -90,7 +90,7 @@ fn paper() {
     write(2, &[0, 10, 0, 0, 9, 0, 2, 0], &mut short);
 }
 
-// Packed tables that are refused: the count, bits that end too early, the kind, ranges.
+// Packed tables that are refused: the count, bits that end too early, the kind (16 is read, 17 is not), ranges.
 fn read_refused() {
     read_ten(&[]);
     read_ten(&[0, 0]);
@@ -99,7 +99,9 @@ fn read_refused() {
     read_ten(&[2, 0, 5, 0]);
     read_ten(&[2, 0, 5, 0, 0]);
     read_ten(&[1, 128]);
+    read_ten(&[1, 136]);
     read_ten(&[2, 0, 5, 0, 4, 0]);
+    read_ten(&[2, 0, 5, 0, 4, 64]);
     read_ten(&[1, 0, 0, 0, 0]);
     read_ten(&[2, 0, 5, 0, 2, 64, 0]);
 }
@@ -115,12 +117,14 @@ fn read_misplaced() {
     read_ten(&[2, 0, 5, 0, 2, 64, 8, 0]);
 }
 
-// Tables in plain form that are refused.
+// Tables in plain form that are refused, a draft that is written among them.
 fn write_refused() {
     write_nine(0, &[]);
     write_nine(65, &[0, 10, 0, 0]);
     write_nine(2, &[0, 10, 0, 0, 9, 0, 2]);
+    write_nine(1, &[16, 0, 0, 0]);
     write_nine(1, &[16, 10, 0, 0]);
+    write_nine(1, &[17, 0, 0, 0]);
     write_nine(1, &[0, 0, 0, 0]);
     write_nine(1, &[0, 10, 4096, 0]);
     write_nine(1, &[0, 10, 0, 1]);
@@ -214,10 +218,14 @@ fn all_kinds() {
         14,
         13,
         0,
+        16,
+        0,
+        0,
+        0,
     ];
     let mut packed = [7u8; table::LONGEST_TABLE];
-    let mut back = [7u32; 66];
-    there_and_back(16, &rows, &mut packed, &mut back);
+    let mut back = [7u32; 70];
+    there_and_back(17, &rows, &mut packed, &mut back);
 }
 
 fn main() {

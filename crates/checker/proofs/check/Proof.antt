@@ -52,7 +52,7 @@ returns-2 c =
     let old = now (a .clocks) in
     let x = after-examine .examine in
     let z = answer-zero length (tableOf (a .count) ws) (ap (λ w. w .number) (sym (x .ensures)) ∙ else1 .if1 .left) in
-    let g : tableOf (a .count) ws ≡ good (rowsIn (tableOf (a .count) ws)) = rows-good (a .count) ws (z .0) (z .1) in
+    let g : tableOf (a .count) ws ≡ good (rowsIn (tableOf (a .count) ws)) = rows-good true (a .count) ws (z .0) (z .1) in
     let t = table-made (a .count) ws (rowsIn (tableOf (a .count) ws)) g in
     let e = refused-leaves length clocksWords (checking (a .count) ws (length old)) old noRoom 0 (check-room (a .count) ws (length old) (z .0) (z .1) (then2 .if2 .taken)) in
     (c .refusal .ensures ∙ e .0, e .1)
@@ -70,7 +70,7 @@ judge-requires c κs =
     let old = now (a .clocks) in
     let x = after-examine .examine in
     let z = answer-zero length (tableOf (a .count) ws) (ap (λ w. w .number) (sym (x .ensures)) ∙ else1 .if1 .left) in
-    let g : tableOf (a .count) ws ≡ good (rowsIn (tableOf (a .count) ws)) = rows-good (a .count) ws (z .0) (z .1) in
+    let g : tableOf (a .count) ws ≡ good (rowsIn (tableOf (a .count) ws)) = rows-good true (a .count) ws (z .0) (z .1) in
     let t = table-made (a .count) ws (rowsIn (tableOf (a .count) ws)) g in
     (t .few, omega (arith, t .few), g)
 
@@ -86,7 +86,7 @@ returns-3 c =
     let old = now (a .clocks) in
     let x = after-examine .examine in
     let z = answer-zero length (tableOf (a .count) ws) (ap (λ w. w .number) (sym (x .ensures)) ∙ else1 .if1 .left) in
-    let g : tableOf (a .count) ws ≡ good (rowsIn (tableOf (a .count) ws)) = rows-good (a .count) ws (z .0) (z .1) in
+    let g : tableOf (a .count) ws ≡ good (rowsIn (tableOf (a .count) ws)) = rows-good true (a .count) ws (z .0) (z .1) in
     let t = table-made (a .count) ws (rowsIn (tableOf (a .count) ws)) g in
     let j = after-judge .judge in
     let rows : List Row = rowsIn (tableOf (a .count) ws) in
@@ -117,7 +117,7 @@ returns-4 c =
     let old = now (a .clocks) in
     let x = after-examine .examine in
     let z = answer-zero length (tableOf (a .count) ws) (ap (λ w. w .number) (sym (x .ensures)) ∙ else1 .if1 .left) in
-    let g : tableOf (a .count) ws ≡ good (rowsIn (tableOf (a .count) ws)) = rows-good (a .count) ws (z .0) (z .1) in
+    let g : tableOf (a .count) ws ≡ good (rowsIn (tableOf (a .count) ws)) = rows-good true (a .count) ws (z .0) (z .1) in
     let t = table-made (a .count) ws (rowsIn (tableOf (a .count) ws)) g in
     let j = after-judge .judge in
     let rows : List Row = rowsIn (tableOf (a .count) ws) in

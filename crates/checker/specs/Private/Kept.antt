@@ -130,6 +130,7 @@ ruleOf h (rows.head a v s) = head (h a) s
 ruleOf h (rows.tail a) = tail (h a)
 ruleOf h (rows.sample u a c) = sampled (h a) (h c) (condition c u)
 ruleOf h (rows.merge c a b) = merged c (h c) (h a) (h b)
+ruleOf h rows.unrated = Refused (number unknownKind)
 
 -- the same by its kind and fields; a number that is no kind is refused
 unfoldable pub rule : (ℕ → Kept) → ℕ → ℕ → ℕ → ℕ → Verdict

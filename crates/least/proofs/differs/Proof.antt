@@ -1,19 +1,17 @@
 -- `least::differs` meets its contract. Assumes nothing.
 use mathlib.Core.Path.{ap}
+use Prim.Native.Nat.{ℕ}
 use lib.Dec.{eqb}
-use Rattle.table.specs.declared.Answer.{Answer}
+use Rattle.table.specs.Answers.{number, clocksDiffer}
 use borrow.Author.Needs.{needs}
 use Rattle.least.proofs.differs.Statement.{statement}
 use Rattle.least.proofs.differs.Tie as tie
 
-slice-aggregate-check : tie.Need-slice-aggregate-check
-slice-aggregate-check c = search needs
-
-check-requires : tie.Need-check-requires
-check-requires c κs = search needs
+number-requires : tie.Need-number-requires
+number-requires c κs = search needs
 
 returns : tie.Need-returns
-returns c = ap (λ (a : Answer). eqb (a .number) 21) (c .before .before .check .ensures .0)
+returns c = ap (λ (n : ℕ). eqb n (number clocksDiffer)) (c .number .ensures)
 
 pub differs-spec : {M : Type 1} → statement M
-differs-spec = tie.close (tie.spec slice-aggregate-check check-requires returns)
+differs-spec = tie.close (tie.spec number-requires returns)

@@ -1,5 +1,6 @@
 -- `least::seek` meets its contract. Assumes nothing.
 use mathlib.Core.Path.{sym, _∙_}
+use mathlib.Core.Bool.{true}
 use denote.Ref.{now}
 use borrow.Author.Tests.{not-true, not-false}
 use Rattle.table.proofs.Tables.{examined}
@@ -27,7 +28,7 @@ returns-2 c =
     let after-examine = else1 .before .before in
     let a = after-examine .before .before .args in
     let ws = now (a .words) in
-    other-answer (a .count) ws (examined (a .count) ws (after-examine .examine .result) (after-examine .examine .ensures) (else1 .if1 .left))
+    other-answer (a .count) ws (examined true (a .count) ws (after-examine .examine .result) (after-examine .examine .ensures) (else1 .if1 .left))
     (sym (after-differs .differs .ensures) ∙ not-true _ (c .if2 .taken))
 
 least-set-requires : tie.Need-least-set-requires
@@ -36,7 +37,7 @@ least-set-requires c κs =
     let else1 = after-differs .before in
     let after-examine = else1 .before .before in
     let a = after-examine .before .before .args in (
-      examined (a .count) (now (a .words)) (after-examine .examine .result) (after-examine .examine .ensures) (else1 .if1 .left),
+      examined true (a .count) (now (a .words)) (after-examine .examine .result) (after-examine .examine .ensures) (else1 .if1 .left),
       sym (after-differs .differs .ensures) ∙ not-false _ (c .if2 .left),
     )
 
@@ -48,7 +49,7 @@ returns-3 c =
     let after-examine = else1 .before .before in
     let a = after-examine .before .before .args in
     let ws = now (a .words) in
-    set-found (a .count) ws (examined (a .count) ws (after-examine .examine .result) (after-examine .examine .ensures) (else1 .if1 .left))
+    set-found (a .count) ws (examined true (a .count) ws (after-examine .examine .result) (after-examine .examine .ensures) (else1 .if1 .left))
     (sym (after-differs .differs .ensures) ∙ not-false _ (else2 .if2 .left)) (c .least-set .result) (c .least-set .ensures)
 
 pub seek-spec : {M : Type 1} → statement M

@@ -6,7 +6,7 @@ use mathlib.Core.Bool.{cond}
 use mathlib.Core.List.{List}
 use lib.ListN.{getD}
 use lib.Dec.{eqb, ltb, leb}
-use Rattle.table.specs.Rows.{Row, Op, input, constant, combine, register, faster, slower, later, head, tail, sample, merge}
+use Rattle.table.specs.Rows.{Row, Op, input, constant, combine, register, faster, slower, later, head, tail, sample, merge, unrated}
 use Rattle.table.specs.Rows.{maxFlows, decode}
 use Rattle.runner.specs.declared.operators.Outcome.{Outcome}
 use Rattle.semantics.specs.Cells.{Cell, absent, present, value}
@@ -132,6 +132,7 @@ stepOf (head a v s) t log at here h = headStep t (here a) v s h
 stepOf (tail a) t log at here h = tailStep (here a) h
 stepOf (sample u a c) t log at here h = sampled u (here a) (here c)
 stepOf (merge c a b) t log at here h = merged (here c) (here a) (here b)
+stepOf unrated t log at here h = clashes
 
 -- and what it then carries
 unfoldable pub nextOf : Row → ℕ → (ℕ → Cell) → Held → Held
@@ -146,6 +147,7 @@ nextOf (head a v s) t here h = headNext t (here a) s h
 nextOf (tail a) t here h = tailNext (here a) h
 nextOf (sample u a c) t here h = h
 nextOf (merge c a b) t here h = h
+nextOf unrated t here h = h
 
 -- A row's step: its outcome, the words that it carries from place i on, and no other word changed.
 pub record Did (step : Step) (next : Held) (i : ℕ) (s s′ : List ℕ) (r : Outcome) : Type 0 where
@@ -167,6 +169,7 @@ startWord (head a v s) = 0
 startWord (tail a) = 0
 startWord (sample u a c) = 0
 startWord (merge c a b) = 0
+startWord unrated = 0
 
 -- and all of them, where j inputs stand before it
 abbrev pub startOf : Row → ℕ → Held → Held

@@ -8,7 +8,7 @@ use mathlib.Core.Option.{Option, none, some}
 use lib.ListN.{length, getD, take}
 use lib.Dec.{eqb}
 use Rattle.table.specs.Answers.{good, over}
-use Rattle.table.specs.Rows.{Row, input, constant, combine, register, faster, slower, later, head, tail, sample, merge, rowSize, onRegister}
+use Rattle.table.specs.Rows.{Row, input, constant, combine, register, faster, slower, later, head, tail, sample, merge, unrated, rowSize, onRegister}
 use Rattle.table.specs.Plain.{tableOf, rowsIn as accepted}
 use Rattle.table.specs.Tables.{rowAt}
 use Rattle.checker.specs.Clocks.{Clock}
@@ -76,6 +76,7 @@ Carries rows f (head a v s) t hist w = Heads s (hist a) (w .x)
 Carries rows f (tail a) t hist w = eqb (w .x) 0 ≡ eqb (count (hist a)) 0
 Carries rows f (sample u a c) t hist w = Unit {0}
 Carries rows f (merge c a b) t hist w = Unit {0}
+Carries rows f unrated t hist w = Unit {0}
 
 -- what was collected for a later row
 unfoldable pub Collected : Row → (ℕ → History) → Held → Type 0

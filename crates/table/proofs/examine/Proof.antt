@@ -1,4 +1,5 @@
 -- `table::examine` meets its contract. Assumes nothing.
+use mathlib.Core.Bool.{true}
 use mathlib.Core.Path.{sym, _∙_}
 use denote.Ref.{now}
 use Rattle.table.proofs.Records.{rows-counted}
@@ -17,7 +18,7 @@ returns c =
     let after-survey = c .before in
     let start = after-survey .before .before in
     let a = start .args in
-    c .told .ensures ∙ sym (rows-counted (a .count) (now (a .words)) ∙ after-survey .survey .ensures .0)
+    c .told .ensures ∙ sym (rows-counted true (a .count) (now (a .words)) ∙ after-survey .survey .ensures .0)
 
 pub examine-spec : {M : Type 1} → statement M
 examine-spec = tie.close (tie.spec survey-requires told-requires returns)

@@ -1,7 +1,7 @@
 -- What the code's own functions are held to: the numbers of fields and kinds in its tables, and what its steps find.
 use mathlib.Core.Path.{_≡_}
 use Prim.Native.Nat.{ℕ, _+_, _*_, _/_, _%_, _^_, _≤_}
-use mathlib.Core.Bool.{Bool, false, _&&_}
+use mathlib.Core.Bool.{Bool, false, cond, _&&_}
 use mathlib.Core.List.{List, [], _∷_}
 use lib.Dec.{leb, ltb, eqb}
 use lib.ListN.{length, getD}
@@ -9,7 +9,7 @@ use Rattle.table.specs.declared.Answer.{Answer}
 use Rattle.table.specs.declared.Survey.{Survey}
 use Rattle.table.specs.declared.Survey.the-variants.{Fits, Refused}
 use Rattle.table.specs.Answers.{Result, good, refused, number, answer, success, numbered}
-use Rattle.table.specs.Rows.{Field, operand, source, copies, period, ticks, value, unused, least, width, Kind, kindAt, Words, rowOf, rowSize, maxFlows}
+use Rattle.table.specs.Rows.{Field, operand, source, copies, period, ticks, value, unused, least, width, Kind, kindAt, kindCount, unratedKind, Words, takes, rowBy, rowSize, maxFlows}
 use Rattle.table.specs.Plain.{split, rowsFrom}
 use Rattle.table.specs.Bits.{byteCount}
 use Rattle.table.specs.Places.{lastPlace}
@@ -61,7 +61,16 @@ kindFields =
     ∷ (0 + 8 * 0 + 64 * 6)
     ∷ (0 + 8 * 0 + 64 * 6)
     ∷ (0 + 8 * 0 + 64 * 0)
+    ∷ (6 + 8 * 6 + 64 * 6)
     ∷ []
+
+-- the kinds below this one are known, where the rates are asked for or are not
+abbrev pub sureKinds : Bool → ℕ
+sureKinds rated = cond rated unratedKind kindCount
+
+-- a test tells whether a kind is known
+abbrev pub Known : ℕ → ℕ → Bool → Type 0
+Known sure kind t = (rated : Bool) → sure ≡ sureKinds rated → t ≡ (takes rated kind && ltb kind kindCount)
 
 -- a number of a field by a list of bounds
 abbrev pub bounded : List ℕ → Field → ℕ → Bool
@@ -88,12 +97,12 @@ verdict (good a) = 0
 verdict (refused why f) = number why
 
 -- a test tells, by the bounds of a row and a count, whether the row is accepted
-abbrev pub Accepted : List ℕ → Words → Bool → Type 0
-Accepted bs w t = (m f : ℕ) → m ≤ maxFlows → f ≤ maxFlows → bs ≡ bounds m f → t ≡ eqb (verdict (rowOf m f w)) 0
+abbrev pub Accepted : ℕ → List ℕ → Words → Bool → Type 0
+Accepted sure bs w t = (rated : Bool) (m f : ℕ) → sure ≡ sureKinds rated → m ≤ maxFlows → f ≤ maxFlows → bs ≡ bounds m f → t ≡ eqb (verdict (rowBy rated m f w)) 0
 
 -- the number of the refusal of a row that is not accepted
-abbrev pub Fault : Words → ℕ → Type 0
-Fault w n = (m f : ℕ) → eqb (verdict (rowOf m f w)) 0 ≡ false → n ≡ verdict (rowOf m f w)
+abbrev pub Fault : Bool → Words → ℕ → Type 0
+Fault rated w n = (m f : ℕ) → eqb (verdict (rowBy rated m f w)) 0 ≡ false → n ≡ verdict (rowBy rated m f w)
 
 -- what a survey says of a table of m flows: what the test answers, and how many bytes it takes
 abbrev pub told : ℕ → Survey → Answer
@@ -104,8 +113,8 @@ abbrev pub Sized : List Words → Survey → Type 0
 Sized ws (Fits n) = (n ≡ byteCount (countWidth + length (rowsBits ws))) × (n ≤ byteCount lastPlace)
 Sized ws (Refused k row) = Unit {0}
 
--- a table in plain form that is not refused
+-- a draft in plain form that is not refused
 pub record Ready (m : ℕ) (words : List ℕ) : Type 0 where
   pub few : m ≤ maxFlows
   pub words-size : length words ≡ rowSize * m
-  pub accepted : answer (λ rs. m) (rowsFrom m 0 (split m words)) ≡ success m
+  pub accepted : answer (λ rs. m) (rowsFrom false m 0 (split m words)) ≡ success m

@@ -5,7 +5,7 @@ use mathlib.Core.List.{List}
 use native.Mathlib.Nat.{not-le-of-lt}
 use native.Mathlib.Omega.{arith}
 use borrow.Author.Needs.{needs}
-use Rattle.table.specs.Rows.{Row, add, subtract, less, equal, larger, kinds, kindAt, decode, maxFlows}
+use Rattle.table.specs.Rows.{Row, add, subtract, less, equal, larger, kinds, kindAt, unratedKind, decode, maxFlows}
 use Rattle.table.specs.Tables.{FieldsFit}
 use Rattle.table.proofs.Entries.{no-kind}
 use Rattle.runner.specs.declared.operators.Outcome.{Outcome}
@@ -34,9 +34,10 @@ by-kind : (c : tie.Start) (n : ℕ) → c .args .kind ≡ n → {s′ : List ℕ
 by-kind c n e {s′} {o} w = subst (λ (j : ℕ). Works c (decode j (c .args .p) (c .args .q) (c .args .r)) s′ o) (sym e) w
 
 returns : tie.Need-returns
+unfolding kinds stepOf nextOf
 returns c =
     let start = c .before .before .before .before .before in
-    absurd (omega (arith, c .if1 .taken, start .pre .1))
+    by-kind start unratedKind (omega (arith, c .if1 .taken, start .pre .1)) (unchanged refl refl)
 
 mul-i : tie.Need-mul-i
 mul-i c = search needs
@@ -320,7 +321,7 @@ returns-19 c =
     let other =
     no-kind (start .args .kind) (c .if2 .left) (m .0 .0 .1) (m .0 .0 .0 .1) (m .0 .0 .0 .0 .1) (m .0 .0 .0 .0 .0 .1) (m .0 .0 .0 .0 .0 .0 .1)
     (m .0 .0 .0 .0 .0 .0 .0 .1) (m .0 .0 .0 .0 .0 .0 .0 .0 .1) (m .0 .0 .0 .0 .0 .0 .0 .0 .0 .1) (m .0 .0 .0 .0 .0 .0 .0 .0 .0 .0 .1) in
-    absurd (not-le-of-lt (start .pre .1) other)
+    absurd (not-le-of-lt (at-match-rest .before .if1 .left) other)
 
 pub outcome-spec : {M : Type 1} → statement M
 outcome-spec =

@@ -4,7 +4,7 @@ use mathlib.Core.Path.{refl, sym, _∙_}
 use lib.Dec.{leb}
 use borrow.Author.Tests.{leb-true, eq-eqb, ne-eqb, not-true, not-false}
 use Rattle.table.specs.Rows.{maxFlows}
-use Rattle.table.specs.Plain.{tableOf}
+use Rattle.table.specs.Plain.{tableBy}
 use Rattle.table.proofs.Tests.{and-right}
 use borrow.Author.Needs.{needs}
 use Rattle.table.proofs.plain.survey.Statement.{statement}
@@ -14,7 +14,7 @@ count-fits-requires : tie.Need-count-fits-requires
 count-fits-requires c κs = search needs
 
 returns : tie.Need-returns
-unfolding tableOf
+unfolding tableBy
 returns c =
     let after-count-fits = c .before in
     rw (sym (after-count-fits .count-fits .ensures) ∙ not-true (after-count-fits .count-fits .result) (c .if1 .taken)) (refl, tt)
@@ -23,7 +23,7 @@ mul-if2 : tie.Need-mul-if2
 mul-if2 c = omega arith
 
 returns-2 : tie.Need-returns-2
-unfolding tableOf
+unfolding tableBy
 returns-2 c =
     let else1 = c .before in
     let after-count-fits = else1 .before in
@@ -41,7 +41,7 @@ survey-rows-requires c κs =
     )
 
 returns-3 : tie.Need-returns-3
-unfolding tableOf
+unfolding tableBy
 returns-3 c =
     let else2 = c .before in
     let else1 = else2 .before in

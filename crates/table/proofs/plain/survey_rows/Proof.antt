@@ -10,25 +10,28 @@ use lib.ListN.{length, drop, set}
 use borrow.Author.Tests.{eqb-true, not-true, not-false}
 use borrow.Author.Needs.{needs}
 use Rattle.table.specs.Answers.{answer}
-use Rattle.table.specs.Rows.{rowOf, rowSize, kindCount}
+use Rattle.table.specs.Rows.{rowBy, rowSize, kindCount}
 use Rattle.table.specs.Plain.{split, rowsFrom, wordsOf}
 use Rattle.table.specs.Packed.{rowsBits}
 use Rattle.table.specs.Places.{longestRecord}
 use Rattle.table.specs.Private.Codes.{bounds, verdict}
-use Rattle.table.proofs.Accepting.{not-zero}
+use Rattle.table.proofs.Accepting.{not-zero, sure-le}
 use Rattle.table.proofs.Lengths.{row-le}
 use Rattle.table.proofs.Records.{kind-lt, survey-stop, survey-next, size-next, split-end}
 use Rattle.table.proofs.plain.survey_rows.Statement.{statement}
 use Rattle.table.proofs.plain.survey_rows.Tie as tie
 
 abbrev Inv-loop : tie.InvT-loop
-Inv-loop count words fields least lengths bound₀ bits₀ row₀ bound bits row =
+Inv-loop rated count words fields least lengths sure bound₀ bits₀ row₀ bound bits row =
     (row ≤ count) × (bits ≤ 8 + longestRecord * row) × (set bound 0 row ≡ bounds count row)
-    × (answer (λ rs. count) (rowsFrom count row (split (count - row) (drop (rowSize * row) words))) ≡ answer (λ rs. count) (rowsFrom count 0 (split count words)))
+    × (answer (λ rs. count) (rowsFrom rated count row (split (count - row) (drop (rowSize * row) words))) ≡ answer (λ rs. count) (rowsFrom rated count 0 (split count words)))
     × (bits + length (rowsBits (split (count - row) (drop (rowSize * row) words))) ≡ 8 + length (rowsBits (split count words)))
 
 abbrev μ-loop : tie.MeasureT-loop
-μ-loop count words fields least lengths bound₀ bits₀ row₀ bound bits row = count - row
+μ-loop rated count words fields least lengths sure bound₀ bits₀ row₀ bound bits row = count - row
+
+sure-kinds-requires : tie.Need-sure-kinds-requires Inv-loop μ-loop
+sure-kinds-requires c κs = search needs
 
 array-write-bound : tie.Need-array-write-bound Inv-loop μ-loop
 array-write-bound c = search needs
@@ -55,21 +58,24 @@ slice-aggregate-accepts-3 : tie.Need-slice-aggregate-accepts-3 Inv-loop μ-loop
 slice-aggregate-accepts-3 c = ap length (sym (c .before .before .before .before .before .loop .inv .2))
 
 accepts-requires : tie.Need-accepts-requires Inv-loop μ-loop
-accepts-requires c κs = (refl, refl, ap length (c .before .before .before .before .before .loop .inv .2))
+accepts-requires c κs =
+    let at-loop = c .before .before .before .before .before in
+    let sure = at-loop .before .sure-kinds in
+    (sure-le (at-loop .before .before .before .args .rated) (sure .result) (sure .ensures), refl, refl, ap length (at-loop .loop .inv .2))
 
 -- the test tells whether the row is accepted
 tells : (c : tie.After-accepts Inv-loop μ-loop) → (
     let after-record-at = c .before .before .before .before in
     let at-loop = after-record-at .before .before in
-    let start = at-loop .before .before in
-    c .accepts .result ≡ eqb (verdict (rowOf (start .args .count) (at-loop .loop .row) (wordsOf (after-record-at .record-at .result)))) 0)
+    let start = at-loop .before .before .before in
+    c .accepts .result ≡ eqb (verdict (rowBy (start .args .rated) (start .args .count) (at-loop .loop .row) (wordsOf (after-record-at .record-at .result)))) 0)
 tells c =
     let in-loop = c .before .before .before .before .before in
     let at-loop = in-loop .before in
-    let start = at-loop .before .before in
+    let start = at-loop .before .before .before in
     let a = start .args in
     let l = at-loop .loop in
-    c .accepts .ensures (a .count) (l .row) (start .pre .0) (omega (arith, start .pre .0, in-loop .loop-test .taken)) (l .inv .2)
+    c .accepts .ensures (a .rated) (a .count) (l .row) (at-loop .before .sure-kinds .ensures) (start .pre .0) (omega (arith, start .pre .0, in-loop .loop-test .taken)) (l .inv .2)
 
 why-requires : tie.Need-why-requires Inv-loop μ-loop
 why-requires c κs = search needs
@@ -81,11 +87,11 @@ returns c =
     let after-record-at = after-accepts .before .before .before .before in
     let in-loop = after-record-at .before in
     let at-loop = in-loop .before in
-    let start = at-loop .before .before in
+    let start = at-loop .before .before .before in
     let a = start .args in
     let l = at-loop .loop in
     let n = sym (tells after-accepts) ∙ not-true (after-accepts .accepts .result) (then1 .if1 .taken) in (
-      sym (l .inv .3) ∙ survey-stop (a .count) (l .row) (now (a .words)) (wordsOf (after-record-at .record-at .result)) (after-record-at .record-at .ensures)
+      sym (l .inv .3) ∙ survey-stop (a .rated) (a .count) (l .row) (now (a .words)) (wordsOf (after-record-at .record-at .result)) (after-record-at .record-at .ensures)
           (in-loop .loop-test .taken) (c .why .result) (c .why .ensures (a .count) (l .row) n) (not-zero (c .why .result) _ (c .why .ensures (a .count) (l .row) n) n),
       tt,
     )
@@ -93,16 +99,16 @@ returns c =
 accepted : (c : tie.Else1 Inv-loop μ-loop) → (
     let after-record-at = c .before .before .before .before .before in
     let at-loop = after-record-at .before .before in
-    let start = at-loop .before .before in
-    verdict (rowOf (start .args .count) (at-loop .loop .row) (wordsOf (after-record-at .record-at .result))) ≡ 0)
+    let start = at-loop .before .before .before in
+    verdict (rowBy (start .args .rated) (start .args .count) (at-loop .loop .row) (wordsOf (after-record-at .record-at .result))) ≡ 0)
 accepted c = eqb-true _ 0 (sym (tells (c .before)) ∙ not-false (c .before .accepts .result) (c .if1 .left))
 
 known : (c : tie.Else1 Inv-loop μ-loop) → c .before .before .before .before .before .record-at .result .kind < kindCount
 known c =
     let after-record-at = c .before .before .before .before .before in
     let at-loop = after-record-at .before .before in
-    let start = at-loop .before .before in
-    kind-lt (start .args .count) (at-loop .loop .row) (wordsOf (after-record-at .record-at .result)) (accepted c)
+    let start = at-loop .before .before .before in
+    kind-lt (start .args .rated) (start .args .count) (at-loop .loop .row) (wordsOf (after-record-at .record-at .result)) (accepted c)
 
 slice-aggregate-length-of : tie.Need-slice-aggregate-length-of Inv-loop μ-loop
 slice-aggregate-length-of c = search needs
@@ -125,7 +131,7 @@ loop-again c =
     let after-record-at = else1 .before .before .before .before .before in
     let in-loop = after-record-at .before in
     let at-loop = in-loop .before in
-    let start = at-loop .before .before in
+    let start = at-loop .before .before .before in
     let a = start .args in
     let l = at-loop .loop in
     let r = after-record-at .record-at in
@@ -134,8 +140,8 @@ loop-again c =
       search needs,
       omega (arith, n, row-le _ (known else1)),
       ap (λ (b : List ℕ). set b 0 (l .row + 1)) (l .inv .2),
-      survey-next (a .count) (l .row) (now (a .words)) (wordsOf (r .result)) (r .ensures) f (accepted else1) ∙ l .inv .3,
-      omega (arith, n, size-next (a .count) (l .row) (now (a .words)) (wordsOf (r .result)) (r .ensures) f (accepted else1), l .inv .4),
+      survey-next (a .rated) (a .count) (l .row) (now (a .words)) (wordsOf (r .result)) (r .ensures) f (accepted else1) ∙ l .inv .3,
+      omega (arith, n, size-next (a .rated) (a .count) (l .row) (now (a .words)) (wordsOf (r .result)) (r .ensures) f (accepted else1), l .inv .4),
     )
 
 byte-count-requires : tie.Need-byte-count-requires Inv-loop μ-loop
@@ -146,7 +152,7 @@ unfolding rowsFrom rowsBits
 returns-2 c =
     let after-loop = c .before in
     let at-loop = after-loop .before in
-    let start = at-loop .before .before in
+    let start = at-loop .before .before .before in
     let a = start .args in
     let l = at-loop .loop in
     let e : split (a .count - l .row) (drop (rowSize * l .row) (now (a .words))) ≡ [] = split-end (a .count) (l .row) (now (a .words)) (l .inv .0) (after-loop .loop-test .left) in
@@ -158,6 +164,7 @@ survey-rows-spec =
     (tie.spec
     Inv-loop
     μ-loop
+    sure-kinds-requires
     array-write-bound
     loop-holds
     cast-bound

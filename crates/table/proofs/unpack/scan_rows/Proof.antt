@@ -1,4 +1,5 @@
 -- `table::unpack::scan_rows` meets its contract. Assumes nothing.
+use mathlib.Core.Bool.{false}
 use mathlib.Core.Path.{_≡_, refl, sym, ap, _∙_, subst}
 use Prim.Native.Nat.{ℕ, _+_, _-_, _*_, _≤_}
 use mathlib.Core.List.{List}
@@ -76,7 +77,7 @@ slice-aggregate-accepts-3 c =
 accepts-requires : tie.Need-accepts-requires Inv-loop μ-loop
 accepts-requires c κs =
     let l = c .before .before .before .before .before .before .before .before .before .before .before .before .loop in
-    (refl, refl, ap length (l .inv .4))
+    (omega arith, refl, refl, ap length (l .inv .4))
 
 why-requires : tie.Need-why-requires Inv-loop μ-loop
 why-requires c κs = search needs
@@ -100,7 +101,7 @@ returns c =
     let d : Found bs (l .cursor .at) r (g .0 .1 .0) = subst (Stepped bs (l .cursor .at)) (g .1) (after-row .row .ensures) in
     let below = in-loop .loop-test .taken in
     let t = after-accepts .accepts in
-    let told : t .result ≡ eqb (verdict (rowOf (a .count) (l .row) (wordsOf r))) 0 = t .ensures (a .count) (l .row) (start .pre .0) (omega arith) (l .inv .4) in
+    let told : t .result ≡ eqb (verdict (rowOf (a .count) (l .row) (wordsOf r))) 0 = t .ensures false (a .count) (l .row) refl (start .pre .0) (omega arith) (l .inv .4) in
     let false-told = sym told ∙ not-true (t .result) (c .before .if1 .taken) in
     unpacking-refused bs (a .count) (l .row) (l .cursor .at) (l .words) (l .inv .5) below r (g .0 .1 .0) d (c .why .result) false-told
     (c .why .ensures (a .count) (l .row) false-told)
@@ -138,7 +139,7 @@ loop-again c =
     let d : Found bs (l .cursor .at) r (g .0 .1 .0) = subst (Stepped bs (l .cursor .at)) (g .1) (after-row .row .ensures) in
     let below = in-loop .loop-test .taken in
     let t = after-accepts .accepts in
-    let told : t .result ≡ eqb (verdict (rowOf (a .count) (l .row) (wordsOf r))) 0 = t .ensures (a .count) (l .row) (start .pre .0) (omega arith) (l .inv .4) in
+    let told : t .result ≡ eqb (verdict (rowOf (a .count) (l .row) (wordsOf r))) 0 = t .ensures false (a .count) (l .row) refl (start .pre .0) (omega arith) (l .inv .4) in
     let s = after-store-row .store-row in (
       search needs,
       omega (arith, d .near, l .inv .1),
