@@ -1,0 +1,4 @@
+pub mod Joins
+pub mod Fillings
+pub mod Given
+pub mod Private
