@@ -8,3 +8,7 @@ pub record Given (a : Answer) (number flow tick count : ℕ) : Type 0 where
   pub flow-is : flow ≡ a .flow
   pub tick-is : tick ≡ a .tick
   pub count-is : count ≡ a .count
+
+-- the answer that four parts are
+abbrev pub answerOf : ℕ → ℕ → ℕ → ℕ → Answer
+answerOf number flow tick count = record { number = number; flow = flow; tick = tick; count = count }

@@ -9,7 +9,8 @@ ghost use Rattle.runner.specs.Long.{longRunning, longAnswer, LongLeft};
 ghost use Rattle.lister.specs.Listing.{listingAnswer, textAfter};
 ghost use Rattle.loads.specs.Loads.{pageAnswer, pageAfter};
 ghost use Rattle.least.specs.Answers.{leastAnswer, partAfter, flowsAnswer, flowsAfter};
-ghost use Rattle.exports.specs.Parts.{Given};
+ghost use Rattle.rates.specs.Fillings.{Filled};
+ghost use Rattle.exports.specs.Parts.{Given, answerOf};
 use table::Answer;
 
 // Gives an answer's parts out: the number returned, the others through pointers.
@@ -194,5 +195,22 @@ pub extern "C" fn baarqidho_least_flows(
     ensures stored { λ r. ⌜ now (numbers .exit) ≡ flowsAfter flows (now (words .entry)) (now (numbers .entry)) ⌝ }
 {
     let answer = least::least_flows(flows, words, numbers);
+    give(answer, flow, tick, count)
+}
+
+// Fills in the rates of the inputs of a table in plain form that have none written: the count of flows, and four words a flow.
+#[no_mangle]
+pub extern "C" fn baarqidho_fill_rates(
+    flows: u32,
+    words: &[u32],
+    filled: &mut [u32],
+    flow: &mut u32,
+    tick: &mut u32,
+    count: &mut u32,
+) -> u32
+    ensures { λ r. ⌜ Filled flows (now (words .entry)) (now (filled .entry))
+        (answerOf r (now (flow .exit)) (now (tick .exit)) (now (count .exit))) (now (filled .exit)) ⌝ }
+{
+    let answer = rates::fill(flows, words, filled);
     give(answer, flow, tick, count)
 }
