@@ -55,6 +55,7 @@ impl Answer {
             36 => Refusal::BadTimesLength,
             37 => Refusal::PageTooShort,
             38 => Refusal::NotDiffering,
+            39 => Refusal::Unjoined { flow },
             _ => Refusal::Other { number },
         })
     }
@@ -74,7 +75,7 @@ pub enum Refusal {
         /// The row in which they end.
         row: u32,
     },
-    /// 13: a kind above 15.
+    /// 13: a kind above 16, or 16 ([`Row::Unrated`](crate::Row::Unrated)) where rates have to be written.
     UnknownKind {
         /// The row of that kind.
         row: u32,
@@ -93,7 +94,7 @@ pub enum Refusal {
     NotTheEnd,
     /// 21: the clocks are not as the rules need.
     ClocksDiffer {
-        /// The flow whose rule is broken.
+        /// The flow whose rule is broken; 0 where rates are filled in, as no flow is named then.
         flow: u32,
     },
     /// 22: a derived period or phase above 4095, or more than [`MAX_CONDITIONS`](crate::MAX_CONDITIONS) conditions.
@@ -128,6 +129,11 @@ pub enum Refusal {
     PageTooShort,
     /// 38: the check does not answer the plan with 21, so that it has no least part.
     NotDiffering,
+    /// 39: no chain joins a flow to an input or constant that has a rate, so that none can be filled in.
+    Unjoined {
+        /// The lowest such flow.
+        flow: u32,
+    },
     /// A number that the interface does not name.
     Other {
         /// That number.
@@ -157,6 +163,7 @@ impl Refusal {
             Refusal::BadTimesLength => 36,
             Refusal::PageTooShort => 37,
             Refusal::NotDiffering => 38,
+            Refusal::Unjoined { .. } => 39,
             Refusal::Other { number } => number,
         }
     }
@@ -167,7 +174,7 @@ impl Refusal {
             Refusal::OutputTooShort => "the output has fewer cells than needed",
             Refusal::BadCount => "the count is not 1 to 64, or the words are not four a flow",
             Refusal::EndsTooEarly { .. } => "the packed bits end too early",
-            Refusal::UnknownKind { .. } => "the kind is above 15",
+            Refusal::UnknownKind { .. } => "the kind is above 16, or 16 where rates have to be written",
             Refusal::FieldOutOfRange { .. } => "a field is outside its range, or an unused word is not 0",
             Refusal::BadOperand { .. } => "an operand is not a lower flow, or a source is not in the table",
             Refusal::NotTheEnd => "a filling bit is not 0, or a further byte follows",
@@ -182,6 +189,7 @@ impl Refusal {
             Refusal::BadTimesLength => "the worst times are not one a flow",
             Refusal::PageTooShort => "the page has less than a line for each flow and the total",
             Refusal::NotDiffering => "the check does not answer the plan with 21",
+            Refusal::Unjoined { .. } => "no chain joins it to an input or constant that has a rate",
             Refusal::Other { .. } => "a number that the interface does not name",
         }
     }
@@ -194,9 +202,10 @@ impl Display for Refusal {
             | Refusal::UnknownKind { row }
             | Refusal::FieldOutOfRange { row }
             | Refusal::BadOperand { row } => write!(f, "row {row}: ")?,
-            Refusal::ClocksDiffer { flow } | Refusal::BeyondLimits { flow } | Refusal::NotPlain { flow } => {
-                write!(f, "flow {flow}: ")?
-            }
+            Refusal::ClocksDiffer { flow }
+            | Refusal::BeyondLimits { flow }
+            | Refusal::NotPlain { flow }
+            | Refusal::Unjoined { flow } => write!(f, "flow {flow}: ")?,
             Refusal::Clash { tick, flow } => write!(f, "tick {tick}, flow {flow}: ")?,
             _ => {}
         }

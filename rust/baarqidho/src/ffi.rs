@@ -114,6 +114,17 @@ extern "C" {
         tick: *mut u32,
         count: *mut u32,
     ) -> u32;
+
+    fn baarqidho_fill_rates(
+        plan_count: u32,
+        words: *const u32,
+        words_len: usize,
+        filled: *mut u32,
+        filled_len: usize,
+        flow: *mut u32,
+        tick: *mut u32,
+        count: *mut u32,
+    ) -> u32;
 }
 
 /// Makes a call that returns its number and puts flow, tick and count through the three pointers.
@@ -411,6 +422,41 @@ pub fn least_flows(plan_count: u32, words: &[u32], flows: &mut [u32]) -> Answer 
                 words.len(),
                 flows.as_mut_ptr(),
                 flows.len(),
+                flow,
+                tick,
+                count,
+            )
+        }
+    })
+}
+
+/// Fills in period and phase of each input without a rate, kind 16, and gives the whole table in plain words,
+/// [`ROW_WORDS`](crate::ROW_WORDS) a flow. Two flows are joined when they stand in one row, a result with its operands,
+/// beat and source. Where a chain joins each flow to an input or constant that has a rate, the check accepts at most
+/// one filling with periods 1 to 4095 and phases 0 to 4095: that is the one.
+///
+/// Success gives the count of flows and writes exactly their words. Refusals, none of which touches `filled`: 11, 13,
+/// 14, 15, 39 with the lowest flow that no chain joins to one with a rate, 21 with flow 0 where the check accepts no
+/// filling, and 10 where `filled` is too short. As many words as the plan has are enough.
+///
+/// ```
+/// // An input without a rate, every second of its values, an input (10, 4), and the sum of both.
+/// let words = [16, 0, 0, 0, 9, 0, 2, 0, 0, 10, 4, 0, 2, 1, 2, 0];
+/// let mut filled = [7; 17];
+/// let answer = baarqidho::fill_rates(4, &words, &mut filled);
+/// assert_eq!((answer.number, answer.count), (0, 4));
+/// assert_eq!(filled, [0, 5, 4, 0, 9, 0, 2, 0, 0, 10, 4, 0, 2, 1, 2, 0, 7]);
+/// ```
+pub fn fill_rates(plan_count: u32, words: &[u32], filled: &mut [u32]) -> Answer {
+    answer(|flow, tick, count| {
+        // SAFETY: pointers and lengths are those of live slices, `filled` lent to this call alone.
+        unsafe {
+            baarqidho_fill_rates(
+                plan_count,
+                words.as_ptr(),
+                words.len(),
+                filled.as_mut_ptr(),
+                filled.len(),
                 flow,
                 tick,
                 count,

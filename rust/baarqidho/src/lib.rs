@@ -3,12 +3,14 @@
 //! A plan is a table of 1 to 64 flows, each defined by one row. The library reads and writes the packed form of a
 //! table, gives each flow its clock (the check), replays an input log into a trace (the run) or, over millions of
 //! ticks, into a window and tallies (the long run), lists the clocks as text, prints what each flow costs (the load
-//! page), and takes out of a plan whose clocks differ the fewest flows that still do (the least part).
+//! page), takes out of a plan whose clocks differ the fewest flows that still do (the least part), and fills in the
+//! rates of inputs that were written without one.
 //!
 //! There are two layers. [`read()`], [`write()`], [`check()`], [`run()`], [`long_run()`], [`listing()`],
-//! [`load_page()`], [`least_part()`] and [`least_flows()`] are the library's calls over slices that the caller lends;
-//! each takes any arguments and returns an [`Answer`]. [`Plan`] owns its words, is made of [`Row`]s, words or packed
-//! bytes, and returns [`Refusal`]s as errors; that of a run is a [`RunError`], which has the trace up to a clash.
+//! [`load_page()`], [`least_part()`], [`least_flows()`] and [`fill_rates()`] are the library's calls over slices that
+//! the caller lends; each takes any arguments and returns an [`Answer`]. [`Plan`] owns its words, is made of [`Row`]s,
+//! words or packed bytes, and returns [`Refusal`]s as errors; that of a run is a [`RunError`], which has the trace up
+//! to a clash.
 //!
 //! ```
 //! use baarqidho::{Plan, Row, RunError};
@@ -42,7 +44,7 @@ mod trace;
 
 pub use answer::{Answer, Refusal};
 pub use clock::{Clock, Condition};
-pub use ffi::{check, least_flows, least_part, listing, load_page, long_run, read, run, write};
+pub use ffi::{check, fill_rates, least_flows, least_part, listing, load_page, long_run, read, run, write};
 pub use least::LeastPart;
 pub use long::LongRun;
 pub use plan::{list, Plan};

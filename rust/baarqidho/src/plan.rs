@@ -1,6 +1,6 @@
 //! A plan that owns its words, and the calls over it.
 
-use crate::{check, least_flows, least_part, listing, load_page, long_run, read, run, write};
+use crate::{check, fill_rates, least_flows, least_part, listing, load_page, long_run, read, run, write};
 use crate::{Clash, Clock, LeastPart, LongRun, Refusal, Row, RunError, Trace};
 use crate::{CLOCK_WORDS, LISTING_MAX, MAX_FLOWS, MAX_LONG_TICKS, MAX_TICKS, PACKED_MAX, PAGE_MAX, ROW_WORDS};
 use crate::{TALLY_WORDS, WINDOW_TICKS};
@@ -65,7 +65,8 @@ impl Plan {
         self.words.len() / ROW_WORDS
     }
 
-    /// How many of its rows are inputs, each of which has one word a tick in the log.
+    /// How many of its rows are inputs, each of which has one word a tick in the log. Those of [`Row::Unrated`] count
+    /// once their rates are filled in.
     pub fn inputs(&self) -> usize {
         self.rows().filter(|row| matches!(row, Some(Row::Input { .. }))).count()
     }
@@ -222,6 +223,39 @@ impl Plan {
         let count = least_flows(self.count(), &self.words, &mut flows).result()?;
         flows.truncate(count);
         Ok(LeastPart::new(self, words, flows))
+    }
+
+    /// Fills in period and phase of each [`Row::Unrated`]: the plan comes back with a [`Row::Input`] in its place, and
+    /// the check accepts it. Two flows are joined when they stand in one row, a result with its operands, beat and
+    /// source. Where a chain joins each flow to an input or constant that has a rate, the check accepts at most one
+    /// filling with periods 1 to 4095 and phases 0 to 4095.
+    ///
+    /// ```
+    /// use baarqidho::{Plan, Refusal, Row};
+    ///
+    /// // A command is given every 40 ticks from tick 10 on, and compared with every fourth reading of a sensor.
+    /// let command = Row::Input { period: 40, phase: 10 };
+    /// let plan = Plan::from_rows([command, Row::Unrated, Row::Slower { a: 1, k: 4 }, Row::Less { a: 2, b: 0 }]);
+    /// let filled = plan.fill_rates()?;
+    /// assert_eq!(filled.rows().nth(1), Some(Some(Row::Input { period: 10, phase: 10 })));
+    /// assert_eq!(filled.clocks()?[3].to_string(), "40 10 -");
+    ///
+    /// // With every third reading the period would be 40 / 3; and without the comparison nothing tells it.
+    /// let plan = Plan::from_rows([command, Row::Unrated, Row::Slower { a: 1, k: 3 }, Row::Less { a: 2, b: 0 }]);
+    /// assert_eq!(plan.fill_rates(), Err(Refusal::ClocksDiffer { flow: 0 }));
+    /// let plan = Plan::from_rows([command, Row::Unrated, Row::Slower { a: 1, k: 4 }]);
+    /// assert_eq!(plan.fill_rates(), Err(Refusal::Unjoined { flow: 1 }));
+    /// # Ok::<(), Refusal>(())
+    /// ```
+    ///
+    /// # Errors
+    ///
+    /// The refusal of [`fill_rates()`]: 11, 13, 14, 15, 39, or 21 with flow 0 where the check accepts no filling.
+    pub fn fill_rates(&self) -> Result<Plan, Refusal> {
+        let mut words = vec![0; ROW_WORDS * MAX_FLOWS];
+        let flows = fill_rates(self.count(), &self.words, &mut words).result()?;
+        words.truncate(ROW_WORDS * flows);
+        Ok(Plan { words })
     }
 
     /// How many cells a clash has before it. That of a register is found after all flows of its tick.

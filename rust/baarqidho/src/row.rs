@@ -47,7 +47,7 @@ macro_rules! field {
 
 /// Makes [`Row`] and both of its conversions from the one table of kinds.
 macro_rules! rows {
-    ($($kind:literal => $name:ident { $($field:ident),+ }, $doc:literal;)+) => {
+    ($($kind:literal => $name:ident $({ $($field:ident),+ })?, $doc:literal;)+) => {
         /// A row of a plan, which defines one flow. Operands are lower flows.
         ///
         /// A row may hold any numbers; the calls refuse those that a field does not take.
@@ -77,12 +77,12 @@ macro_rules! rows {
         pub enum Row {
             $(
                 #[doc = $doc]
-                $name {
+                $name $({
                     $(
                         #[doc = field!($field)]
                         $field: u32,
                     )+
-                },
+                })?,
             )+
         }
 
@@ -97,11 +97,11 @@ macro_rules! rows {
             /// ```
             pub fn words(self) -> [u32; ROW_WORDS] {
                 match self {
-                    $(Row::$name { $($field),+ } => filled_up(&[$kind, $($field),+]),)+
+                    $(Row::$name $({ $($field),+ })? => filled_up(&[$kind $(, $($field),+)?]),)+
                 }
             }
 
-            /// The row of words in plain form, or nothing where they are none: the kind is above 15, or an unused
+            /// The row of words in plain form, or nothing where they are none: the kind is above 16, or an unused
             /// word is not 0.
             ///
             /// ```
@@ -109,12 +109,12 @@ macro_rules! rows {
             ///
             /// assert_eq!(Row::from_words([12, 3, 0, 0]), Some(Row::Tail { a: 3 }));
             /// assert_eq!(Row::from_words([12, 3, 0, 1]), None);
-            /// assert_eq!(Row::from_words([16, 0, 0, 0]), None);
+            /// assert_eq!(Row::from_words([17, 0, 0, 0]), None);
             /// ```
             pub fn from_words(words: [u32; ROW_WORDS]) -> Option<Self> {
                 let mut fields = words.into_iter().skip(1);
                 let row = match words[0] {
-                    $($kind => Row::$name { $($field: fields.next()?),+ },)+
+                    $($kind => Row::$name $({ $($field: fields.next()?),+ })?,)+
                     _ => return None,
                 };
                 (row.words() == words).then_some(row)
@@ -140,6 +140,8 @@ rows! {
     13 => When { a, c }, "The values where c is not zero.";
     14 => WhenNot { a, c }, "The values where c is zero.";
     15 => Merge { c, a, b }, "The value of a where c is not zero, of b where c is zero.";
+    16 => Unrated,
+        "An input whose period and phase are not written: see [`Plan::fill_rates`](crate::Plan::fill_rates).";
 }
 
 /// The words of a row, filled up with zeros.
