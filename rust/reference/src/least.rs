@@ -2,7 +2,7 @@
 //! all sets of flows.
 
 use crate::check::clocks_of;
-use crate::rows::{fields, table, Field};
+use crate::rows::{fields, needed, table};
 use crate::{answer, refuse, success, Answer, Refused};
 
 /// The most flows of a plan whose least part can be looked for: there are 4,096 sets of them.
@@ -118,7 +118,7 @@ fn renumbered(words: &[u32], part: Set) -> Vec<u32> {
         let row = row(words, flow);
         let mut new = [row[0], row[1], row[2], row[3]];
         for (place, field) in fields(row[0]).iter().enumerate() {
-            if is_flow(*field) {
+            if field.is_flow() {
                 new[1 + place] = number(row[1 + place]);
             }
         }
@@ -130,15 +130,4 @@ fn renumbered(words: &[u32], part: Set) -> Vec<u32> {
 /// The words of a flow's row.
 fn row(words: &[u32], flow: usize) -> &[u32] {
     &words[4 * flow..4 * flow + 4]
-}
-
-/// The operands, beats and sources of a row.
-fn needed(row: &[u32]) -> impl Iterator<Item = usize> + '_ {
-    let all = fields(row[0]).iter().zip(&row[1..]);
-    all.filter(|(field, _)| is_flow(**field)).map(|(_, &word)| word as usize)
-}
-
-/// Whether a field is an operand, a beat among them, or a source.
-fn is_flow(field: Field) -> bool {
-    matches!(field, Field::Operand | Field::Source)
 }

@@ -1,13 +1,14 @@
-//! Bench plans as the paper words them: read, write, check, run, long run, listing, load page and least part, each rule
-//! one function.
+//! Bench plans as the paper words them: read, write, check, run, long run, listing, load page, least part and rates
+//! filled in, each rule one function.
 //!
 //! Nothing here is quick. Packed tables are read and written bit by bit, and the run keeps no state: it looks
-//! through the history of the trace for everything it needs. The least part is looked for among all sets of flows. It
-//! is what the other implementations are held against.
+//! through the history of the trace for everything it needs. The least part is looked for among all sets of flows, and
+//! rates among all fillings within given limits. It is what the other implementations are held against.
 
 mod bits;
 mod check;
 mod clock;
+mod fill;
 mod least;
 mod listing;
 mod long;
@@ -18,6 +19,7 @@ mod rows;
 mod run;
 
 pub use check::check;
+pub use fill::{accepted_fillings, fill_rates, fill_rates_within, Limits};
 pub use least::{least_flows, least_part, LEAST_MAX};
 pub use listing::listing;
 pub use long::long_run;

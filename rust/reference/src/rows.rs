@@ -1,8 +1,8 @@
-//! Rows: the sixteen kinds, their fields, the ranges and widths of the fields, and the plain form.
+//! Rows: the kinds, their fields, the ranges and widths of the fields, and the plain form.
 
 use crate::{refuse, refuse_at, Refused};
 
-/// One row of a table. `a`, `b`, `c`, `beat` and `source` are flow numbers.
+/// One row of a table that is checked or run, so of kinds 0 to 15. `a`, `b`, `c`, `beat` and `source` are flow numbers.
 #[derive(Clone, Copy, Debug)]
 pub enum Row {
     Input { period: u32, phase: u32 },
@@ -59,6 +59,11 @@ impl Field {
             Value => true,
         }
     }
+
+    /// Whether it is an operand, a beat among them, or a source.
+    pub fn is_flow(self) -> bool {
+        matches!(self, Operand | Source)
+    }
 }
 
 /// The fields of a kind, in the order given.
@@ -75,13 +80,17 @@ pub fn fields(kind: u32) -> &'static [Field] {
         12 => &[Operand],
         13 | 14 => &[Operand, Operand],
         15 => &[Operand, Operand, Operand],
+        16 => &[],
         _ => unreachable!("the kind was tested"),
     }
 }
 
-/// Number 13: kind above 15.
-pub fn test_kind(flow: usize, kind: u32) -> Refused<()> {
-    if kind > 15 {
+/// The last kind that reading and writing know, the input without fields; check and run know those before it.
+pub const UNRATED: u32 = 16;
+
+/// Number 13: kind above the last that is known.
+pub fn test_kind(flow: usize, kind: u32, last: u32) -> Refused<()> {
+    if kind > last {
         return refuse_at(13, flow);
     }
     Ok(())
@@ -107,7 +116,7 @@ pub fn test_fields(flow: usize, count: usize, words: &[u32]) -> Refused<()> {
     Ok(())
 }
 
-/// The row of four words that passed every test.
+/// The row of four words that passed every test, of kinds 0 to 15.
 pub fn row(words: &[u32]) -> Row {
     let (x, y, z) = (words[1], words[2], words[3]);
     let (flow_x, flow_y, flow_z) = (x as usize, y as usize, z as usize);
@@ -140,17 +149,27 @@ pub fn test_count(count: u32) -> Refused<usize> {
     Ok(count as usize)
 }
 
-/// The table that a count and plain words stand for, in the paper's order of refusals.
-pub fn table(plan_count: u32, words: &[u32]) -> Refused<Vec<Row>> {
+/// The refusals of a count and plain words, in the paper's order, kinds being known up to a last one.
+pub fn test_table(plan_count: u32, words: &[u32], last: u32) -> Refused<()> {
     let count = test_count(plan_count)?;
     if words.len() != 4 * count {
         return refuse(11);
     }
-    let mut rows = Vec::new();
     for (flow, words) in words.chunks(4).enumerate() {
-        test_kind(flow, words[0])?;
+        test_kind(flow, words[0], last)?;
         test_fields(flow, count, words)?;
-        rows.push(row(words));
     }
-    Ok(rows)
+    Ok(())
+}
+
+/// The table that a count and plain words stand for where it is checked or run: without kind 16.
+pub fn table(plan_count: u32, words: &[u32]) -> Refused<Vec<Row>> {
+    test_table(plan_count, words, UNRATED - 1)?;
+    Ok(words.chunks(4).map(row).collect())
+}
+
+/// The operands, beats and sources of a row in four words.
+pub fn needed(row: &[u32]) -> impl Iterator<Item = usize> + '_ {
+    let all = fields(row[0]).iter().zip(&row[1..]);
+    all.filter(|(field, _)| field.is_flow()).map(|(_, &word)| word as usize)
 }
