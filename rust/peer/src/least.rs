@@ -4,11 +4,11 @@
 //! least part is what some flow leads to, itself included, and there are no more of those than flows.
 
 use crate::check::{derive, Clock};
-use crate::plan::{rows, Row};
+use crate::plan::{rows, Row, UNRATED};
 use crate::{Answer, MOST_FLOWS};
 
 /// A set of flows, the lowest bit for flow 0.
-type Set = u64;
+pub type Set = u64;
 
 /// Gives the least part of a plain table, four words a flow. The count of the answer is that of the part's flows.
 pub fn least_part(plan_count: u32, words: &[u32], part: &mut [u32]) -> Answer {
@@ -89,9 +89,9 @@ fn led_to(rows: &[Row]) -> [Set; MOST_FLOWS] {
 
 /// The places of a row's operands, beat and source.
 #[inline]
-fn fields(&[kind, ..]: &Row) -> std::ops::Range<usize> {
+pub fn fields(&[kind, ..]: &Row) -> std::ops::Range<usize> {
     match kind {
-        0 | 1 => 0..0,
+        0 | 1 | UNRATED => 0..0,
         2..=6 | 13 | 14 => 1..3,
         7 => 2..4,
         15 => 1..4,
@@ -116,7 +116,7 @@ fn size(set: Set) -> usize {
 }
 
 /// The flows of a set, ascending.
-fn members(mut set: Set) -> impl Iterator<Item = usize> {
+pub fn members(mut set: Set) -> impl Iterator<Item = usize> {
     std::iter::from_fn(move || {
         let lowest = set.trailing_zeros() as usize;
         set &= set.wrapping_sub(1);

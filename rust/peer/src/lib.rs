@@ -1,10 +1,11 @@
-//! Bench plans, quick: read, write, check, run, long run, listing, load page and least part without the heap; a run has
-//! constant work a cell.
+//! Bench plans, quick: read, write, check, run, long run, listing, load page, least part and rates filled in, without
+//! the heap; a run has constant work a cell.
 //!
 //! The run carries between ticks only what each kind of row needs, so that no cell looks through the trace again.
 //! It is what the proved library is measured against, with the runs of [`mirror`] beside it.
 
 mod check;
+mod fill;
 mod least;
 mod listing;
 pub mod mirror;
@@ -15,6 +16,7 @@ mod run;
 mod steps;
 
 pub use check::check;
+pub use fill::fill_rates;
 pub use least::{least_flows, least_part};
 pub use listing::listing;
 pub use packed::{read, write};

@@ -4,6 +4,7 @@ use std::io::Write;
 
 use crate::check::{derive, Clock};
 use crate::packed::unpack;
+use crate::plan::UNRATED;
 use crate::{Answer, LISTING_MAX, MOST_FLOWS};
 
 /// Lists a packed table as text: its clocks, or the one line of its refusal. The count is the length of the text. A
@@ -27,6 +28,9 @@ pub fn listing(packed: &[u8], text: &mut [u8]) -> Answer {
 fn clocks_of(packed: &[u8], clocks: &mut [Clock; MOST_FLOWS]) -> Result<usize, Answer> {
     let mut plain = [[0; 4]; MOST_FLOWS];
     let flows = unpack(packed, &mut plain)?;
+    if let Some(row) = plain[..flows].iter().position(|row| row[0] == UNRATED) {
+        return Err(Answer::at(13, row));
+    }
     derive(&plain[..flows], clocks)?;
     Ok(flows)
 }

@@ -1,10 +1,10 @@
 //! The packed form, through 64-bit windows.
 
-use crate::plan::{flows, rows, test_row, Row};
+use crate::plan::{flows, test_row, unfilled, Row, UNRATED};
 use crate::{Answer, MOST_FLOWS};
 
 /// The widths of the fields of each kind; 0 where there is no field.
-const WIDTHS: [[u32; 3]; 16] = [
+const WIDTHS: [[u32; 3]; 17] = [
     [12, 12, 0],
     [32, 12, 12],
     [6, 6, 0],
@@ -21,6 +21,7 @@ const WIDTHS: [[u32; 3]; 16] = [
     [6, 6, 0],
     [6, 6, 0],
     [6, 6, 6],
+    [0, 0, 0],
 ];
 
 /// The bits of a kind.
@@ -90,7 +91,7 @@ pub fn unpack(packed: &[u8], plain: &mut [Row; MOST_FLOWS]) -> Result<usize, Ans
             return Err(Answer::at(12, flow));
         }
         *row = [kind, window.take(x), window.take(y), window.take(z)];
-        test_row(flow, flows, row)?;
+        test_row::<UNRATED>(flow, flows, row)?;
     }
     let filling = window.place.wrapping_neg() % 8;
     if window.take(filling as u32) != 0 || packed.len() != window.place / 8 {
@@ -101,11 +102,11 @@ pub fn unpack(packed: &[u8], plain: &mut [Row; MOST_FLOWS]) -> Result<usize, Ans
 
 /// Writes plain words as a packed table. The count of the answer is that of the bytes.
 pub fn write(plan_count: u32, words: &[u32], packed: &mut [u8]) -> Answer {
-    let rows = match rows(plan_count, words) {
+    let rows = match unfilled(plan_count, words) {
         Ok(rows) => rows,
         Err(refusal) => return refusal,
     };
-    let bits = 8 + rows.iter().map(|row| KIND_WIDTH + fields_width(row[0] as usize & 15)).sum::<usize>();
+    let bits = 8 + rows.iter().map(|row| KIND_WIDTH + fields_width(row[0] as usize)).sum::<usize>();
     let Some(packed) = packed.get_mut(..bits.div_ceil(8)) else {
         return Answer::number(10);
     };
@@ -130,7 +131,7 @@ fn pack(rows: &[Row], packed: &mut [u8]) {
         }
     };
     for &[kind, x, y, z] in rows {
-        let [width_x, width_y, width_z] = WIDTHS[kind as usize & 15];
+        let [width_x, width_y, width_z] = WIDTHS[kind as usize];
         put(KIND_WIDTH as u32, kind);
         put(width_x, x);
         put(width_y, y);

@@ -10,6 +10,9 @@ const MOST_LONG_TICKS: u32 = 4_194_303;
 /// A row in plain form: kind and three fields.
 pub type Row = [u32; 4];
 
+/// The kind of an input without a rate.
+pub const UNRATED: u32 = 16;
+
 /// The count as a number of flows.
 #[inline]
 pub fn flows(count: u32) -> Result<usize, Answer> {
@@ -19,23 +22,35 @@ pub fn flows(count: u32) -> Result<usize, Answer> {
     }
 }
 
-/// The rows of a plain table, all of them tested.
+/// The rows of a plain table, all of them tested: kinds 0 to 15, as check and run take them.
 #[inline]
 pub fn rows(plan_count: u32, words: &[u32]) -> Result<&[Row], Answer> {
+    tested::<15>(plan_count, words)
+}
+
+/// The rows of a plain table that may have inputs without a rate.
+#[inline]
+pub fn unfilled(plan_count: u32, words: &[u32]) -> Result<&[Row], Answer> {
+    tested::<UNRATED>(plan_count, words)
+}
+
+/// The rows of a plain table of kinds up to the last.
+#[inline]
+fn tested<const LAST: u32>(plan_count: u32, words: &[u32]) -> Result<&[Row], Answer> {
     let flows = flows(plan_count)?;
     let (rows, rest) = words.as_chunks::<4>();
     if rows.len() != flows || !rest.is_empty() {
         return Err(Answer::number(11));
     }
     for (flow, row) in rows.iter().enumerate() {
-        test_row(flow, flows, row)?;
+        test_row::<LAST>(flow, flows, row)?;
     }
     Ok(rows)
 }
 
-/// Numbers 13, 14 and 15 of one row.
+/// Numbers 13, 14 and 15 of one row, its kind being one up to the last.
 #[inline]
-pub fn test_row(flow: usize, flows: usize, &[kind, x, y, z]: &Row) -> Result<(), Answer> {
+pub fn test_row<const LAST: u32>(flow: usize, flows: usize, &[kind, x, y, z]: &Row) -> Result<(), Answer> {
     let is_flow = |word: u32| word < MOST_FLOWS as u32;
     let is_copies = |word: u32| (1..=63).contains(&word);
     let is_period = |word: u32| (1..=LIMIT).contains(&word);
@@ -53,6 +68,7 @@ pub fn test_row(flow: usize, flows: usize, &[kind, x, y, z]: &Row) -> Result<(),
         11 => (is_flow(x) && is_phase(z), lower(x)),
         12 => (is_flow(x) && y == 0 && z == 0, lower(x)),
         15 => (is_flow(x) && is_flow(y) && is_flow(z), lower(x) && lower(y) && lower(z)),
+        UNRATED if LAST == UNRATED => ([x, y, z] == [0; 3], true),
         _ => return Err(Answer::at(13, flow)),
     };
     if !fits {
