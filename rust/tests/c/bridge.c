@@ -6,7 +6,7 @@
  * reply is number, flow, tick and count, then the slices written into, as they are afterwards. All in the machine's
  * order of bytes.
  *
- * `declared.h` is made from `baarqidho.h` by the test: READ_DECLARED and the eight others are the calls with the
+ * `declared.h` is made from `baarqidho.h` by the test: READ_DECLARED and the nine others are the calls with the
  * header's own parameter names for arguments. A name that stands in another's place there is a wrong argument here.
  */
 #include <stdio.h>
@@ -155,6 +155,15 @@ static void answer_least_flows(void)
     GIVE(flows);
 }
 
+static void answer_fill_rates(void)
+{
+    uint32_t plan_count = take_number();
+    TAKE(uint32_t, words);
+    TAKE(uint32_t, filled);
+    ANSWER(FILL_RATES_DECLARED);
+    GIVE(filled);
+}
+
 int main(void)
 {
     int letter;
@@ -170,6 +179,7 @@ int main(void)
         case 'p': answer_load_page(); break;
         case 'm': answer_least_part(); break;
         case 'n': answer_least_flows(); break;
+        case 'f': answer_fill_rates(); break;
         default: return 1;
         }
         fflush(stdout);

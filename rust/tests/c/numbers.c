@@ -78,6 +78,10 @@ static void refuses(uint32_t of_number, uint32_t of_flow)
 static const uint8_t packed_plan[] = {0x02, 0x00, 0x05, 0x00, 0x02, 0x40, 0x08};
 static const uint32_t plan[] = {0, 10, 0, 0, 9, 0, 2, 0};
 
+/* Two inputs without a rate. */
+static const uint8_t packed_open[] = {0x02, 0x84, 0x00};
+static const uint32_t open_plan[] = {16, 0, 0, 0, 16, 0, 0, 0};
+
 static void reads(const char *name, const uint8_t *packed, size_t packed_len, size_t words_len)
 {
     begin(name);
@@ -105,6 +109,9 @@ static void all_of_read(void)
     refuses(BAARQIDHO_BAD_COUNT, 0);
     reads("read, bits end", packed_plan, sizeof packed_plan - 1, LENGTH(words));
     refuses(BAARQIDHO_ENDS_TOO_EARLY, 1);
+    reads("read, kind 16", packed_open, sizeof packed_open, LENGTH(words));
+    answers(BAARQIDHO_OK, 0, 0, 2);
+    wrote(NULL, 0, open_plan, LENGTH(open_plan));
     reads_with("read, kind 17", 4, 0x04);
     refuses(BAARQIDHO_UNKNOWN_KIND, 1);
     reads_with("read, k 0", 6, 0x00);
@@ -131,6 +138,9 @@ static void all_of_write(void)
     wrote(packed_plan, sizeof packed_plan, NULL, 0);
     writes("write into too little", 2, plan, LENGTH(plan), sizeof packed_plan - 1);
     refuses(BAARQIDHO_OUTPUT_TOO_SHORT, 0);
+    writes("write, kind 16", 2, open_plan, LENGTH(open_plan), LENGTH(bytes));
+    answers(BAARQIDHO_OK, 0, 0, sizeof packed_open);
+    wrote(packed_open, sizeof packed_open, NULL, 0);
     writes("write, count 3", 3, plan, LENGTH(plan), sizeof bytes);
     refuses(BAARQIDHO_BAD_COUNT, 0);
 
@@ -169,6 +179,8 @@ static void all_of_check(void)
     wrote(NULL, 0, clocks, LENGTH(clocks));
     checks("check into too little", sampled, 4 * BAARQIDHO_ROW_WORDS, 4 * BAARQIDHO_CLOCK_WORDS - 1);
     refuses(BAARQIDHO_OUTPUT_TOO_SHORT, 0);
+    checks("check, kind 16", open_plan, LENGTH(open_plan), 0);
+    refuses(BAARQIDHO_UNKNOWN_KIND, 0);
     checks("check, clocks differ", differing, LENGTH(differing), LENGTH(words));
     refuses(BAARQIDHO_CLOCKS_DIFFER, 2);
     checks("check, period 4158", beyond, LENGTH(beyond), LENGTH(words));
@@ -209,6 +221,8 @@ static void all_of_run(void)
     wrote(present, 4, below_zero, 4);
     runs("run, all ticks", constant, LENGTH(constant), log, 0, BAARQIDHO_MAX_TICKS, LENGTH(bytes), LENGTH(words));
     answers(BAARQIDHO_OK, 0, 0, BAARQIDHO_MAX_TICKS);
+    runs("run, kind 16", open_plan, LENGTH(open_plan), log, 0, 0, LENGTH(bytes), LENGTH(words));
+    refuses(BAARQIDHO_UNKNOWN_KIND, 0);
     runs("run, too many ticks", constant, LENGTH(constant), log, 0, BAARQIDHO_MAX_TICKS + 1, LENGTH(bytes),
          LENGTH(words));
     refuses(BAARQIDHO_TOO_MANY_TICKS, 0);
@@ -278,6 +292,8 @@ static void all_of_long_run(void)
     refuses(BAARQIDHO_WINDOW_TOO_SHORT, 0);
     runs_long("long run, tallies too short", counting, LENGTH(counting), 0, 5, CELLS, CELLS, TALLIES - 1);
     refuses(BAARQIDHO_WINDOW_TOO_SHORT, 0);
+    runs_long("long run, kind 16", open_plan, LENGTH(open_plan), 0, 0, CELLS, CELLS, TALLIES);
+    refuses(BAARQIDHO_UNKNOWN_KIND, 0);
     runs_long("long run, no words", counting, 0, 0, 5, CELLS, CELLS, TALLIES);
     refuses(BAARQIDHO_BAD_COUNT, 0);
     runs_long("long run, clocks differ", differing, LENGTH(differing), 2, 1, CELLS, CELLS, TALLIES);
@@ -299,6 +315,7 @@ static void all_of_listing(void)
 {
     static const char text[] = "ok 2\n0 10 0 -\n1 20 0 -\n";
     static const char refusal[] = "no 12 1\n";
+    static const char unrated[] = "no 13 0\n";
 
     lists("listing", packed_plan, sizeof packed_plan, BAARQIDHO_LISTING_MAX);
     answers(BAARQIDHO_OK, 0, 0, sizeof text - 1);
@@ -306,6 +323,9 @@ static void all_of_listing(void)
     lists("listing of a refusal", packed_plan, sizeof packed_plan - 1, BAARQIDHO_LISTING_MAX);
     answers(BAARQIDHO_OK, 0, 0, sizeof refusal - 1);
     wrote((const uint8_t *)refusal, sizeof refusal - 1, NULL, 0);
+    lists("listing, kind 16", packed_open, sizeof packed_open, BAARQIDHO_LISTING_MAX);
+    answers(BAARQIDHO_OK, 0, 0, sizeof unrated - 1);
+    wrote((const uint8_t *)unrated, sizeof unrated - 1, NULL, 0);
     lists("listing into too little", packed_plan, sizeof packed_plan, BAARQIDHO_LISTING_MAX - 1);
     refuses(BAARQIDHO_OUTPUT_TOO_SHORT, 0);
 }
@@ -356,6 +376,8 @@ static void all_of_load_page(void)
     refuses(BAARQIDHO_PAGE_TOO_SHORT, 0);
     pages("load page, no words", costly, 0, times, 3, BAARQIDHO_PAGE_MAX);
     refuses(BAARQIDHO_BAD_COUNT, 0);
+    pages("load page, kind 16", open_plan, LENGTH(open_plan), times, 3, 0);
+    refuses(BAARQIDHO_UNKNOWN_KIND, 0);
     pages("load page, clocks differ", differing, LENGTH(differing), times, 3, BAARQIDHO_PAGE_MAX);
     refuses(BAARQIDHO_CLOCKS_DIFFER, 2);
     pages("load page, period 4158", beyond, LENGTH(beyond), times, 3, BAARQIDHO_PAGE_MAX);
@@ -442,6 +464,8 @@ static void all_of_least(void)
     wrote(NULL, 0, chain, LENGTH(chain));
     chain[row] = 16;
     refuses_least("least part, kind 16", chain, LENGTH(chain), 0, BAARQIDHO_UNKNOWN_KIND, BAARQIDHO_MAX_FLOWS - 1);
+    chain[row] = 17;
+    refuses_least("least part, kind 17", chain, LENGTH(chain), 0, BAARQIDHO_UNKNOWN_KIND, BAARQIDHO_MAX_FLOWS - 1);
     chain[row] = 12;
     refuses_least("least part, unused word", chain, LENGTH(chain), 0, BAARQIDHO_FIELD_OUT_OF_RANGE,
                   BAARQIDHO_MAX_FLOWS - 1);
@@ -449,6 +473,63 @@ static void all_of_least(void)
     chain[row + 1]++;
     refuses_least("least part, operand itself", chain, LENGTH(chain), 0, BAARQIDHO_BAD_OPERAND,
                   BAARQIDHO_MAX_FLOWS - 1);
+}
+
+static void fills(const char *name, uint32_t plan_count, const uint32_t *of, size_t words_len, size_t filled_len)
+{
+    begin(name);
+    number = baarqidho_fill_rates(plan_count, of, words_len, words, filled_len, &flow, &tick, &count);
+}
+
+static void all_of_fill_rates(void)
+{
+    /* An input without a rate, slower 3 of it, input (12, 5), the sum of both, an input without a rate, later 2 of it,
+       and a register of the sum with that for its source. */
+    static const uint32_t open[] = {16, 0, 0, 0, 9,  0, 3, 0, 0, 12, 5, 0, 2, 1,
+                                    2,  0, 16, 0, 0, 0, 10, 4, 2, 0, 7, 9, 3, 5};
+    static const uint32_t filled[] = {0, 4, 5, 0,  9, 0, 3,  0, 0, 12, 5, 0, 2, 1,
+                                      2, 0, 0, 12, 3, 0, 10, 4, 2, 0,  7, 9, 3, 5};
+    uint32_t other[LENGTH(open)];
+    size_t row;
+
+    fills("fill rates", 7, open, LENGTH(open), LENGTH(filled));
+    answers(BAARQIDHO_OK, 0, 0, 7);
+    wrote(NULL, 0, filled, LENGTH(filled));
+    fills("fill rates, more room than it needs", 7, open, LENGTH(open), LENGTH(words));
+    answers(BAARQIDHO_OK, 0, 0, 7);
+    wrote(NULL, 0, filled, LENGTH(filled));
+    fills("fill rates, none to fill in", 7, filled, LENGTH(filled), LENGTH(filled));
+    answers(BAARQIDHO_OK, 0, 0, 7);
+    wrote(NULL, 0, filled, LENGTH(filled));
+    fills("fill rates into too little", 7, open, LENGTH(open), 7 * BAARQIDHO_ROW_WORDS - 1);
+    refuses(BAARQIDHO_OUTPUT_TOO_SHORT, 0);
+    fills("fill rates, count 6", 6, open, LENGTH(open), LENGTH(words));
+    refuses(BAARQIDHO_BAD_COUNT, 0);
+    fills("fill rates, nothing joins", 6, open, 6 * BAARQIDHO_ROW_WORDS, 0);
+    refuses(BAARQIDHO_UNJOINED, 4);
+    fills("fill rates, clocks differ", 3, differing, LENGTH(differing), 0);
+    refuses(BAARQIDHO_CLOCKS_DIFFER, 0);
+    fills("fill rates, period 4158", 4, beyond, LENGTH(beyond), 0);
+    refuses(BAARQIDHO_CLOCKS_DIFFER, 0);
+    fills("fill rates, tail of a sampled flow", 5, sampled, LENGTH(sampled), LENGTH(words));
+    refuses(BAARQIDHO_CLOCKS_DIFFER, 0);
+
+    memcpy(other, open, sizeof open);
+    other[BAARQIDHO_ROW_WORDS + 2] = 5;
+    fills("fill rates, period 12 / 5", 7, other, LENGTH(other), LENGTH(words));
+    refuses(BAARQIDHO_CLOCKS_DIFFER, 0);
+    row = 4 * BAARQIDHO_ROW_WORDS;
+    other[row] = 17;
+    fills("fill rates, kind 17", 7, other, LENGTH(other), LENGTH(words));
+    refuses(BAARQIDHO_UNKNOWN_KIND, 4);
+    other[row] = 16;
+    other[row + 3] = 1;
+    fills("fill rates, unused word", 7, other, LENGTH(other), LENGTH(words));
+    refuses(BAARQIDHO_FIELD_OUT_OF_RANGE, 4);
+    other[row + 3] = 0;
+    other[row + 5] = 5;
+    fills("fill rates, operand itself", 7, other, LENGTH(other), LENGTH(words));
+    refuses(BAARQIDHO_BAD_OPERAND, 5);
 }
 
 int main(void)
@@ -461,5 +542,6 @@ int main(void)
     all_of_listing();
     all_of_load_page();
     all_of_least();
+    all_of_fill_rates();
     return is_wrong;
 }

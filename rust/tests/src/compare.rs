@@ -15,7 +15,7 @@ pub struct Outcome {
     pub parts: Parts,
     /// The buffer of bytes: packed, marks, text or page.
     pub bytes: Vec<u8>,
-    /// The buffer of words: plain words, clocks, values, a least part or its flows.
+    /// The buffer of words: plain words, clocks, values, a least part or its flows, a filled plan.
     pub words: Vec<u32>,
     /// The tallies of a long run.
     pub tallies: Vec<u32>,
@@ -190,6 +190,12 @@ pub fn least_flows(of: &[&Implementation], plan: &Plan, flows_len: usize) -> Out
     compare(&trying(of, plan), lengths(0, flows_len), context, |of, lent| {
         (of.least_flows)(plan.count, &plan.words, lent.words)
     })
+}
+
+/// Fills in the rates of a plan in a buffer of that many words.
+pub fn fill_rates(of: &[&Implementation], plan: &Plan, filled_len: usize) -> Outcome {
+    let context = || format!("rates of {plan:?} into {filled_len} words");
+    compare(of, lengths(0, filled_len), context, |of, lent| (of.fill_rates)(plan.count, &plan.words, lent.words))
 }
 
 /// A run in words, for messages.

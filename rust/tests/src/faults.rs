@@ -4,13 +4,13 @@ use crate::rng::Rng;
 use crate::Plan;
 
 /// The fields of each kind: f a flow, s a source, k copies, p a period or gap, t a phase, delay or tick, v a value.
-pub const FIELDS: [&str; 16] =
-    ["pt", "vpt", "ff", "ff", "ff", "ff", "ff", "vfs", "fkp", "fk", "ft", "fvt", "f", "ff", "ff", "fff"];
+pub const FIELDS: [&str; 17] =
+    ["pt", "vpt", "ff", "ff", "ff", "ff", "ff", "vfs", "fkp", "fk", "ft", "fvt", "f", "ff", "ff", "fff", ""];
 
 /// Plants one to three faults of any kind.
 pub fn plant(rng: &mut Rng, plan: &mut Plan) {
     for _ in 0..rng.pick(&[1, 1, 1, 2, 3]) {
-        match rng.below(15) {
+        match rng.below(16) {
             0 => wrong_kind(rng, plan),
             1 => wrong_field(rng, plan),
             2 => unused_word(rng, plan),
@@ -22,6 +22,7 @@ pub fn plant(rng: &mut Rng, plan: &mut Plan) {
             8 => any_word(rng, plan),
             9 => not_plain(rng, plan),
             10 => fifth_condition(rng, plan),
+            11 => unrated(rng, plan),
             _ => disturb(rng, plan),
         }
     }
@@ -149,6 +150,13 @@ fn fifth_condition(rng: &mut Rng, plan: &mut Plan) {
     }
 }
 
+/// An input without a rate where there was another row.
+fn unrated(rng: &mut Rng, plan: &mut Plan) {
+    if let Some(row) = some_row(rng, plan) {
+        plan.words[row..row + 4].copy_from_slice(&[16, 0, 0, 0]);
+    }
+}
+
 fn swap_rows(rng: &mut Rng, plan: &mut Plan) {
     if let (Some(row), Some(other)) = (some_row(rng, plan), some_row(rng, plan)) {
         for place in 0..4 {
@@ -160,7 +168,7 @@ fn swap_rows(rng: &mut Rng, plan: &mut Plan) {
 fn any_word(rng: &mut Rng, plan: &mut Plan) {
     if !plan.words.is_empty() {
         let place = rng.below(plan.words.len());
-        plan.words[place] = rng.pick(&[0, 1, 2, 3, 7, 8, 12, 13, 14, 15, 63, 64, 4095, 4096, u32::MAX]);
+        plan.words[place] = rng.pick(&[0, 1, 2, 3, 7, 8, 12, 13, 14, 15, 16, 63, 64, 4095, 4096, u32::MAX]);
     }
 }
 
@@ -208,12 +216,14 @@ fn any_operands(rng: &mut Rng, plan: &mut Plan) {
     }
 }
 
-/// Small random rows of any kind: operands mostly lower, numbers small, nothing meant to fit.
+/// Small random rows of any kind: operands mostly lower, numbers small, nothing meant to fit. Few plans have inputs
+/// without a rate.
 pub fn any_rows(rng: &mut Rng) -> Plan {
     let flows = 1 + rng.below(8);
+    let sources: &[u32] = if rng.percent(5) { &[0, 1, 16] } else { &[0, 1] };
     let mut rows = Vec::new();
     for flow in 0..flows {
-        let kind = if flow == 0 || rng.percent(25) { rng.range(0, 1) } else { rng.range(2, 15) };
+        let kind = if flow == 0 || rng.percent(25) { rng.pick(sources) } else { rng.range(2, 15) };
         let mut row = [kind, 0, 0, 0];
         for (word, sort) in row[1..].iter_mut().zip(FIELDS[kind as usize].chars()) {
             *word = match sort {

@@ -87,6 +87,15 @@ pub fn accepted(rng: &mut Rng, shape: Shape) -> (Plan, Vec<Clock>) {
     (Plan::of(&draft.rows), draft.clocks)
 }
 
+/// Erases the rates of some inputs of a plan, each with so many chances out of a hundred: they are of kind 16 then.
+pub fn erase_rates(rng: &mut Rng, plan: &mut Plan, chances: usize) {
+    for row in plan.words.chunks_exact_mut(4) {
+        if row[0] == 0 && rng.percent(chances) {
+            row.copy_from_slice(&[16, 0, 0, 0]);
+        }
+    }
+}
+
 impl Draft<'_> {
     /// A kind to try next; sampling is preferred while it may occur, as merges need pairs.
     fn choose_kind(&mut self, sampling: bool) -> u32 {

@@ -3,7 +3,7 @@
 /// Number, flow, tick and count of an answer.
 pub type Parts = (u32, u32, u32, u32);
 
-/// An implementation of the nine calls.
+/// An implementation of the ten calls.
 #[derive(Debug)]
 pub struct Implementation {
     /// Its name, for messages.
@@ -28,6 +28,8 @@ pub struct Implementation {
     pub least_part: fn(u32, &[u32], &mut [u32]) -> Parts,
     /// Count and words to the flows of the least part.
     pub least_flows: fn(u32, &[u32], &mut [u32]) -> Parts,
+    /// Count and words to words with all rates.
+    pub fill_rates: fn(u32, &[u32], &mut [u32]) -> Parts,
 }
 
 macro_rules! implementation {
@@ -45,6 +47,7 @@ macro_rules! implementation {
             load_page: |count, words, times, page| parts!($krate::load_page(count, words, times, page)),
             least_part: |count, words, part| parts!($krate::least_part(count, words, part)),
             least_flows: |count, words, flows| parts!($krate::least_flows(count, words, flows)),
+            fill_rates: |count, words, filled| parts!($krate::fill_rates(count, words, filled)),
         }
     };
 }

@@ -152,4 +152,7 @@ pub static C: Implementation = Implementation {
     least_flows: |count, words, flows| {
         Request::new(b'n').number(count).words(words).words(flows).answer(&mut [], [flows])
     },
+    fill_rates: |count, words, filled| {
+        Request::new(b'f').number(count).words(words).words(filled).answer(&mut [], [filled])
+    },
 };

@@ -1,11 +1,13 @@
 //! Demand 3 on random plans: check and run share one calendar.
 
-use tests::compare::{check, run_exactly, Outcome};
+use tests::compare::{check, fill_rates, run_exactly, Outcome};
 use tests::faults::{any_rows, disturb, plant};
 use tests::generate::{accepted, Shape};
 use tests::implementation::{Implementation, ALL, LIBRARY, QUICK};
 use tests::rng::Rng;
 use tests::{rounds, Plan};
+
+use crate::rates::erased;
 
 /// Whether a flow has to have a value at a tick: its clock words, the conditions read from that tick's cells.
 fn on_calendar(clock: &[u32], trace: &Outcome, flows: usize, tick: usize) -> bool {
@@ -63,6 +65,27 @@ fn marks_are_the_calendar_long() {
         let (plan, _) = accepted(&mut rng, shape);
         assert!(first_half(&mut rng, &QUICK, &plan, 8_191));
     }
+}
+
+/// The calendar is about filled plans: one that lacks rates is refused by check and run, and filled in it is on it.
+#[test]
+fn marks_are_the_calendar_of_filled_plans() {
+    let mut rng = Rng::new(54);
+    let (mut lacking, plans) = (0, rounds(10_000));
+    for _ in 0..plans {
+        let (_, plan) = erased(&mut rng, 16);
+        let first = plan.words.chunks(4).position(|row| row[0] == 16);
+        if let Some(row) = first {
+            let refusal = (13, row as u32, 0, 0);
+            assert_eq!(check(&[&LIBRARY], &plan, 7 * 64).parts, refusal, "{plan:?}");
+            assert_eq!(run_exactly(&[&LIBRARY], &plan, &[], 0).parts, refusal, "{plan:?}");
+            lacking += 1;
+        }
+        let outcome = fill_rates(&[&LIBRARY], &plan, plan.words.len());
+        let filled = Plan { count: plan.count, words: outcome.words[..plan.words.len()].to_vec() };
+        assert!(first_half(&mut rng, &[&LIBRARY], &filled, 40), "{plan:?}");
+    }
+    assert!(lacking > plans / 4, "{lacking} of {plans}");
 }
 
 /// A plan without sampling and merging that the check answers by 0 or 21: accepted exactly when a run of 8,191 ticks

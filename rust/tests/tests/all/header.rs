@@ -1,4 +1,4 @@
-//! The C header: its constants and numbers, its nine calls, and its example.
+//! The C header: its constants and numbers, its ten calls, and its example.
 
 use std::io::Write;
 use std::path::Path;
@@ -40,7 +40,8 @@ fn constants_agree() {
 fn names_of_parameters() {
     let calls = declarations();
     let names: Vec<&str> = calls.iter().map(|call| &call.0[..]).collect();
-    let expected = ["read", "write", "check", "run", "long_run", "listing", "load_page", "least_part", "least_flows"];
+    let plain = ["read", "write", "check", "run", "long_run", "listing"];
+    let expected = [&plain[..], &["load_page", "least_part", "least_flows", "fill_rates"]].concat();
     assert_eq!(names, expected);
     for (call, names) in calls {
         assert!(names.ends_with(&["flow", "tick", "count"].map(String::from)), "{call}: {names:?}");
@@ -80,7 +81,7 @@ fn numbers_from_cpp() {
     printed(&compiled(&["c++", "-x", "c++", "-std=c++11"], "rust/tests/c/numbers.c"));
 }
 
-/// All nine calls on random plans, faults and damaged bytes: C has every part and every cell that Rust has.
+/// All ten calls on random plans, faults and damaged bytes: C has every part and every cell that Rust has.
 #[test]
 fn calls_from_c() {
     mixture(Rng::new(81), &[&LIBRARY, &C], rounds(10_000));

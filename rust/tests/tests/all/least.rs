@@ -220,6 +220,7 @@ fn order_of_refusals() {
     for rows in [[at(1, 0), at(2, 0), [2, 0, 1, 0]], [at(1, 0), at(2, 0), [2, 0, 0, 0]], beyond] {
         let with = |row: [u32; 4]| Plan::of(&[&rows[..], &[row]].concat());
         refused(&with([16, 0, 0, 0]), 13, 3);
+        refused(&with([17, 0, 0, 0]), 13, 3);
         refused(&with([9, 0, 64, 0]), 14, 3);
         refused(&with([12, 3, 0, 0]), 15, 3);
         refused(&with([7, 0, 0, 4]), 15, 3);

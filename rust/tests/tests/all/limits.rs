@@ -1,7 +1,9 @@
 //! Every limit, and one past it.
 
-use tests::compare::{check, least_flows, least_part, listing, load_page, long_run, read, run, run_exactly, write};
-use tests::compare::{written_up_to, Lengths, Outcome};
+use tests::compare::{
+    check, fill_rates, least_flows, least_part, listing, load_page, long_run, read, run, run_exactly,
+};
+use tests::compare::{write, written_up_to, Lengths, Outcome};
 use tests::implementation::{Parts, ALL, QUICK};
 use tests::rng::Rng;
 use tests::{Plan, LISTING_MAX};
@@ -17,7 +19,7 @@ fn without_times(plan: &Plan) -> Outcome {
 }
 
 /// What the check answers. A long run and a load page hand on its refusal; the least part is refused by 38, or for its
-/// room where the answer is 21.
+/// room where the answer is 21; filling in rates, of which none is missing, by 21, or for its room.
 fn checked(rows: &[[u32; 4]]) -> Parts {
     let plan = Plan::of(rows);
     let parts = check(&ALL, &plan, 7 * rows.len()).parts;
@@ -27,19 +29,35 @@ fn checked(rows: &[[u32; 4]]) -> Parts {
     for outcome in [least_part(&ALL, &plan, 0), least_flows(&ALL, &plan, 0)] {
         assert_eq!(outcome.parts, (if parts.0 == 21 { 10 } else { 38 }, 0, 0, 0), "{rows:?}");
     }
+    assert_eq!(fill_rates(&ALL, &plan, 0).parts, (if parts.0 == 0 { 10 } else { 21 }, 0, 0, 0), "{rows:?}");
     parts
 }
 
-/// Write, check, run, long run, load page and least part refuse a plain table alike, by number and row, and touch
-/// nothing.
-fn refused_plan(plan: &Plan, number: u32, row: u32) {
-    let run = run(&ALL, plan, &[1, 2], 2, (9, 8));
-    let page = load_page(&ALL, plan, &[1, 2], 1_690);
-    let [part, flows] = [least_part(&ALL, plan, 0), least_flows(&ALL, plan, 64)];
-    for outcome in [write(&ALL, plan, 489), check(&ALL, plan, 489), run, without_buffers(plan), page, part, flows] {
+/// All of them refuse a plan by number and row, and touch nothing.
+fn all_refuse<const N: usize>(outcomes: [Outcome; N], plan: &Plan, number: u32, row: u32) {
+    for outcome in outcomes {
         assert_eq!(outcome.parts, (number, row, 0, 0), "{plan:?}");
         assert!(outcome.is_untouched(), "{plan:?}");
     }
+}
+
+/// Check, run, long run, load page and least part refuse a plain table alike.
+fn refused_by_check(plan: &Plan, number: u32, row: u32) {
+    let run = run(&ALL, plan, &[1, 2], 2, (9, 8));
+    let page = load_page(&ALL, plan, &[1, 2], 1_690);
+    let [part, flows] = [least_part(&ALL, plan, 0), least_flows(&ALL, plan, 64)];
+    all_refuse([check(&ALL, plan, 489), run, without_buffers(plan), page, part, flows], plan, number, row);
+}
+
+/// Write and filling in rates, which know one kind more, refuse a plain table alike.
+fn refused_by_write(plan: &Plan, number: u32, row: u32) {
+    all_refuse([write(&ALL, plan, 489), fill_rates(&ALL, plan, 0), fill_rates(&ALL, plan, 489)], plan, number, row);
+}
+
+/// All of them refuse a plain table alike.
+fn refused_plan(plan: &Plan, number: u32, row: u32) {
+    refused_by_check(plan, number, row);
+    refused_by_write(plan, number, row);
 }
 
 /// The same of rows.
@@ -99,9 +117,50 @@ fn ranges_of_fields() {
             }
         }
     }
-    refused(&[[16, 0, 0, 0]], 13, 0);
-    refused(&[base, [16, 0, 0, 0]], 13, 1);
+    refused(&[[17, 0, 0, 0]], 13, 0);
+    refused(&[base, [17, 0, 0, 0]], 13, 1);
     refused(&[base, [u32::MAX, 1, 1, 1]], 13, 1);
+}
+
+/// An input without a rate is a row to write, read and fill in. All others refuse it in row order, before its words are
+/// looked at and before anything is looked at that comes after the rows.
+#[test]
+fn inputs_without_a_rate() {
+    let (base, open, slower) = ([0, 1, 0, 0], [16, 0, 0, 0], [9, 0, 2, 0]);
+    for (rows, row) in [
+        (vec![open], 0),
+        (vec![base, open], 1),
+        (vec![open, base, open], 0),
+        (vec![base, slower, open, [2, 1, 2, 0]], 2),
+        (vec![base; 63].into_iter().chain([open]).collect(), 63),
+        (vec![open; 64], 0),
+    ] {
+        is_table(&rows);
+        let plan = Plan::of(&rows);
+        refused_by_check(&plan, 13, row);
+        all_refuse([check(&ALL, &plan, 0), run(&ALL, &plan, &[], 65_536, (0, 0))], &plan, 13, row);
+        let written = write(&ALL, &plan, 489);
+        let listed = listing(&ALL, &written.bytes[..written.parts.3 as usize], LISTING_MAX);
+        let text = format!("no 13 {row}\n");
+        assert_eq!((listed.parts, &listed.bytes[..text.len()]), ((0, 0, 0, text.len() as u32), text.as_bytes()));
+    }
+    // A word that has to be 0.
+    for row in [[16, 1, 0, 0], [16, 0, 1, 0], [16, 0, 0, 1], [16, u32::MAX, 0, 0], [16, 1, 1, 0]] {
+        let plan = Plan::of(&[base, row]);
+        refused_by_check(&plan, 13, 1);
+        refused_by_write(&plan, 14, 1);
+    }
+    // Other causes before it, and behind it.
+    for (wrong, number) in [([9, 0, 64, 0], 14), ([12, 3, 0, 0], 15), ([7, 0, 0, 6], 15), ([17, 0, 0, 0], 13)] {
+        refused(&[base, base, base, wrong, base, open], number, 3);
+        let plan = Plan::of(&[base, base, open, wrong, base, base]);
+        refused_by_check(&plan, 13, 2);
+        refused_by_write(&plan, number, 3);
+    }
+    refused_plan(&Plan { count: 2, words: open.to_vec() }, 11, 0);
+    refused_plan(&Plan::of(&[open; 65]), 11, 0);
+    // Clocks that differ come after all rows.
+    refused_by_check(&Plan::of(&[base, slower, [2, 0, 1, 0], open]), 13, 3);
 }
 
 #[test]
@@ -127,7 +186,7 @@ fn operands_and_sources() {
     refused(&[base, [7, 0, 0, 63], base], 15, 1);
     // A field outside its range comes before an operand that is not lower, a lower row before both.
     refused(&[base, [8, 1, 0, 1]], 14, 1);
-    refused(&[base, [2, 1, 0, 0], [16, 0, 0, 0]], 15, 1);
+    refused(&[base, [2, 1, 0, 0], [17, 0, 0, 0]], 15, 1);
 }
 
 #[test]

@@ -2,6 +2,7 @@
 
 use tests::compare::{check, listing, read, write};
 use tests::faults::damage;
+use tests::generate::erase_rates;
 use tests::implementation::{Implementation, ALL};
 use tests::rng::Rng;
 use tests::tally::Tally;
@@ -28,9 +29,12 @@ pub fn read_and_back(rng: &mut Rng, of: &[&Implementation], packed: &[u8], tally
     assert_eq!(&written.bytes[..packed.len()], packed);
 }
 
-/// The packed bytes of a sound plan.
+/// The packed bytes of a sound plan, now and then with some rates erased.
 pub fn packed(rng: &mut Rng) -> Vec<u8> {
-    let (plan, _) = sound(rng);
+    let (mut plan, _) = sound(rng);
+    if rng.percent(15) {
+        erase_rates(rng, &mut plan, 60);
+    }
     let written = write(&ALL[..1], &plan, 520);
     written.bytes[..written.parts.3 as usize].to_vec()
 }
@@ -89,8 +93,8 @@ fn every_cut_and_every_bit() {
     assert!(tally.count("read", 16) > 0, "{tally}");
 }
 
-/// The bits of a packed row, kinds 0 to 15.
-const LENGTHS: [usize; 16] = [29, 61, 17, 17, 17, 17, 17, 49, 29, 17, 23, 55, 11, 17, 17, 23];
+/// The bits of a packed row, kinds 0 to 16.
+const LENGTHS: [usize; 17] = [29, 61, 17, 17, 17, 17, 17, 49, 29, 17, 23, 55, 11, 17, 17, 23, 5];
 
 /// A row of each kind behind 0 to 15 inputs, that is at each place of a byte, within the first eight bytes and past
 /// them; every field with each number next to a limit of some field. What is accepted has the length of its kind, is
@@ -99,9 +103,9 @@ const LENGTHS: [usize; 16] = [29, 61, 17, 17, 17, 17, 17, 49, 29, 17, 23, 55, 11
 fn every_kind_at_every_place() {
     let mut rng = Rng::new(14);
     let mut tally = Tally::default();
-    let mut accepted = [0; 16];
+    let mut accepted = [0; 17];
     let numbers = [0, 1, 63, 64, 4095, 4096, u32::MAX];
-    for (kind, inputs) in (0..16).flat_map(|kind| (0..16).map(move |inputs| (kind, inputs))) {
+    for (kind, inputs) in (0..17).flat_map(|kind| (0..16).map(move |inputs| (kind, inputs))) {
         for choice in 0..numbers.len().pow(3) {
             let field = |place: u32| numbers[choice / numbers.len().pow(place) % numbers.len()];
             let mut rows = vec![[0, 4095, 4095, 0]; inputs];
@@ -124,5 +128,40 @@ fn every_kind_at_every_place() {
     assert!(accepted.iter().all(|&plans| plans >= 15), "each kind is accepted at each place: {accepted:?}");
     for number in [14, 15] {
         assert!(tally.count("write", number) > 0, "number {number} occurs: {tally}");
+    }
+}
+
+/// Inputs without a rate, five bits each: tables of nothing else, of every length; and some of them before, between and
+/// behind two rows of each kind, at each place of a byte.
+#[test]
+fn rows_of_five_bits() {
+    let mut rng = Rng::new(15);
+    let mut tally = Tally::default();
+    let open = [16, 0, 0, 0];
+    for count in 1..=64 {
+        let written = write(&ALL, &Plan::of(&vec![open; count]), 489);
+        let bytes = (8 + 5 * count).div_ceil(8);
+        assert_eq!(written.parts, (0, 0, 0, bytes as u32));
+        read_and_back(&mut rng, &ALL, &written.bytes[..bytes], &mut tally);
+    }
+    for (kind, length) in LENGTHS.into_iter().enumerate() {
+        let row = match kind as u32 {
+            0 => [0, 4095, 4095, 0],
+            1 => [1, u32::MAX, 4095, 4095],
+            7 => [7, u32::MAX, 0, 0],
+            8 => [8, 0, 63, 4095],
+            9 => [9, 0, 63, 0],
+            11 => [11, 0, u32::MAX, 4095],
+            kind => [kind, 0, 0, 0],
+        };
+        for (before, between, behind) in (1..10).flat_map(|m| (0..9).flat_map(move |n| [(m, n, 0), (m, n, 1)])) {
+            let rows = [&vec![open; before][..], &[row], &vec![open; between], &[row], &vec![open; behind]].concat();
+            let written = write(&ALL, &Plan::of(&rows), 489);
+            let bytes = (8 + 2 * length + 5 * (before + between + behind)).div_ceil(8);
+            assert_eq!(written.parts, (0, 0, 0, bytes as u32), "{rows:?}");
+            read_and_back(&mut rng, &ALL, &written.bytes[..bytes], &mut tally);
+            let cut = read(&ALL, &written.bytes[..bytes - 1], 256);
+            assert_eq!(cut.parts.0, 12, "{rows:?}");
+        }
     }
 }

@@ -192,6 +192,7 @@ fn order_of_refusals() {
     // For three flows: both right, one of them wrong, and both wrong.
     for (times, page_len) in [(3, 200), (3, 103), (2, 200), (4, 200), (0, 0), (65, 0)] {
         refused(&[&differ[..], &[[16, 0, 0, 0]]].concat(), times, page_len, (13, 3, 0, 0));
+        refused(&[&differ[..], &[[17, 0, 0, 0]]].concat(), times, page_len, (13, 3, 0, 0));
         refused(&[&differ[..], &[[9, 0, 64, 0]]].concat(), times, page_len, (14, 3, 0, 0));
         refused(&[&differ[..], &[[12, 3, 0, 0]]].concat(), times, page_len, (15, 3, 0, 0));
         refused(&[], times, page_len, (11, 0, 0, 0));

@@ -202,7 +202,7 @@ impl Seen {
 }
 
 /// Makes every plan of `count` rows, those of each flow being given, and tries it.
-fn every_plan(
+pub fn every_plan(
     count: u32,
     rows_of: fn(u32, u32) -> Vec<[u32; 4]>,
     rows: &mut Vec<[u32; 4]>,

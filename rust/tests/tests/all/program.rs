@@ -165,6 +165,13 @@ fn lengths_of_input() {
     }
 }
 
+/// A table with an input without a rate can be read, and is refused by the check.
+#[test]
+fn an_input_without_a_rate() {
+    let packed = Plan::new([0, 10, 0, 0, 16, 0, 0, 0]).to_packed().expect("a table");
+    assert_eq!(listed([&packed[..]], Duration::ZERO), "no 13 1\n");
+}
+
 /// Random tables, every second one damaged: the program lists what the library lists.
 #[test]
 fn random_tables() {

@@ -1,9 +1,9 @@
 //! Many plans with short runs: all calls of all implementations, every cell compared.
 
-use tests::compare::{check, least_flows, least_part, listing, load_page, long_run, page_bytes, read, run, window};
-use tests::compare::{write, Lengths};
+use tests::compare::{check, fill_rates, least_flows, least_part, listing, load_page, long_run, page_bytes, read};
+use tests::compare::{run, window, write, Lengths};
 use tests::faults::{any_rows, disturb, plant};
-use tests::generate::{accepted, Clock, Shape};
+use tests::generate::{accepted, erase_rates, Clock, Shape};
 use tests::implementation::{Implementation, ALL};
 use tests::rng::Rng;
 use tests::tally::Tally;
@@ -33,6 +33,7 @@ pub fn every_call(rng: &mut Rng, of: &[&Implementation], plan: &Plan, tally: &mu
     short_long_run(rng, of, plan, tally);
     page(rng, of, plan, tally);
     least(rng, of, plan, tally);
+    fill(rng, of, plan, tally);
 
     let written = write(of, plan, 520);
     tally.add("write", written.parts.0);
@@ -104,6 +105,16 @@ fn least(rng: &mut Rng, of: &[&Implementation], plan: &Plan, tally: &mut Tally) 
     let numbers = least_flows(of, plan, rng.around(flows));
     tally.add("least flows", numbers.parts.0);
     assert!(numbers.parts.0 == 0 || numbers.is_untouched());
+}
+
+/// Rates filled in, some of the plan's own erased before, the room now and then too little.
+fn fill(rng: &mut Rng, of: &[&Implementation], plan: &Plan, tally: &mut Tally) {
+    let mut plan = plan.clone();
+    let chances = rng.pick(&[0, 30, 60, 100]);
+    erase_rates(rng, &mut plan, chances);
+    let outcome = fill_rates(of, &plan, rng.around(plan.words.len()));
+    tally.add("fill rates", outcome.parts.0);
+    assert!(outcome.parts.0 == 0 || outcome.is_untouched());
 }
 
 /// Sound plans: accepted with the clocks that they were made to have, read back as written, and never a clash.

@@ -199,6 +199,7 @@ fn order_of_refusals() {
     let none = Lengths::default();
     let differ = [input, [0, 2, 0, 0], [2, 0, 1, 0]];
     refused(&[&differ[..], &[[16, 0, 0, 0]]].concat(), 0, u32::MAX, none, (13, 3, 0, 0));
+    refused(&[&differ[..], &[[17, 0, 0, 0]]].concat(), 0, u32::MAX, none, (13, 3, 0, 0));
     refused(&[&differ[..], &[[9, 0, 64, 0]]].concat(), 0, u32::MAX, none, (14, 3, 0, 0));
     refused(&[&differ[..], &[[12, 3, 0, 0]]].concat(), 0, u32::MAX, none, (15, 3, 0, 0));
     refused(&[], 0, u32::MAX, none, (11, 0, 0, 0));

@@ -3,9 +3,10 @@
 use std::error::Error;
 
 use baarqidho::{list, Answer, Clash, LongRun, Plan, Refusal, Row, RunError};
-use tests::compare::{least_flows, least_part, load_page_exactly, long_run_exactly, run_exactly, written_up_to};
-use tests::compare::{words_are, Outcome};
+use tests::compare::{fill_rates, least_flows, least_part, load_page_exactly, long_run_exactly, run_exactly};
+use tests::compare::{words_are, written_up_to, Outcome};
 use tests::faults::any_rows;
+use tests::generate::erase_rates;
 use tests::implementation::LIBRARY;
 use tests::rng::Rng;
 use tests::rounds;
@@ -58,6 +59,7 @@ fn rows_and_words() {
         (Row::When { a: 1, c: 2 }, [13, 1, 2, 0]),
         (Row::WhenNot { a: 1, c: 2 }, [14, 1, 2, 0]),
         (Row::Merge { c: 1, a: 2, b: 3 }, [15, 1, 2, 3]),
+        (Row::Unrated, [16, 0, 0, 0]),
     ];
     for (row, words) in rows {
         assert_eq!(row.words(), words);
@@ -69,7 +71,7 @@ fn rows_and_words() {
             assert_eq!(Row::from_words(words), None, "{words:?}");
         }
     }
-    assert_eq!(Row::from_words([16, 0, 0, 0]), None);
+    assert_eq!(Row::from_words([17, 0, 0, 0]), None);
     let plan: Plan = rows.iter().map(|(row, _)| *row).collect();
     assert_eq!(plan.words(), rows.map(|(_, words)| words).concat());
     assert_eq!(plan.rows().collect::<Option<Vec<Row>>>(), Some(rows.map(|(row, _)| row).to_vec()));
@@ -339,6 +341,71 @@ fn least_parts_of_random_plans() {
 }
 
 #[test]
+fn filled_plans() {
+    let rows = [Row::Unrated, Row::Input { period: 4, phase: 2 }, Row::When { a: 0, c: 1 }, Row::Unrated];
+    let plan = Plan::from_rows(
+        rows.into_iter().chain([Row::Later { a: 3, d: 2 }, Row::Register { initial: 7, beat: 4, source: 1 }]),
+    );
+    assert_eq!((plan.flows(), plan.inputs()), (6, 1));
+    assert_eq!(Plan::from_packed(&plan.to_packed().expect("a table")).expect("packed just now"), plan);
+    assert_eq!(plan.clocks(), Err(Refusal::UnknownKind { row: 0 }));
+    let filled = plan.fill_rates().expect("one filling");
+    assert_eq!(filled.inputs(), 3);
+    assert_eq!(filled.rows().next(), Some(Some(Row::Input { period: 4, phase: 2 })));
+    assert_eq!(filled.rows().nth(3), Some(Some(Row::Input { period: 4, phase: 0 })));
+    assert_eq!(filled.words()[4..12], plan.words()[4..12]);
+    assert_eq!(filled.words()[16..], plan.words()[16..]);
+    assert_eq!(filled.fill_rates(), Ok(filled.clone()));
+    assert_eq!(filled.clocks().expect("accepted")[5].to_string(), "4 2 -");
+}
+
+#[test]
+fn errors_of_filling() {
+    let open = [16, 0, 0, 0];
+    assert_eq!(Plan::from_rows([Row::Unrated]).fill_rates(), Err(Refusal::Unjoined { flow: 0 }));
+    assert_eq!(Plan::new([[0, 1, 0, 0], open].concat()).fill_rates(), Err(Refusal::Unjoined { flow: 1 }));
+    let differing = Plan::new([0, 10, 0, 0, 0, 20, 0, 0, 2, 0, 1, 0]);
+    assert_eq!(differing.fill_rates(), Err(Refusal::ClocksDiffer { flow: 0 }));
+    assert_eq!(Plan::new([0; 4 * 65]).fill_rates(), Err(Refusal::BadCount));
+    assert_eq!(Plan::new([]).fill_rates(), Err(Refusal::BadCount));
+    assert_eq!(Plan::new([16, 0, 0]).fill_rates(), Err(Refusal::BadCount));
+    assert_eq!(Plan::new([[0, 1, 0, 0], [17, 0, 0, 0]].concat()).fill_rates(), Err(Refusal::UnknownKind { row: 1 }));
+    assert_eq!(
+        Plan::new([[0, 1, 0, 0], [16, 0, 0, 1]].concat()).fill_rates(),
+        Err(Refusal::FieldOutOfRange { row: 1 })
+    );
+    assert_eq!(Plan::new([open, [12, 1, 0, 0]].concat()).fill_rates(), Err(Refusal::BadOperand { row: 1 }));
+    let short = baarqidho::fill_rates(1, &[0, 1, 0, 0], &mut [0; 3]);
+    assert_eq!(short.result(), Err(Refusal::OutputTooShort));
+    let text = "flow 3: no chain joins it to an input or constant that has a rate (39)";
+    assert_eq!(Refusal::Unjoined { flow: 3 }.to_string(), text);
+    let text = "row 2: the kind is above 16, or 16 where rates have to be written (13)";
+    assert_eq!(Refusal::UnknownKind { row: 2 }.to_string(), text);
+}
+
+#[test]
+fn filled_random_plans() {
+    let mut rng = Rng::new(99);
+    let (mut filled, plans) = (0, rounds(5_000));
+    for round in 0..plans {
+        let mut plan = if round % 2 == 0 { any_rows(&mut rng) } else { faulty(&mut rng) };
+        plan.count = plan.words.len() as u32 / 4;
+        erase_rates(&mut rng, &mut plan, 30);
+        let outcome = fill_rates(&[&LIBRARY], &plan, plan.words.len());
+        let (number, flow, tick, count) = outcome.parts;
+        match Plan::new(&plan.words[..]).fill_rates() {
+            Ok(plan) => {
+                assert_eq!((number, plan.flows()), (0, count as usize), "{plan:?}");
+                assert!(words_are(&outcome, plan.words()), "{plan:?}");
+                filled += 1;
+            }
+            Err(refusal) => assert_eq!(Err(refusal), Answer { number, flow, tick, count }.result(), "{plan:?}"),
+        }
+    }
+    assert!(filled > plans / 10, "{filled}");
+}
+
+#[test]
 fn errors_of_a_run() {
     let plan = Plan::new([0, 10, 0, 0, 0, 20, 0, 0, 2, 0, 1, 0]);
     let error = plan.run(&[0; 22], 11).expect_err("a clash");
@@ -357,7 +424,7 @@ fn errors_of_a_run() {
 #[test]
 fn numbers_and_refusals() {
     let mut meanings = Vec::new();
-    for number in (10..=16).chain(21..=23).chain(31..=38) {
+    for number in (10..=16).chain(21..=23).chain(31..=39) {
         let refusal = Answer { number, flow: 3, tick: 5, count: 0 }.result().expect_err("a refusal");
         assert_eq!(refusal.number(), number);
         assert!(!matches!(refusal, Refusal::Other { .. }));
