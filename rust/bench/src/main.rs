@@ -1,8 +1,8 @@
 //! The proved library against Rust, in one process and on the same input. The run is measured against two others: the
 //! same algorithm in safe Rust (`peer::mirror`), and a quick run with rows made ready beforehand (`peer::run`). The
 //! long run is measured against the long runs of both, and against the library's run of the same ticks. Check, write,
-//! read, load page and least part are measured against the quick implementation, the least part over plans whose last
-//! row is one that clashes.
+//! read, load page, least part and rates filled in are measured against the quick implementation, the least part over
+//! plans whose last row is one that clashes, rates filled in over plans that lack them.
 //!
 //!     cargo run --release -p bench
 //!
@@ -19,7 +19,8 @@
 //! `bench call CALL PLAN FLOWS CALLS` makes one call of the library so many times and nothing else that depends on how
 //! many, so that the instructions of a call are the difference between two counts of calls, divided by the calls
 //! between them, here 1,000. CALL is check, write, read, listing, page (the load page), least (the least part) or flows
-//! (the numbers of its flows), the last two over at least two flows:
+//! (the numbers of its flows), the last two over at least two flows, or fill (rates filled in). For write, read and fill
+//! PLAN may also be unrated (all inputs but one) or upward (an input under a long chain), of at least three flows:
 //!
 //!     valgrind --tool=callgrind --callgrind-out-file=/dev/null target/release/bench call page mixed 64 1000
 //!     valgrind --tool=callgrind --callgrind-out-file=/dev/null target/release/bench call page mixed 64 2000
@@ -32,7 +33,7 @@ mod tables;
 use std::env;
 use std::process::ExitCode;
 
-use plans::{mixed, sparse, sums, Plan};
+use plans::{mixed, sparse, sums, unrated, upward, Plan};
 use runs::{LONG, LONG_AND_PLAIN, RUNS};
 
 /// As many ticks as a run may have, and a long run.
@@ -81,6 +82,12 @@ fn report() {
         tables::table(&mixed(flows));
         tables::table(&sums(flows));
     }
+
+    tables::heading("Rates filled in, a call");
+    for flows in [4, 16, 64] {
+        tables::fill(&unrated(flows));
+        tables::fill(&upward(flows));
+    }
 }
 
 /// The plan of a name with so many flows.
@@ -90,6 +97,8 @@ fn plan(name: &str, flows: &str) -> Option<Plan> {
         "mixed" => mixed(flows),
         "sparse" => sparse(flows),
         "sums" => sums(flows),
+        "unrated" if flows >= 3 => unrated(flows),
+        "upward" if flows >= 3 => upward(flows),
         _ => return None,
     })
 }
@@ -113,7 +122,7 @@ fn main() -> ExitCode {
     } else if one(&arguments).is_none() {
         let (runs, calls) = (runs::names().join("|"), tables::names().join("|"));
         eprintln!("bench, or bench run mixed|sparse|sums FLOWS TICKS {runs}");
-        eprintln!("or bench call {calls} mixed|sparse|sums FLOWS CALLS");
+        eprintln!("or bench call {calls} mixed|sparse|sums|unrated|upward FLOWS CALLS");
         return ExitCode::FAILURE;
     }
     ExitCode::SUCCESS

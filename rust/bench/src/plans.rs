@@ -1,5 +1,8 @@
 //! The plans that are measured, and a log and worst times for them.
 
+/// The row of an input without a rate.
+const UNRATED: [u32; 4] = [16, 0, 0, 0];
+
 /// A plan in plain form.
 pub struct Plan {
     /// What it is called.
@@ -80,6 +83,25 @@ fn blocks(name: &'static str, flows: usize, period: u32) -> Plan {
         ]);
     }
     Plan::new(name, &rows[..flows])
+}
+
+/// One rated input, as many without a rate as there are rows to join them, and those: sums of each with the one before.
+pub fn unrated(flows: usize) -> Plan {
+    let mut rows = vec![[0, 12, 5, 0]];
+    let inputs = flows.div_ceil(2) as u32;
+    rows.extend((1..inputs).map(|_| UNRATED));
+    rows.extend((inputs..flows as u32).map(|flow| [2, (flow - inputs + 1).min(inputs - 1), flow - inputs, 0]));
+    Plan::new("unrated", &rows)
+}
+
+/// An input without a rate, a chain of rows over it, and a sum of the last with a rated input: the chain has to be gone
+/// upwards. Up to three flows are the sum's alone.
+pub fn upward(flows: usize) -> Plan {
+    let rows_of_chain = flows.saturating_sub(3) as u32;
+    let mut rows = vec![UNRATED];
+    rows.extend((0..rows_of_chain).map(|before| [10, before, 2, 0]));
+    rows.extend([[0, 12, 2 * rows_of_chain, 0], [2, rows_of_chain, rows_of_chain + 1, 0]]);
+    Plan::new("upward", &rows)
 }
 
 /// One input, and sums over it and the flow before.

@@ -1,5 +1,5 @@
-//! Check, write, read, load page and least part: library and quick implementation. The library's calls, with the
-//! listing and the least part's flows, so many times.
+//! Check, write, read, load page, least part and rates filled in: library and quick implementation. The library's
+//! calls, with the listing and the least part's flows, so many times.
 
 use std::hint::black_box;
 
@@ -65,7 +65,7 @@ macro_rules! call {
     };
 }
 
-/// The calls that are measured, the last one over the plan that clashes.
+/// The calls that are measured on every plan, the last one over the plan that clashes.
 const MEASURED: [Call; 5] = [
     call!("check", check, |given, lent| (given.count, given.words, &mut lent.words)),
     call!("write", write, |given, lent| (given.count, given.words, &mut lent.bytes)),
@@ -74,15 +74,18 @@ const MEASURED: [Call; 5] = [
     call!("least", least_part, |given, lent| (given.count, &given.clashing, &mut lent.words)),
 ];
 
+/// Rates filled in, which is measured on plans that lack some.
+const FILL: Call = call!("fill", fill_rates, |given, lent| (given.count, given.words, &mut lent.words));
+
 /// The listing, and the flows of the least part.
 const OTHERS: [Call; 2] = [
     call!("listing", listing, |given, lent| (&given.packed, &mut lent.bytes)),
     call!("flows", least_flows, |given, lent| (given.count, &given.clashing, &mut lent.words)),
 ];
 
-/// The calls of [`MEASURED`] and [`OTHERS`].
+/// The calls of [`MEASURED`], [`FILL`] and those of [`OTHERS`].
 fn all() -> impl Iterator<Item = Call> {
-    MEASURED.into_iter().chain(OTHERS)
+    MEASURED.into_iter().chain([FILL]).chain(OTHERS)
 }
 
 /// The names of all calls.
@@ -113,8 +116,18 @@ fn many(calls: u32, count: u32, make: Make, given: &Given, lent: &mut Lent) {
 /// Measures check, write, read, load page and least part of one plan; both give the same clocks, bytes, words and text.
 /// One flow has no least part.
 pub fn table(plan: &Plan) {
+    calls(plan, MEASURED);
+}
+
+/// Measures rates filled in of one plan; both give the same words.
+pub fn fill(plan: &Plan) {
+    calls(plan, [FILL]);
+}
+
+/// Measures calls of one plan.
+fn calls<const N: usize>(plan: &Plan, calls: [Call; N]) {
     let (given, mut lent, mut quick_lent) = (Given::new(plan), Lent::new(), Lent::new());
-    for Call { name, library, quick } in MEASURED {
+    for Call { name, library, quick } in calls {
         let (number, count) = library(&given, &mut lent);
         if number == 38 {
             continue;
