@@ -219,17 +219,23 @@ pub fn every_plan(
     }
 }
 
+/// All rows of several flows, `a` being one of them: registers, sums, sampling and merges.
+pub fn of_several(a: u32, flow: u32, count: u32) -> Vec<[u32; 4]> {
+    let mut rows: Vec<[u32; 4]> = (0..count).map(|source| [7, 5, a, source]).collect();
+    for b in 0..flow {
+        rows.extend([[2, a, b, 0], [13, a, b, 0], [14, a, b, 0]]);
+        rows.extend((0..flow).map(|c| [15, c, a, b]));
+    }
+    rows
+}
+
 /// All rows over lower flows, with two inputs and one choice of copies, gaps, delays and ticks: 21, 22 and 23 are all
 /// within reach of few of them.
 fn any_kind(flow: u32, count: u32) -> Vec<[u32; 4]> {
     let mut rows = vec![[0, 1, 0, 0], [0, 2, 2, 0]];
     for a in 0..flow {
         rows.extend([[8, a, 2, 1], [9, a, 2, 0], [10, a, 4094, 0], [11, a, 9, 0], [12, a, 0, 0]]);
-        rows.extend((0..count).map(|source| [7, 5, a, source]));
-        for b in 0..flow {
-            rows.extend([[2, a, b, 0], [13, a, b, 0], [14, a, b, 0]]);
-            rows.extend((0..flow).map(|c| [15, c, a, b]));
-        }
+        rows.extend(of_several(a, flow, count));
     }
     rows
 }

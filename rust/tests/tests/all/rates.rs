@@ -10,7 +10,7 @@ use tests::rng::Rng;
 use tests::tally::Tally;
 use tests::{rounds, Plan};
 
-use crate::parts::every_plan;
+use crate::parts::{every_plan, of_several};
 
 /// An input without a rate.
 const OPEN: [u32; 4] = [16, 0, 0, 0];
@@ -177,11 +177,7 @@ fn any_kind(flow: u32, count: u32) -> Vec<[u32; 4]> {
     for a in 0..flow {
         rows.extend([[8, a, 2, 1], [8, a, 2, 2], [9, a, 2, 0], [9, a, 63, 0]]);
         rows.extend([[10, a, 1, 0], [10, a, 2, 0], [10, a, 4094, 0], [11, a, 9, 0], [11, a, 9, 1], [12, a, 0, 0]]);
-        rows.extend((0..count).map(|source| [7, 5, a, source]));
-        for b in 0..flow {
-            rows.extend([[2, a, b, 0], [13, a, b, 0], [14, a, b, 0]]);
-            rows.extend((0..flow).map(|c| [15, c, a, b]));
-        }
+        rows.extend(of_several(a, flow, count));
     }
     rows
 }
