@@ -28,7 +28,7 @@ zero-at (suc n) zero = refl
 zero-at (suc n) (suc g) = zero-at n g
 
 pub starting : (m : ℕ) (words : List ℕ) (n : ℕ) → Starting m words 0 (replicate n 0)
-starting m words n = record { spread = λ f k. absurd (k (zero-at n f)); started = λ f l. absurd (omega arith); none-above = λ g l. zero-at n g }
+starting m words n = record { spread = λ f k. absurd (k (zero-at n f)); started = λ f l. absurd (omega arith) }
 
 -- what is said of the filled rows in a buffer, by whether the check accepts them
 pub record Said (m : ℕ) (words old buffer : List ℕ) (t : Bool) : Type 0 where

@@ -1,5 +1,5 @@
 -- The rows of a filled table that the check accepts, and the rates of their clocks. Assumes nothing.
-use mathlib.Core.Path.{_≡_, refl, sym, _∙_, subst}
+use mathlib.Core.Path.{_≡_, refl, sym, _∙_, ap, subst}
 use Prim.Native.Nat.{ℕ, zero, suc, _+_, _*_, _≤_, _<_}
 use native.Mathlib.Decide.{decLt}
 use native.Mathlib.Omega.{arith}
@@ -9,17 +9,18 @@ use lib.Dec.{eqb}
 use lib.ListN.{length, List·getD-eq-default}
 use lib.Seq.{getD-drop}
 use borrow.Author.Tests.{eqb-true, ne-eqb, leb-true}
+use Rattle.table.specs.declared.FlowFields.{FlowFields}
 use Rattle.table.specs.Answers.{Result, good}
 use Rattle.table.specs.Rows.{Row, input, constant, Words, rowSize, kinds, decode, unratedKind, tail}
 use Rattle.table.specs.Tables.{rowAt}
 use Rattle.table.specs.Plain.{rowWords, joined, tableOf, draftOf}
-use Rattle.table.specs.Links.{names}
+use Rattle.table.specs.Links.{flowFields, names}
 use Rattle.table.proofs.Tests.{Tried, passed, failed, try, not-good, then-good}
 use Rattle.table.proofs.Lists.{Each, each-get}
 use Rattle.table.proofs.Registers.{Passes}
 use Rattle.table.proofs.AnswerLaws.{answer-zero}
 use Rattle.table.proofs.Tables.{Made, row-fits, Table, table-made, TableBy, made-by}
-use Rattle.table.proofs.Linked.{names-inside, names-have}
+use Rattle.table.proofs.Linked.{names-inside, words-have, names-have}
 use Rattle.table.proofs.PlainRows.{per-length, per-entry, joined-row}
 use Rattle.checker.specs.Clocks.{Clock}
 use Rattle.checker.specs.Rules.{clockOf, clockAt, clocksOf, sourceFits}
@@ -35,21 +36,23 @@ use Rattle.rates.proofs.Rising.{rate, Sourced, by-test, rises, falls}
 
 -- ---- rows that name no flow
 
-input-nameless : (w : Words) (x : ℕ) → w .kind ≡ 0 → names w x ≡ true → ⊥
-unfolding names kinds
-input-nameless w x e h = false≢true (rw e at h)
-
-unrated-nameless : (w : Words) (x : ℕ) → w .kind ≡ unratedKind → names w x ≡ true → ⊥
-unfolding names kinds
-unrated-nameless w x e h = false≢true (rw e at h)
+nameless : (w : Words) (x n : ℕ) → w .kind ≡ n → flowFields n ≡ record { one = false; two = false; three = false } → names w x ≡ true → ⊥
+nameless w x n e none h =
+    let f : flowFields (w .kind) ≡ record { one = false; two = false; three = false } = ap flowFields e ∙ none in
+    words-have (λ y. ⊥) w (
+      λ o. false≢true (sym (ap (λ (s : FlowFields). s .one) f) ∙ o),
+      λ o. false≢true (sym (ap (λ (s : FlowFields). s .two) f) ∙ o),
+      λ o. false≢true (sym (ap (λ (s : FlowFields). s .three) f) ∙ o),
+    ) x h
 
 -- a row that names a flow is one of the draft
 named-in-plan : (m : ℕ) (words : List ℕ) (f d : ℕ) → length words ≡ rowSize * m → named words f d ≡ true → f < m
+unfolding kinds
 named-in-plan m words f d s h =
     elim (decLt f m) [
       | yes l ↦ l
       | no l ↦ (let z : 0 + rowSize * f ≡ rowSize * f = omega arith in
-          absurd (input-nameless (rowWords words f) d (getD-drop (rowSize * f) words 0 0 ∙ List·getD-eq-default words 0 {n = rowSize * f + 0} (omega arith)) h))
+          absurd (nameless (rowWords words f) d 0 (getD-drop (rowSize * f) words 0 0 ∙ List·getD-eq-default words 0 {n = rowSize * f + 0} (omega arith)) refl h))
     ]
 
 -- flows that are joined are flows of the draft
@@ -63,10 +66,11 @@ joins-inside m words rows e f d h =
 
 -- a row that names a flow is kept as it is
 kept-named : (q : Rate) (w : Words) (d : ℕ) → names w d ≡ true → filledRow q w ≡ w
+unfolding kinds
 kept-named q w d h = go (try (eqb (w .kind) unratedKind))
   where
     go : Tried (eqb (w .kind) unratedKind) → filledRow q w ≡ w
-    go (passed e) = absurd (unrated-nameless w d (eqb-true (w .kind) unratedKind e) h)
+    go (passed e) = absurd (nameless w d unratedKind (eqb-true (w .kind) unratedKind e) refl h)
     go (failed e) = rw e
 
 -- a rated row too

@@ -135,7 +135,6 @@ module _ (m : ℕ) (words : List ℕ) where
     start-next st l lf s = record {
       spread = spread-set st f (begun w) lf (λ k. derived (try (rated w)) (λ z. k (here st f (begun w) lf ∙ z))) (s .spread);
       started = λ g x e. below g x e (try (eqb g f));
-      none-above = λ g x. other st f (begun w) lf g (λ q. omega arith) ∙ s .none-above g (omega arith);
     }
       where
         derived : Tried (rated w) → (begun w ≡ 0 → ⊥) → Derived m words f (begun w)

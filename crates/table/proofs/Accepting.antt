@@ -6,7 +6,8 @@ use native.Mathlib.Omega.{arith}
 use lib.Dec.{leb, ltb, eqb}
 use borrow.Author.Tests.{leb-true, ltb-true, ltb-false, le-leb, lt-ltb, eq-eqb, ne-eqb}
 use Rattle.table.specs.Answers.{number, unless, unknownKind, outOfRange, misplaced}
-use Rattle.table.specs.Rows.{Field, operand, source, copies, period, ticks, value, unused, ranged, placed, each, Kind, kindAt, kindCount, unratedKind, maxFlows, Words, rowOf, rowBy, takes, fieldsOf}
+use Rattle.table.specs.Rows.{Field, operand, source, copies, period, ticks, value, unused, ranged, placed, each}
+use Rattle.table.specs.Rows.{Kind, kindAt, kindCount, unratedKind, maxFlows, Words, rowOf, rowBy, takes, fieldsOf}
 use Rattle.table.specs.Private.Codes.{bounds, bounded, sureKinds, verdict}
 use Rattle.table.proofs.Tests.{and-left, and-right, and-both, and-true, and-false, same-test}
 use Rattle.table.proofs.Entries.{kind-there, kind-gone}

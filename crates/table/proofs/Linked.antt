@@ -12,23 +12,32 @@ use Rattle.table.proofs.Lists.{Each, each-entry}
 use Rattle.table.proofs.Entries.{kind-there}
 use Rattle.table.proofs.Tables.{Made, fields-fit, row-has}
 
-field-inside : (m f : ℕ) (t : Field) (y x : ℕ) → f ≤ m → Holds m f t y → fieldNames t y x ≡ true → x < m
-field-inside m f operand y x l h e = omega (arith, h, eqb-true y x e)
-field-inside m f source y x l h e = omega (arith, h, eqb-true y x e)
-field-inside m f copies y x l h e = absurd (false≢true e)
-field-inside m f period y x l h e = absurd (false≢true e)
-field-inside m f ticks y x l h e = absurd (false≢true e)
-field-inside m f value y x l h e = absurd (false≢true e)
-field-inside m f unused y x l h e = absurd (false≢true e)
+field-has : (Q : ℕ → Type 0) (t : Field) (y x : ℕ) → Named Q t y → fieldNames t y x ≡ true → Q x
+field-has Q t y x h e = subst Q (eqb-true y x (and-right (isFlow t) _ e)) (h (and-left (isFlow t) _ e))
+
+-- what holds of the flows in the fields holds of each flow that they name
+pub words-have : (Q : ℕ → Type 0) (w : Words) → WordsHave (Named Q) (kindAt (w .kind)) (w .one) (w .two) (w .three) → (x : ℕ) → names w x ≡ true → Q x
+unfolding names
+words-have Q w h x e =
+    let k : Kind = kindAt (w .kind) in
+    one-of (fieldNames (k .one) (w .one) x) _ (field-has Q (k .one) (w .one) x (h .0))
+    (one-of (fieldNames (k .two) (w .two) x) _ (field-has Q (k .two) (w .two) x (h .1)) (field-has Q (k .three) (w .three) x (h .2))) e
+
+field-inside : (m f : ℕ) (t : Field) (y : ℕ) → f ≤ m → Holds m f t y → Named (λ x. x < m) t y
+field-inside m f operand y l h e = omega (arith, h)
+field-inside m f source y l h e = h
+field-inside m f copies y l h e = absurd (false≢true e)
+field-inside m f period y l h e = absurd (false≢true e)
+field-inside m f ticks y l h e = absurd (false≢true e)
+field-inside m f value y l h e = absurd (false≢true e)
+field-inside m f unused y l h e = absurd (false≢true e)
 
 pub names-inside : (m f : ℕ) (w : Words) (r : Row) → f ≤ m → Made m f w r → (x : ℕ) → names w x ≡ true → x < m
-unfolding names
-names-inside m f w r l d x e =
+names-inside m f w r l d =
     let k : Kind = kindAt (w .kind) in
     let h = fields-fit m f w r d in
-    one-of (fieldNames (k .one) (w .one) x) _ (field-inside m f (k .one) (w .one) x l (h .0))
-    (one-of (fieldNames (k .two) (w .two) x) _ (field-inside m f (k .two) (w .two) x l (h .1)) (field-inside m f (k .three) (w .three) x l (h .2)))
-    e
+    words-have (λ x. x < m) w
+    (field-inside m f (k .one) (w .one) l (h .0), field-inside m f (k .two) (w .two) l (h .1), field-inside m f (k .three) (w .three) l (h .2))
 
 -- a field that holds a flow names it
 field-named : (t : Field) (y : ℕ) → isFlow t ≡ true → fieldNames t y y ≡ true
@@ -88,17 +97,6 @@ kinds-unmake Q x y z = (first, (last, (first, (first, (first, (first, (first, (l
 
     none : {A : Type 0} → A → (false ≡ true → Q x) × (false ≡ true → Q y) × (false ≡ true → Q z)
     none h = (no, no, no)
-
-field-has : (Q : ℕ → Type 0) (t : Field) (y x : ℕ) → Named Q t y → fieldNames t y x ≡ true → Q x
-field-has Q t y x h e = subst Q (eqb-true y x (and-right (isFlow t) _ e)) (h (and-left (isFlow t) _ e))
-
--- what holds of the flows in the fields holds of each flow that they name
-pub words-have : (Q : ℕ → Type 0) (w : Words) → WordsHave (Named Q) (kindAt (w .kind)) (w .one) (w .two) (w .three) → (x : ℕ) → names w x ≡ true → Q x
-unfolding names
-words-have Q w h x e =
-    let k : Kind = kindAt (w .kind) in
-    one-of (fieldNames (k .one) (w .one) x) _ (field-has Q (k .one) (w .one) x (h .0))
-    (one-of (fieldNames (k .two) (w .two) x) _ (field-has Q (k .two) (w .two) x (h .1)) (field-has Q (k .three) (w .three) x (h .2))) e
 
 pub names-have : (Q : ℕ → Type 0) (m f : ℕ) (w : Words) (r : Row) → Made m f w r → RowHas (Named Q) r → (x : ℕ) → names w x ≡ true → Q x
 unfolding Unmakes

@@ -57,7 +57,8 @@ returns-2 c =
     let ws = now (a .words) in
     let p = after-store .store-flows in
     let count = p .ensures .0 ∙ giving-count (a .n) ws (a .set) (start .pre) in
-    let x = laid 1 (partFlows (a .n)) (λ (l : List ℕ). l) (a .n) ws (now (a .flows)) (start .pre .comes) (p .result) count (omega (arith, after-rank .rank .ensures, p .ensures .0, else1 .if1 .left)) (chosen-length (leastSet (a .n) ws) (λ f. f) (a .n) ∙ sym count) (p .last .1 .1 .0)
+    let x = laid 1 (partFlows (a .n)) (λ (l : List ℕ). l) (a .n) ws (now (a .flows)) (start .pre .comes) (p .result) count
+    (omega (arith, after-rank .rank .ensures, p .ensures .0, else1 .if1 .left)) (chosen-length (leastSet (a .n) ws) (λ f. f) (a .n) ∙ sym count) (p .last .1 .1 .0)
     (p .ensures .1 ∙ ap (λ (l : List ℕ). over l (now (a .flows))) (giving-flows (a .n) ws (a .set) (start .pre))) in
     (c .success .ensures ∙ x .0, x .1)
 

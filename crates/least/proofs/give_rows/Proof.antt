@@ -61,7 +61,8 @@ returns-2 c =
     let ws = now (a .words) in
     let p = after-store .store-rows in
     let count = p .ensures .0 ∙ giving-count (a .n) ws (a .set) (start .pre) in
-    let x = laid rowSize (partRows (a .n) ws) joined (a .n) ws (now (a .part)) (start .pre .comes) (p .result) count (omega (arith, after-rank .rank .ensures, p .ensures .0, else1 .if1 .left)) (rows-count ws (leastSet (a .n) ws) (a .n) ∙ sym count) (p .last .1 .1 .1 .0)
+    let x = laid rowSize (partRows (a .n) ws) joined (a .n) ws (now (a .part)) (start .pre .comes) (p .result) count
+    (omega (arith, after-rank .rank .ensures, p .ensures .0, else1 .if1 .left)) (rows-count ws (leastSet (a .n) ws) (a .n) ∙ sym count) (p .last .1 .1 .1 .0)
     (p .ensures .1 ∙ ap (λ (l : List Words). over (joined l) (now (a .part))) (giving-rows (a .n) ws (a .set) (start .pre))) in
     (c .success .ensures ∙ x .0, x .1)
 

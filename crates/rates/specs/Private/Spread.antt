@@ -142,11 +142,10 @@ pub record Passed (m : ℕ) (words st st′ : List ℕ) (n : ℕ) : Type 0 where
   pub grown : Grown m words st st′ n
   pub ended : n ≡ 0 → Closed m words st
 
--- the flows from f on have no words yet, and those before it that are rated have
+-- the flows before f that are rated have their words
 pub record Starting (m : ℕ) (words : List ℕ) (f : ℕ) (st : List ℕ) : Type 0 where
   pub spread : Spread m words st
   pub started : Started f words st
-  pub none-above : (g : ℕ) → f ≤ g → wordAt st g ≡ 0
 
 -- nothing is left to spread
 pub record Settled (m : ℕ) (words st : List ℕ) : Type 0 where
