@@ -7,7 +7,7 @@ use mathlib.Core.List.{List, [], _∷_, _++_}
 use lib.ListN.{length, getD, set, drop, length-append}
 use lib.Seq.{drop-cons, set-at, append-snoc}
 use Rattle.table.specs.Answers.{Refusal, noRoom, badCount, cutShort, unknownKind, outOfRange, misplaced, badFilling, clocksDiffer}
-use Rattle.table.specs.Answers.{beyondLimits, notPlain, tooManyTicks, wrongLog, shortTrace, clash, shortWindow, wrongTimes, shortPage, notDiffering, unjoined}
+use Rattle.table.specs.Answers.{beyondLimits, notPlain, tooManyTicks, wrongLog, shortTrace, clash, shortWindow, wrongTimes, shortPage, notDiffering, unjoined, badView}
 use Rattle.table.specs.Answers.{number, Result, good, refused, refusal, over, answer, leaves}
 
 -- no refusal has the number 0
@@ -31,6 +31,7 @@ no-zero wrongTimes e = omega arith
 no-zero shortPage e = omega arith
 no-zero notDiffering e = omega arith
 no-zero unjoined e = omega arith
+no-zero badView e = omega arith
 
 -- an answer with number 0 has a result behind it
 pub answer-zero : {A : Type 0} (size : A → ℕ) (r : Result A) → answer size r .number ≡ 0 → (a : A) × (r ≡ good a)
@@ -77,3 +78,4 @@ is-differing wrongTimes e = absurd (omega arith)
 is-differing shortPage e = absurd (omega arith)
 is-differing notDiffering e = absurd (omega arith)
 is-differing unjoined e = absurd (omega arith)
+is-differing badView e = absurd (omega arith)

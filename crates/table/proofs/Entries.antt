@@ -9,7 +9,7 @@ use native.Mathlib.Omega.{arith}
 use lib.Dec.{eqb, leb}
 use lib.ListN.{length, getD, getElem?, List·getD-eq-default}
 use borrow.Author.Tests.{eqb-true}
-use Rattle.table.specs.Rows.{Field, operand, source, copies, period, ticks, value, unused, least, width, Kind, kinds, noKind, kindCount, unratedKind, kindAt}
+use Rattle.table.specs.Rows.{Field, operand, source, copies, period, ticks, value, unused, least, width, Kind, kinds, noKind, kindCount, kindAt}
 use Rattle.table.specs.Links.{isFlow}
 use Rattle.table.specs.Private.Codes.{code, fieldList, leasts, mosts, widths, kindFields}
 use Rattle.table.proofs.Tests.{and-left, and-right}
@@ -142,16 +142,16 @@ kind-known n k e =
 pub kind-none : (n : ℕ) → kindCount ≤ n → kindAt n ≡ noKind
 kind-none n h = List·getD-eq-default kinds noKind {n = n} (omega (arith, kinds-size))
 
--- a number from 7 on that is none of 7 to 15 is that of an unrated row or no kind
-pub no-kind : (n : ℕ) → 7 ≤ n → (n ≡ 7 → ⊥) → (n ≡ 8 → ⊥) → (n ≡ 9 → ⊥) → (n ≡ 10 → ⊥) → (n ≡ 11 → ⊥)
-    → (n ≡ 12 → ⊥) → (n ≡ 13 → ⊥) → (n ≡ 14 → ⊥) → (n ≡ 15 → ⊥) → unratedKind ≤ n
-no-kind n l a b c d e = rest (above-eleven n l a b c d e)
+-- a number from 7 on that is none of 7 to 18 is no kind
+pub no-kind : (n : ℕ) → 7 ≤ n → (n ≡ 7 → ⊥) → (n ≡ 8 → ⊥) → (n ≡ 9 → ⊥) → (n ≡ 10 → ⊥) → (n ≡ 11 → ⊥) → (n ≡ 12 → ⊥)
+    → (n ≡ 13 → ⊥) → (n ≡ 14 → ⊥) → (n ≡ 15 → ⊥) → (n ≡ 16 → ⊥) → (n ≡ 17 → ⊥) → (n ≡ 18 → ⊥) → kindCount ≤ n
+no-kind n l a b c d e f = rest (above-twelve n l a b c d e f)
   where
-    above-eleven : (n : ℕ) → 7 ≤ n → (n ≡ 7 → ⊥) → (n ≡ 8 → ⊥) → (n ≡ 9 → ⊥) → (n ≡ 10 → ⊥) → (n ≡ 11 → ⊥) → 12 ≤ n
-    above-eleven n l a b c d e = omega arith
+    above-twelve : (n : ℕ) → 7 ≤ n → (n ≡ 7 → ⊥) → (n ≡ 8 → ⊥) → (n ≡ 9 → ⊥) → (n ≡ 10 → ⊥) → (n ≡ 11 → ⊥) → (n ≡ 12 → ⊥) → 13 ≤ n
+    above-twelve n l a b c d e f = omega arith
 
-    rest : 12 ≤ n → (n ≡ 12 → ⊥) → (n ≡ 13 → ⊥) → (n ≡ 14 → ⊥) → (n ≡ 15 → ⊥) → unratedKind ≤ n
-    rest l a b c d = omega arith
+    rest : 13 ≤ n → (n ≡ 13 → ⊥) → (n ≡ 14 → ⊥) → (n ≡ 15 → ⊥) → (n ≡ 16 → ⊥) → (n ≡ 17 → ⊥) → (n ≡ 18 → ⊥) → kindCount ≤ n
+    rest l a b c d e f = omega arith
 
 -- a test of each kind and its number, computed over the whole list
 pub kind-test : (test : ℕ → Kind → Bool) → every test 0 kinds ≡ true → (n : ℕ) → n < kindCount → test n (kindAt n) ≡ true

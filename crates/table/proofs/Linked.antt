@@ -75,7 +75,7 @@ Unmakes Q x y z i k = RowHas (Named Q) (k .make x y z) → WordsHave (Named Q) k
 
 kinds-unmake : (Q : ℕ → Type 0) (x y z : ℕ) → Each (Unmakes Q x y z) 0 kinds
 unfolding kinds Unmakes
-kinds-unmake Q x y z = (first, (last, (first, (first, (first, (first, (first, (last, (all, (first, (first, (outer, (one, (first, (first, (all, (none, tt)))))))))))))))))
+kinds-unmake Q x y z = (first, (last, (first, (first, (first, (first, (first, (last, (all, (first, (first, (outer, (one, (first, (first, (all, (none, (all, (all, tt)))))))))))))))))))
   where
     no : {n : ℕ} → false ≡ true → Q n
     no e = absurd (false≢true e)

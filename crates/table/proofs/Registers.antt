@@ -8,7 +8,7 @@ use mathlib.Core.Option.{Option, none, some, Option·none-ne-some}
 use lib.Dec.{eqb}
 use lib.ListN.{length}
 use borrow.Author.Tests.{eqb-true}
-use Rattle.table.specs.Rows.{Row, input, constant, combine, register, faster, slower, later, head, tail, sample, merge, unrated}
+use Rattle.table.specs.Rows.{Row, input, constant, combine, register, faster, slower, later, head, tail, sample, merge, unrated, view}
 use Rattle.table.specs.Rows.{onRegister, badRegister, Field, operand, source, kinds, kindCount, decode}
 use Rattle.table.specs.Tables.{RowHas}
 use Rattle.table.proofs.Tests.{Tried, passed, failed, try}
@@ -33,6 +33,7 @@ register-or (tail a) = is-other (λ test. refl)
 register-or (sample u a c) = is-other (λ test. refl)
 register-or (merge c a b) = is-other (λ test. refl)
 register-or unrated = is-other (λ test. refl)
+register-or (view u a c w) = is-other (λ test. refl)
 
 -- tests that agree on the beats and sources of a row agree on the row
 pub register-same : (P : Field → ℕ → Type 0) (t u : ℕ → ℕ → Bool) (r : Row) → RowHas P r → ((b a : ℕ) → P operand b → P source a → t b a ≡ u b a)

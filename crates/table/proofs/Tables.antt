@@ -100,7 +100,7 @@ Makes P x y z i k = WordsHave P k x y z → RowHas P (k .make x y z)
 
 kinds-make : (P : Field → ℕ → Type 0) (x y z : ℕ) → Each (Makes P x y z) 0 kinds
 unfolding kinds Makes
-kinds-make P x y z = (first, (last, (first, (first, (first, (first, (first, (last, (all, (first, (first, (outer, (one, (first, (first, (all, (none-of, tt)))))))))))))))))
+kinds-make P x y z = (first, (last, (first, (first, (first, (first, (first, (last, (all, (first, (first, (outer, (one, (first, (first, (all, (none-of, (all, (all, tt)))))))))))))))))))
   where
     first : {A B C : Type 0} → A × B × C → A × B
     first h = (h .0, h .1)

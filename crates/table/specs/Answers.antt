@@ -10,7 +10,7 @@ use Rattle.table.specs.declared.Reading.the-variants.{Table, Refused}
 -- the causes of table and codec, of the check, of the runs, of the load page, of the least part, and of the call that fills in rates
 pub data Refusal : Type 0 where
   noRoom badCount cutShort unknownKind outOfRange misplaced badFilling : Refusal
-  clocksDiffer beyondLimits notPlain : Refusal
+  clocksDiffer beyondLimits notPlain badView : Refusal
   tooManyTicks wrongLog shortTrace clash shortWindow : Refusal
   wrongTimes shortPage : Refusal
   notDiffering : Refusal
@@ -36,6 +36,7 @@ number wrongTimes = 36
 number shortPage = 37
 number notDiffering = 38
 number unjoined = 39
+number badView = 40
 
 -- What a piece of work comes to: its result, or the first refusal with the row or flow that it names, 0 where it names none.
 pub data Result (A : Type 0) : Type 0 where

@@ -11,9 +11,9 @@ use Rattle.table.specs.Places.{longestRecord}
 unfoldable pub rowLength : ℕ → ℕ
 rowLength k = kindWidth + width (kindAt k .one) + width (kindAt k .two) + width (kindAt k .three)
 
--- kinds 0 to 16
+-- kinds 0 to 18
 abbrev pub recordLengths : List ℕ
-recordLengths = 29 ∷ 61 ∷ 17 ∷ 17 ∷ 17 ∷ 17 ∷ 17 ∷ 49 ∷ 29 ∷ 17 ∷ 23 ∷ 55 ∷ 11 ∷ 17 ∷ 17 ∷ 23 ∷ 5 ∷ []
+recordLengths = 29 ∷ 61 ∷ 17 ∷ 17 ∷ 17 ∷ 17 ∷ 17 ∷ 49 ∷ 29 ∷ 17 ∷ 23 ∷ 55 ∷ 11 ∷ 17 ∷ 17 ∷ 23 ∷ 5 ∷ 29 ∷ 29 ∷ []
 
 pub record Lengths : Type 0 where
   -- an entry for each kind, which is 5 bits and the widths of the kind's fields

@@ -27,7 +27,8 @@ pub data Op : Type 0 where
 -- The row of a flow. Flow is the paper's word for a dataflow signal, row for its equation. The paper's operators in the terms of
 -- synchronous languages: register is fby (a unit delay), clocked by its beat; faster is up-sampling (*^), slower down-sampling (/^),
 -- later a phase offset (~>), head concatenation (::). When and when-not are one row, told apart by the truth that they sample. An unrated row is
--- an input whose period and phase are not written.
+-- an input whose period and phase are not written. A view is when-seen or when-not-seen: when over a condition that is looked at once a
+-- view period w (a clock view).
 pub data Row : Type 0 where
   input : (period phase : ℕ) → Row
   constant : (value period phase : ℕ) → Row
@@ -41,6 +42,7 @@ pub data Row : Type 0 where
   sample : (truth : Bool) (a c : ℕ) → Row
   merge : (c a b : ℕ) → Row
   unrated : Row
+  view : (truth : Bool) (a c w : ℕ) → Row
 
 -- What a field holds: a lower flow, any flow of the table, a k, a period or gap, a phase or d or s, a value, or nothing.
 pub data Field : Type 0 where
@@ -97,7 +99,7 @@ pub record Kind : Type 0 where
 abbrev pub kind : Field → Field → Field → (ℕ → ℕ → ℕ → Row) → Kind
 kind a b c make = record { one = a; two = b; three = c; make = make }
 
--- kinds 0 to 16
+-- kinds 0 to 18
 unfoldable pub kinds : List Kind
 kinds =
     kind period ticks unused (λ n p z. input n p)
@@ -117,11 +119,13 @@ kinds =
     ∷ kind operand operand unused (λ a c z. sample false a c)
     ∷ kind operand operand operand (λ c a b. merge c a b)
     ∷ kind unused unused unused (λ x y z. unrated)
+    ∷ kind operand operand period (λ a c w. view true a c w)
+    ∷ kind operand operand period (λ a c w. view false a c w)
     ∷ []
 
 -- how many there are, and the kind of an unrated row
 abbrev pub kindCount : ℕ
-kindCount = 17
+kindCount = 19
 
 abbrev pub unratedKind : ℕ
 unratedKind = 16
@@ -189,6 +193,7 @@ onRegister test (tail a) = true
 onRegister test (sample u a c) = true
 onRegister test (merge c a b) = true
 onRegister test unrated = true
+onRegister test (view u a c w) = true
 
 -- the lowest register, from flow f on, that does not pass it
 unfoldable pub badRegister : (ℕ → ℕ → Bool) → ℕ → List Row → Option ℕ

@@ -5,7 +5,7 @@ use Prim.Native.Nat.{ℕ, _≤_, _<_}
 use mathlib.Core.Bool.{true}
 use mathlib.Core.List.{List}
 use lib.ListN.{getD}
-use Rattle.table.specs.Rows.{Row, input, constant, combine, register, faster, slower, later, head, tail, sample, merge, unrated, Kind}
+use Rattle.table.specs.Rows.{Row, input, constant, combine, register, faster, slower, later, head, tail, sample, merge, unrated, view, Kind}
 use Rattle.table.specs.Rows.{Field, operand, source, copies, period, ticks, value, unused, maxField, maxCopies}
 use Rattle.table.specs.Links.{isFlow}
 
@@ -45,6 +45,7 @@ RowHas P (tail a) = P operand a × Unit {0}
 RowHas P (sample u a c) = P operand a × P operand c
 RowHas P (merge c a b) = P operand c × P operand a × P operand b
 RowHas P unrated = Unit {0}
+RowHas P (view u a c w) = P operand a × P operand c × P period w
 
 abbrev pub FieldsFit : ℕ → ℕ → Kind → ℕ → ℕ → ℕ → Type 0
 FieldsFit m f k x y z = WordsHave (Holds m f) k x y z

@@ -105,7 +105,7 @@ pub enum Scan {
 }
 
 // How many kinds of rows there are, the kind of an input with no rate written, how many words a row has, and how many flows a table has at most.
-pub const KINDS: u32 = 17;
+pub const KINDS: u32 = 19;
 
 pub const UNRATED: u32 = 16;
 
@@ -154,6 +154,8 @@ pub const SHORT_PAGE: u32 = 37;
 pub const NOT_DIFFERING: u32 = 38;
 
 pub const UNJOINED: u32 = 39;
+
+pub const BAD_VIEW: u32 = 40;
 
 // The bytes of the longest packed table.
 pub const LONGEST_TABLE: usize = (Cursor::LAST + 7) / 8;

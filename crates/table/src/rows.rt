@@ -59,6 +59,8 @@ pub(crate) const LENGTH: [u32; KINDS as usize] = [
     17, // when-not
     23, // merge
     5, // unrated input
+    29, // when-seen
+    29, // when-not-seen
 ];
 
 // By kind: its three fields as digits to base 8, the first one lowest.
@@ -80,6 +82,8 @@ pub(crate) const FIELDS: [u32; KINDS as usize] = [
     OPERAND + 8 * OPERAND + 64 * UNUSED, // when-not
     OPERAND + 8 * OPERAND + 64 * OPERAND, // merge
     UNUSED + 8 * UNUSED + 64 * UNUSED, // unrated input
+    OPERAND + 8 * OPERAND + 64 * PERIOD, // when-seen
+    OPERAND + 8 * OPERAND + 64 * PERIOD, // when-not-seen
 ];
 
 // The bits of a row of a known kind in packed form.

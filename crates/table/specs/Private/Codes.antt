@@ -62,6 +62,8 @@ kindFields =
     ∷ (0 + 8 * 0 + 64 * 6)
     ∷ (0 + 8 * 0 + 64 * 0)
     ∷ (6 + 8 * 6 + 64 * 6)
+    ∷ (0 + 8 * 0 + 64 * 3)
+    ∷ (0 + 8 * 0 + 64 * 3)
     ∷ []
 
 -- the kinds below this one are known, where the rates are asked for or are not
