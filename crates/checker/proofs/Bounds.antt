@@ -19,10 +19,11 @@ use Rattle.checker.specs.Answers.{clockSize, clocksFor, checking, checkA
 use Rattle.checker.proofs.RuleLaws.{within-limits}
 use Rattle.checker.proofs.CheckLaws.{Sane, AllSane, below-le, sane-clocks}
 
-sane-within : (f : ℕ) (k : Clock) → f ≤ maxFlows → Sane f k → Within k
-sane-within f k l s = (
+sane-within : (clk : ℕ → Clock) (f : ℕ) (k : Clock) → f ≤ maxFlows → Sane clk f k → Within k
+sane-within clk f k l s = (
   within-limits k (record { period-fits = s .period-fits; phase-fits = s .phase-fits; few = s .few }),
   below-le f maxFlows (k .conditions) l (s .below),
+  s .viewed,
 )
 
 -- what an accepted table's clocks are: one a flow, and sane
@@ -40,7 +41,7 @@ checked-within m words room ks e =
     let x = then-good (tableOf m words) (λ rows. unless (leb (clockSize * m) room) noRoom 0 (clocksOf rows)) ks e in
     let c : clocksOf (x .0) ≡ good ks = unless-good (leb (clockSize * m) room) noRoom 0 (clocksOf (x .0)) ks (x .2) .1 in
     let s = accepted-sane m words (x .0) ks (x .1) c in
-    (s .0, s .1, λ f l. sane-within f (clockAt ks f) (omega (arith, s .0, s .1)) (s .2 f (omega (arith, s .0))))
+    (s .0, s .1, λ f l. sane-within (clockAt ks) f (clockAt ks f) (omega (arith, s .0, s .1)) (s .2 f (omega (arith, s .0))))
 
 -- with room for the clocks of any table, the check comes to what the rules come to
 pub check-whole : (m : ℕ) (words : List ℕ) (room : ℕ) → clockSize * maxFlows ≤ room → checking m words room ≡ clocksFor m words

@@ -3,22 +3,23 @@ use mathlib.Core.Path.{_≡_, refl, sym, _∙_, ap, subst}
 use Prim.Native.Nat.{ℕ, suc, _+_, _≤_, _<_}
 use native.Mathlib.Nat.{mul-le-mul}
 use native.Mathlib.Omega.{arith}
-use mathlib.Core.Bool.{false}
+use mathlib.Core.Bool.{Bool, false}
 use mathlib.Core.List.{List, [], _∷_, _++_}
 use mathlib.Core.Option.{Option}
 use lib.ListN.{length, length-append, List·getD-append}
 use lib.Seq.{getD-append-seam}
 use Rattle.table.specs.Tables.{Fits}
 use Rattle.table.specs.Answers.{Refusal, Result, good, refused, then, clocksDiffer}
-use Rattle.table.specs.Rows.{Row, input, constant, combine, register, faster, slower, later, head, tail, sample, merge, unrated, onRegister, badRegister}
+use Rattle.table.specs.Rows.{Row, input, constant, combine, register, faster, slower, later, head, tail, sample, merge, unrated, view, onRegister, badRegister, maxField}
 use Rattle.table.proofs.Tests.{not-good, good-inj}
 use Rattle.table.proofs.Lists.{Each, below-suc}
 use Rattle.table.proofs.Registers.{Passes, Registers, all-pass, one-fails, registers}
 use Rattle.table.proofs.Tables.{AllFit}
-use Rattle.checker.specs.Clocks.{Condition, Clock, every}
-use Rattle.checker.specs.Rules.{maxDerived, maxConditions, clockOf, clockAt, clocksFrom, sourced, sourceFits, clocksOf, Below}
+use Rattle.checker.specs.Clocks.{Condition, Clock, every, under}
+use Rattle.checker.specs.Rules.{maxDerived, maxConditions, clockOf, clockAt, clocksFrom, sourced, sourceFits, clocksOf, Every, Below, Direct, FirstViewed}
+use Rattle.checker.proofs.ClockLaws.{plain-empty}
 use Rattle.checker.proofs.RuleLaws.{Rule, by-input, by-constant, by-combine, by-register, by-faster, by-slower, by-later, by-head}
-use Rattle.checker.proofs.RuleLaws.{by-tail, by-sample, by-merge, rule-of}
+use Rattle.checker.proofs.RuleLaws.{by-tail, by-sample, by-merge, by-view, rule-of}
 
 -- a rule reads the clocks of lower flows only
 pub clock-local : (clk clk′ : ℕ → Clock) (m f : ℕ) (r : Row) → Fits m f r → ((a : ℕ) → a < f → clk a ≡ clk′ a) → clockOf clk f r ≡ clockOf clk′ f r
@@ -35,6 +36,7 @@ clock-local clk clk′ m f (tail a) w s = rw (s a (w .0))
 clock-local clk clk′ m f (sample u a c) w s = rw (s a (w .0), s c (w .1))
 clock-local clk clk′ m f (merge c a b) w s = rw (s c (w .0), s a (w .1), s b (w .2))
 clock-local clk clk′ m f unrated w s = refl
+clock-local clk clk′ m f (view u a c v) w s = rw (s a (w .0), s c (w .1))
 
 -- the rows from number f on have the clocks that the rules give them
 abbrev pub Clocked : (ℕ → Clock) → ℕ → List Row → Type 0
@@ -122,33 +124,68 @@ pub below-le : (f g : ℕ) (cs : List Condition) → f ≤ g → Below f cs → 
 below-le f g [] l b = tt
 below-le f g (c ∷ cs) l b = (omega (arith, b .0), below-le f g cs l (b .1))
 
-pub below-snoc : (f : ℕ) (cs : List Condition) (c : Condition) → Below f cs → c .flow < f → Below f (cs ++ (c ∷ []))
-below-snoc f [] c b l = (l, tt)
-below-snoc f (d ∷ cs) c b l = (b .0, below-snoc f cs c (b .1) l)
+-- a condition more that has the property too
+pub every-snoc : (P : Condition → Type 0) (cs : List Condition) (c : Condition) → Every P cs → P c → Every P (cs ++ (c ∷ []))
+every-snoc P [] c b l = (l, tt)
+every-snoc P (d ∷ cs) c b l = (b .0, every-snoc P cs c (b .1) l)
 
--- the clock of flow f is within the limits, and its conditions are on lower flows
-pub record Sane (f : ℕ) (k : Clock) : Type 0 where
+pub first-snoc : (cs : List Condition) (c : Condition) → FirstViewed cs → c .view ≡ 0 → FirstViewed (cs ++ (c ∷ []))
+first-snoc [] c b e = (omega arith, tt)
+first-snoc (d ∷ cs) c b e = (b .0, every-snoc Direct cs c (b .1) e)
+
+-- the flow of a viewed condition begins by tick p
+abbrev pub BegunBy : (ℕ → Clock) → ℕ → Condition → Type 0
+BegunBy clk p c = 0 < c .view → clk (c .flow) .phase ≤ p
+
+-- The clock of flow f is within the limits, and its conditions are on lower flows. Only the first can be viewed; its flow begins by the phase.
+pub record Sane (clk : ℕ → Clock) (f : ℕ) (k : Clock) : Type 0 where
   pub positive : 0 < k .period
   pub period-fits : k .period ≤ maxDerived
   pub phase-fits : k .phase ≤ maxDerived
   pub below : Below f (k .conditions)
   pub few : length (k .conditions) ≤ maxConditions
+  pub viewed : FirstViewed (k .conditions)
+  pub begun : Every (BegunBy clk (k .phase)) (k .conditions)
 
 abbrev pub AllSane : (ℕ → Clock) → ℕ → Type 0
-AllSane clk m = (f : ℕ) → f < m → Sane f (clk f)
+AllSane clk m = (f : ℕ) → f < m → Sane clk f (clk f)
 
 module _ (clk : ℕ → Clock) (m : ℕ) where
   -- a lower flow's clock is as sane for a higher one
-  of-lower : (f a : ℕ) → AllSane clk f → a < f → Sane f (clk a)
+  of-lower : (f a : ℕ) → AllSane clk f → a < f → Sane clk f (clk a)
   of-lower f a s l =
-      let k : Sane a (clk a) = s a l in
-      record { positive = k .positive; period-fits = k .period-fits; phase-fits = k .phase-fits; below = below-le a f (clk a .conditions) (omega arith) (k .below); few = k .few }
+      let k : Sane clk a (clk a) = s a l in
+      record {
+        positive = k .positive;
+        period-fits = k .period-fits;
+        phase-fits = k .phase-fits;
+        below = below-le a f (clk a .conditions) (omega arith) (k .below);
+        few = k .few;
+        viewed = k .viewed;
+        begun = k .begun;
+      }
 
   -- a plain clock
-  periodic : (f n p : ℕ) → 0 < n → n ≤ maxDerived → p ≤ maxDerived → Sane f (every n p)
-  periodic f n p x y z = record { positive = x; period-fits = y; phase-fits = z; below = tt; few = omega arith }
+  periodic : (f n p : ℕ) → 0 < n → n ≤ maxDerived → p ≤ maxDerived → Sane clk f (every n p)
+  periodic f n p x y z = record { positive = x; period-fits = y; phase-fits = z; below = tt; few = omega arith; viewed = tt; begun = tt }
 
-  sane-row : (f : ℕ) (r : Row) (k : Clock) → Rule clk r k → Fits m f r → AllSane clk f → Sane f k
+  -- one condition more, on a lower flow
+  one-more : (f a c : ℕ) (u : Bool) (w : ℕ) → AllSane clk f → a < f → c < f → length (under (clk a) c u w .conditions) ≤ maxConditions
+      → FirstViewed (under (clk a) c u w .conditions) → (0 < w → clk c .phase ≤ clk a .phase) → Sane clk f (under (clk a) c u w)
+  one-more f a c u w s l h few viewed begun =
+      let y : Sane clk f (clk a) = of-lower f a s l in
+      let d : Condition = record { flow = c; truth = u; view = w } in
+      record {
+        positive = y .positive;
+        period-fits = y .period-fits;
+        phase-fits = y .phase-fits;
+        below = every-snoc (λ (e : Condition). e .flow < f) (clk a .conditions) d (y .below) h;
+        few = few;
+        viewed = viewed;
+        begun = every-snoc (BegunBy clk (clk a .phase)) (clk a .conditions) d (y .begun) begun;
+      }
+
+  sane-row : (f : ℕ) (r : Row) (k : Clock) → Rule clk r k → Fits m f r → AllSane clk f → Sane clk f k
   sane-row f r k by-input w s = periodic f _ _ (w .0 .from) (omega (arith, w .0 .upto)) (omega (arith, w .1))
   sane-row f r k by-constant w s = periodic f _ _ (w .0 .from) (omega (arith, w .0 .upto)) (omega (arith, w .1))
   sane-row f r k (by-combine {a = a} x) w s = of-lower f a s (w .0)
@@ -158,16 +195,17 @@ module _ (clk : ℕ → Clock) (m : ℕ) where
   sane-row f r k (by-later {a = a} x l) w s = periodic f _ _ (s a (w .0) .positive) (l .period-fits) (l .phase-fits)
   sane-row f r k (by-head {a = a} x y) w s = periodic f _ _ (s a (w .0) .positive) (s a (w .0) .period-fits) (omega (arith, w .1))
   sane-row f r k (by-tail {a = a} x l) w s = periodic f _ _ (s a (w .0) .positive) (l .period-fits) (l .phase-fits)
-  sane-row f r k (by-sample {a = a} {c = c} x l) w s =
-      let y : Sane f (clk a) = of-lower f a s (w .0) in
-      record { positive = y .positive; period-fits = y .period-fits; phase-fits = y .phase-fits; below = below-snoc f (clk a .conditions) _ (y .below) (w .1); few = l .few }
+  sane-row f r k (by-sample {u = u} {a = a} {c = c} x l) w s =
+      one-more f a c u 0 s (w .0) (w .1) (l .few) (first-snoc (clk a .conditions) _ (s a (w .0) .viewed) refl) (λ v. absurd (omega arith))
   sane-row f r k (by-merge {c = c} x y) w s = of-lower f c s (w .0)
+  sane-row f r k (by-view {u = u} {a = a} {c = c} {w = v} x y h) w s =
+      one-more f a c u v s (w .0) (w .1) (rw (plain-empty (clk a) x) (omega arith)) (rw (plain-empty (clk a) x) (w .2 .upto, tt)) (λ z. h .begun)
 
   sane-from : (f : ℕ) (rs : List Row) → AllFit m f rs → Clocked clk f rs → AllSane clk f → AllSane clk (f + length rs)
   sane-from f [] w k s = subst (AllSane clk) (omega arith) s
   sane-from f (r ∷ rs) w k s =
       subst (AllSane clk) (omega arith)
-      (sane-from (suc f) rs (w .1) (k .1) (below-suc (λ (g : ℕ). Sane g (clk g)) f s (sane-row f r (clk f) (rule-of clk f r (clk f) (k .0)) (w .0) s)))
+      (sane-from (suc f) rs (w .1) (k .1) (below-suc (λ (g : ℕ). Sane clk g (clk g)) f s (sane-row f r (clk f) (rule-of clk f r (clk f) (k .0)) (w .0) s)))
 
   -- the clocks that the rules give are sane
   pub all-sane : (rs : List Row) → AllFit m 0 rs → Clocked clk 0 rs → AllSane clk (length rs)

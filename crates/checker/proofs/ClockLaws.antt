@@ -17,8 +17,8 @@ pub beq-same : (a b : Bool) → a ≡ b → Bool·beq a b ≡ true
 beq-same true b e = rw (← e)
 beq-same false b e = rw (← e)
 
-condition-path : {c d : Condition} → c .flow ≡ d .flow → c .truth ≡ d .truth → c ≡ d
-condition-path p q = λ i. record { flow = p i; truth = q i }
+condition-path : {c d : Condition} → c .flow ≡ d .flow → c .truth ≡ d .truth → c .view ≡ d .view → c ≡ d
+condition-path p q r = λ i. record { flow = p i; truth = q i; view = r i }
 
 clock-path : {j k : Clock} → j .period ≡ k .period → j .phase ≡ k .phase → j .conditions ≡ k .conditions → j ≡ k
 clock-path p q r = λ i. record { period = p i; phase = q i; conditions = r i }
@@ -28,9 +28,11 @@ same-conditions [] [] e = refl
 same-conditions [] (d ∷ ds) e = absurd (false≢true e)
 same-conditions (c ∷ cs) [] e = absurd (false≢true e)
 same-conditions (c ∷ cs) (d ∷ ds) e =
-    let r : (Bool·beq (c .truth) (d .truth) && sameConditions cs ds) ≡ true = and-right (eqb (c .flow) (d .flow)) _ e in
-    ap₂ _∷_ (condition-path (eqb-true _ _ (and-left (eqb (c .flow) (d .flow)) _ e)) (beq-true _ _ (and-left _ _ r)))
-    (same-conditions cs ds (and-right (Bool·beq (c .truth) (d .truth)) _ r))
+    let r : (Bool·beq (c .truth) (d .truth) && (eqb (c .view) (d .view) && sameConditions cs ds)) ≡ true = and-right (eqb (c .flow) (d .flow)) _ e in
+    let s : (eqb (c .view) (d .view) && sameConditions cs ds) ≡ true = and-right (Bool·beq (c .truth) (d .truth)) _ r in
+    ap₂ _∷_
+    (condition-path (eqb-true _ _ (and-left (eqb (c .flow) (d .flow)) _ e)) (beq-true _ _ (and-left _ _ r)) (eqb-true _ _ (and-left (eqb (c .view) (d .view)) _ s)))
+    (same-conditions cs ds (and-right (eqb (c .view) (d .view)) _ s))
 
 pub same-clock : (j k : Clock) → sameClock j k ≡ true → j ≡ k
 same-clock j k e =
@@ -41,7 +43,8 @@ same-clock j k e =
 conditions-same : (cs : List Condition) → sameConditions cs cs ≡ true
 conditions-same [] = refl
 conditions-same (c ∷ cs) =
-    and-both (eq-eqb (c .flow) (c .flow) refl) (and-both (beq-same (c .truth) (c .truth) refl) (conditions-same cs))
+    and-both (eq-eqb (c .flow) (c .flow) refl)
+    (and-both (beq-same (c .truth) (c .truth) refl) (and-both (eq-eqb (c .view) (c .view) refl) (conditions-same cs)))
 
 pub clock-same : (j k : Clock) → j ≡ k → sameClock j k ≡ true
 clock-same j k e =

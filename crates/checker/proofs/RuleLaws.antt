@@ -1,15 +1,15 @@
 -- What a rule that gives a clock has found. Assumes nothing.
 use mathlib.Core.Path.{_≡_, refl, subst}
-use Prim.Native.Nat.{ℕ, _+_, _*_, _≤_}
+use Prim.Native.Nat.{ℕ, _+_, _*_, _%_, _≤_}
 use mathlib.Core.Bool.{Bool, true, false, _&&_}
 use lib.ListN.{length}
 use lib.Dec.{eqb, leb}
 use borrow.Author.Tests.{eqb-true, leb-true, le-leb}
-use Rattle.table.specs.Answers.{Refusal, Result, good, refused, unless, clocksDiffer, beyondLimits, notPlain}
-use Rattle.table.specs.Rows.{Row, Op, input, constant, combine, register, faster, slower, later, head, tail, sample, merge, unrated}
+use Rattle.table.specs.Answers.{Refusal, Result, good, refused, unless, clocksDiffer, beyondLimits, notPlain, badView}
+use Rattle.table.specs.Rows.{Row, Op, input, constant, combine, register, faster, slower, later, head, tail, sample, merge, unrated, view}
 use Rattle.table.proofs.Tests.{and-left, and-right, and-both, good-inj, not-good, unless-good}
 use Rattle.checker.specs.Clocks.{Clock, every, plain, sameClock, under}
-use Rattle.checker.specs.Rules.{maxDerived, maxConditions, withinLimits, limited, clockOf}
+use Rattle.checker.specs.Rules.{maxDerived, maxConditions, withinLimits, limited, multiple, viewFits, clockOf}
 use Rattle.checker.proofs.ClockLaws.{same-clock}
 
 -- the limits, kept
@@ -35,6 +35,21 @@ limited-good f j k e =
     let r = unless-good (withinLimits j) beyondLimits f (good j) k e in
     (good-inj (r .1), limits j (r .0))
 
+-- a view that fits
+pub record Views (w : ℕ) (a c : Clock) : Type 0 where
+  pub own : w % a .period ≡ 0
+  pub other : w % c .period ≡ 0
+  pub begun : c .phase ≤ a .phase
+
+views : (w : ℕ) (a c : Clock) → viewFits w a c ≡ true → Views w a c
+views w a c e =
+    let s : (multiple (c .period) w && leb (c .phase) (a .phase)) ≡ true = and-right (multiple (a .period) w) _ e in
+    record {
+      own = eqb-true _ _ (and-left (multiple (a .period) w) _ e);
+      other = eqb-true _ _ (and-left (multiple (c .period) w) _ s);
+      begun = leb-true _ _ (and-right (multiple (c .period) w) _ s);
+    }
+
 -- a refusal names the row's own flow
 abbrev pub Own : ℕ → Result Clock → Type 0
 Own f (good k) = Unit {0}
@@ -58,9 +73,11 @@ own-row clk f (slower a k) = own-unless f (plain (clk a)) notPlain _ (own-limite
 own-row clk f (later a d) = own-unless f (plain (clk a)) notPlain _ (own-limited f (every (clk a .period) (clk a .phase + d)))
 own-row clk f (head a v s) = own-unless f (plain (clk a)) notPlain _ (own-unless f (eqb (clk a .phase) (s + clk a .period)) clocksDiffer (good (every (clk a .period) s)) tt)
 own-row clk f (tail a) = own-unless f (plain (clk a)) notPlain _ (own-limited f (every (clk a .period) (clk a .phase + clk a .period)))
-own-row clk f (sample u a c) = own-unless f (sameClock (clk a) (clk c)) clocksDiffer _ (own-limited f (under (clk a) c u))
-own-row clk f (merge c a b) = own-unless f (sameClock (clk a) (under (clk c) c true) && sameClock (clk b) (under (clk c) c false)) clocksDiffer (good (clk c)) tt
+own-row clk f (sample u a c) = own-unless f (sameClock (clk a) (clk c)) clocksDiffer _ (own-limited f (under (clk a) c u 0))
+own-row clk f (merge c a b) = own-unless f (sameClock (clk a) (under (clk c) c true 0) && sameClock (clk b) (under (clk c) c false 0)) clocksDiffer (good (clk c)) tt
 own-row clk f unrated = refl
+own-row clk f (view u a c w) =
+    own-unless f (plain (clk a) && plain (clk c)) notPlain _ (own-unless f (viewFits w (clk a) (clk c)) badView (good (under (clk a) c u w)) tt)
 
 -- The rules once more, as what holds where a row has a clock.
 pub data Rule (clk : ℕ → Clock) : Row → Clock → Type 0 where
@@ -75,8 +92,9 @@ pub data Rule (clk : ℕ → Clock) : Row → Clock → Type 0 where
   by-tail :
       {a : ℕ} → plain (clk a) ≡ true → Limited (every (clk a .period) (clk a .phase + clk a .period))
       → Rule clk (tail a) (every (clk a .period) (clk a .phase + clk a .period))
-  by-sample : {u : Bool} {a c : ℕ} → clk a ≡ clk c → Limited (under (clk a) c u) → Rule clk (sample u a c) (under (clk a) c u)
-  by-merge : {c a b : ℕ} → clk a ≡ under (clk c) c true → clk b ≡ under (clk c) c false → Rule clk (merge c a b) (clk c)
+  by-sample : {u : Bool} {a c : ℕ} → clk a ≡ clk c → Limited (under (clk a) c u 0) → Rule clk (sample u a c) (under (clk a) c u 0)
+  by-merge : {c a b : ℕ} → clk a ≡ under (clk c) c true 0 → clk b ≡ under (clk c) c false 0 → Rule clk (merge c a b) (clk c)
+  by-view : {u : Bool} {a c w : ℕ} → plain (clk a) ≡ true → plain (clk c) ≡ true → Views w (clk a) (clk c) → Rule clk (view u a c w) (under (clk a) c u w)
 
 module _ (clk : ℕ → Clock) (f : ℕ) where
   -- a test, and then a clock or a clock within the limits
@@ -106,9 +124,13 @@ module _ (clk : ℕ → Clock) (f : ℕ) where
       let u = unless-good (plain (clk a)) notPlain f _ k e in
       tested (eqb (clk a .phase) (s + clk a .period)) clocksDiffer (every (clk a .period) s) k (head a v s) (λ x. by-head (u .0) (eqb-true _ _ x)) (u .1)
   rule-of (tail a) k e = within (plain (clk a)) notPlain (every (clk a .period) (clk a .phase + clk a .period)) k (tail a) (λ x l. by-tail x l) e
-  rule-of (sample u a c) k e = within (sameClock (clk a) (clk c)) clocksDiffer (under (clk a) c u) k (sample u a c) (λ x l. by-sample (same-clock _ _ x) l) e
+  rule-of (sample u a c) k e = within (sameClock (clk a) (clk c)) clocksDiffer (under (clk a) c u 0) k (sample u a c) (λ x l. by-sample (same-clock _ _ x) l) e
   rule-of (merge c a b) k e =
-      let left : Bool = sameClock (clk a) (under (clk c) c true) in
-      tested (left && sameClock (clk b) (under (clk c) c false)) clocksDiffer (clk c) k (merge c a b)
+      let left : Bool = sameClock (clk a) (under (clk c) c true 0) in
+      tested (left && sameClock (clk b) (under (clk c) c false 0)) clocksDiffer (clk c) k (merge c a b)
       (λ x. by-merge (same-clock _ _ (and-left left _ x)) (same-clock _ _ (and-right left _ x))) e
   rule-of unrated k e = not-good e
+  rule-of (view u a c w) k e =
+      let x = unless-good (plain (clk a) && plain (clk c)) notPlain f _ k e in
+      tested (viewFits w (clk a) (clk c)) badView (under (clk a) c u w) k (view u a c w)
+      (λ y. by-view (and-left (plain (clk a)) _ (x .0)) (and-right (plain (clk a)) _ (x .0)) (views w (clk a) (clk c) y)) (x .1)

@@ -13,15 +13,20 @@ use Rattle.checker.specs.Rules.{clocksOf}
 
 -- how many words a clock has
 abbrev pub clockSize : ℕ
-clockSize = 7
+clockSize = 11
 
 abbrev pub conditionWord : Condition → ℕ
 conditionWord c = 2 * c .flow + bit (c .truth)
 
--- period, phase, how many conditions, and four words of conditions, unused ones 0
+-- one word a condition: four words, unused ones 0
+abbrev pub fourWords : (Condition → ℕ) → List Condition → List ℕ
+fourWords word cs = take 4 (map word cs ++ (0 ∷ 0 ∷ 0 ∷ 0 ∷ []))
+
+-- period, phase, how many conditions, four words of flow and truth, and four view periods
 abbrev pub clockWords : Clock → List ℕ
 clockWords k =
-    k .period ∷ k .phase ∷ length (k .conditions) ∷ take 4 (map conditionWord (k .conditions) ++ (0 ∷ 0 ∷ 0 ∷ 0 ∷ []))
+    k .period ∷ k .phase ∷ length (k .conditions)
+    ∷ (fourWords conditionWord (k .conditions) ++ fourWords (λ (c : Condition). c .view) (k .conditions))
 
 unfoldable pub clocksWords : List Clock → List ℕ
 clocksWords [] = []

@@ -4,10 +4,11 @@ use mathlib.Core.Bool.{Bool, true, false, _&&_, Bool·beq}
 use mathlib.Core.List.{List, [], _∷_, _++_}
 use lib.Dec.{eqb}
 
--- a flow and its truth: present and not 0, or present and 0
+-- a flow, its truth (present and not 0, or present and 0), and the view period at which it is looked at, 0 when it is sampled directly
 pub record Condition : Type 0 where
   pub flow : ℕ
   pub truth : Bool
+  pub view : ℕ
 
 -- conditions in order of sampling
 pub record Clock : Type 0 where
@@ -32,17 +33,17 @@ sameConditions [] [] = true
 sameConditions [] (d ∷ ds) = false
 sameConditions (c ∷ cs) [] = false
 sameConditions (c ∷ cs) (d ∷ ds) =
-    eqb (c .flow) (d .flow) && (Bool·beq (c .truth) (d .truth) && sameConditions cs ds)
+    eqb (c .flow) (d .flow) && (Bool·beq (c .truth) (d .truth) && (eqb (c .view) (d .view) && sameConditions cs ds))
 
 abbrev pub sameClock : Clock → Clock → Bool
 sameClock j k =
     eqb (j .period) (k .period) && (eqb (j .phase) (k .phase) && sameConditions (j .conditions) (k .conditions))
 
--- a clock with one more, last, condition: flow c has the truth u
-abbrev pub under : Clock → ℕ → Bool → Clock
-under k c u =
+-- a clock with one more, last, condition: flow c has the truth u, seen with view period w
+abbrev pub under : Clock → ℕ → Bool → ℕ → Clock
+under k c u w =
     record {
       period = k .period;
       phase = k .phase;
-      conditions = k .conditions ++ (record { flow = c; truth = u } ∷ []);
+      conditions = k .conditions ++ (record { flow = c; truth = u; view = w } ∷ []);
     }

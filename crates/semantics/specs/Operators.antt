@@ -1,5 +1,5 @@
 -- What each operator makes of its operands' cells at a tick and of their histories before it. The tick is the history's length.
-use Prim.Native.Nat.{ℕ, zero, suc, _+_, _*_, _-_, _%_, _^_}
+use Prim.Native.Nat.{ℕ, zero, suc, _+_, _*_, _-_, _/_, _%_, _^_}
 use mathlib.Core.Bool.{Bool, true, false, cond, _&&_, _||_, not, Bool·beq}
 use mathlib.Core.List.{_∷_}
 use mathlib.Core.Option.{Option, none, some}
@@ -9,7 +9,7 @@ use lib.IntN.{ℤ, pos, _-ℤ_}
 use lib.Signed.{ltZ}
 use Rattle.table.specs.Bits.{bit}
 use Rattle.table.specs.Rows.{Op, add, subtract, less, equal, larger}
-use Rattle.semantics.specs.Cells.{Cell, absent, present, mark, History, back, count, Presence, latest, onGrid}
+use Rattle.semantics.specs.Cells.{Cell, absent, present, mark, History, back, cellOn, count, Presence, latest, first, onGrid}
 
 -- a cell, or a clash (the paper's word for operands whose presences disagree)
 pub data Step : Type 0 where
@@ -121,3 +121,27 @@ alone (present x) (present y) = clashes
 unfoldable pub merged : Cell → Cell → Cell → Step
 merged absent a b = neither a b
 merged (present c) a b = cond (truthOf c) (alone a b) (alone b a)
+
+-- When-seen, when-not-seen, where a has its first presence at tick s, and c at tick r. At tick t: the latest tick not past t that lies zero or
+-- more times w after s; and the tick at which c is looked at, as far from r as that one is from s.
+abbrev pub viewStart : ℕ → ℕ → ℕ → ℕ
+viewStart w s t = s + w * ((t - s) / w)
+
+abbrev pub lookedAt : ℕ → ℕ → ℕ → ℕ → ℕ
+lookedAt w s r t = viewStart w s t - s + r
+
+-- c's cell at that tick, in a history k that ends with tick t: absent where that tick is past t, or where c has not begun
+abbrev pub seen : ℕ → ℕ → Option ℕ → Option ℕ → History → Cell
+seen w t (some s) (some r) k = cellOn k (lookedAt w s r t)
+seen w t (some s) none k = absent
+seen w t none r k = absent
+
+-- a's value x, present where c's value has the truth u; without a value of c: clash
+abbrev pub governed : Bool → ℕ → Cell → Step
+governed u x absent = clashes
+governed u x (present v) = is (cond (Bool·beq (truthOf v) u) (present x) absent)
+
+-- h and k are the histories of a and c before this tick. Where a is absent, so is the result, whatever c does.
+unfoldable pub viewed : Bool → ℕ → Cell → History → Cell → History → Step
+viewed u w absent h c k = is absent
+viewed u w (present x) h c k = governed u x (seen w (length h) (first (present x ∷ h)) (first (c ∷ k)) (c ∷ k))

@@ -6,9 +6,9 @@ use mathlib.Core.List.{List, [], _∷_, _++_, map}
 use mathlib.Core.Option.{Option, none, some}
 use lib.ListN.{length, getD, take}
 use Rattle.table.specs.Bits.{bit}
-use Rattle.table.specs.Rows.{Row, input, constant, combine, register, faster, slower, later, head, tail, sample, merge, unrated, badRegister}
+use Rattle.table.specs.Rows.{Row, input, constant, combine, register, faster, slower, later, head, tail, sample, merge, unrated, view, badRegister}
 use Rattle.semantics.specs.Cells.{Cell, absent, present, mark, History}
-use Rattle.semantics.specs.Operators.{Step, is, clashes, timed, combined, registered, fasterOf, slowerOf, laterOf, tailOf, headOf, sampled, merged}
+use Rattle.semantics.specs.Operators.{Step, is, clashes, timed, combined, registered, fasterOf, slowerOf, laterOf, tailOf, headOf, sampled, merged, viewed}
 
 -- one tick's cells in order of flows, and the ticks so far, the latest first
 abbrev pub Tick : Type 0
@@ -36,6 +36,7 @@ isInput (tail a) = false
 isInput (sample u a c) = false
 isInput (merge c a b) = false
 isInput unrated = false
+isInput (view u a c w) = false
 
 -- how many rows are inputs
 unfoldable pub inputs : List Row → ℕ
@@ -61,6 +62,7 @@ cellOf rows log past now (tail a) = is (tailOf (cellIn now a) (history past a))
 cellOf rows log past now (sample u a c) = sampled u (cellIn now a) (cellIn now c)
 cellOf rows log past now (merge c a b) = merged (cellIn now c) (cellIn now a) (cellIn now b)
 cellOf rows log past now unrated = clashes
+cellOf rows log past now (view u a c w) = viewed u w (cellIn now a) (history past a) (cellIn now c) (history past c)
 
 -- a tick worked out: all of it, or up to a clash that names a flow
 pub data TickEnd : Type 0 where
