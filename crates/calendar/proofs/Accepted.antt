@@ -6,8 +6,7 @@ use mathlib.Core.Bool.{true}
 use mathlib.Core.List.{List, [], _∷_, append-nil}
 use mathlib.Core.Option.{none}
 use lib.ListN.{length}
-use Rattle.table.specs.Rows.{Row, register, onRegister}
-use Rattle.table.specs.Rows.{badRegister}
+use Rattle.table.specs.Rows.{Row, onRegister, badRegister}
 use Rattle.table.proofs.Lists.{Each, each-map, each-both}
 use Rattle.table.proofs.Registers.{RegisterOr, is-register, is-other, register-or, Passes, none-bad}
 use Rattle.table.specs.Tables.{Fits}
@@ -37,7 +36,7 @@ module _ (rows : List Row) (ks : List Clock) (w : AllFit (length rows) 0 rows) (
     where
       go : (r : Row) → RegisterOr r → Fits (length rows) f r → onRegister (sourceFits ks) r ≡ true → onRegister (sourceMeets now) r ≡ true
       go r (is-register {b = b} {a = a}) x e =
-          beq-same _ _ (k a (x .1) .0 ∙ ap (λ (j : Clock). due j now past) (same-clock _ _ e) ∙ sym (k b (omega (arith, x .0)) .0))
+          beq-same _ _ (k a (x .1) .0 ∙ ap (λ (j : Clock). due (clockAt ks) j now past) (same-clock _ _ e) ∙ sym (k b (omega (arith, x .0)) .0))
       go r (is-other p) x e = p (sourceMeets now)
 
   no-bad-register : (past : Ticks) (now : Tick) → Kept (clockAt ks) (length rows) (now ∷ past) → badRegister (sourceMeets now) 0 rows ≡ none

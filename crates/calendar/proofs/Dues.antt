@@ -1,58 +1,81 @@
 -- When a clock is due at a tick, and what the operators that look at one tick alone make of it. Assumes nothing.
 use mathlib.Core.Path.{_≡_, refl, sym, _∙_, ap}
 use Prim.Native.Nat.{ℕ}
-use mathlib.Core.Bool.{Bool, true, false, cond, _&&_, not, Bool·beq, true≢false, false≢true, and-true, and-assoc}
+use mathlib.Core.Bool.{Bool, true, false, cond, _&&_, Bool·beq, true≢false, false≢true, and-true, and-assoc}
 use mathlib.Core.List.{List, [], _∷_, _++_}
 use lib.ListN.{length, List·getD-append}
 use Rattle.table.specs.Rows.{Op}
 use Rattle.checker.specs.Rules.{Below}
 use Rattle.checker.specs.Clocks.{Condition, Clock, plain, under}
 use Rattle.checker.proofs.ClockLaws.{plain-empty}
-use Rattle.semantics.specs.Cells.{Cell, absent, present, mark, History, onGrid}
+use Rattle.semantics.specs.Cells.{Cell, absent, present, mark, History, cellOn, onGrid}
 use Rattle.semantics.specs.Operators.{is, clashes, combined, registered, truthOf, sampled, neither, alone, merged}
-use Rattle.semantics.specs.Runs.{Tick, Ticks, cellIn}
-use Rattle.calendar.proofs.Flows.{Makes, cond-mark}
+use Rattle.semantics.specs.Runs.{Tick, Ticks, cellIn, history}
+use Rattle.semantics.proofs.Traces.{history-length}
+use Rattle.calendar.specs.Calendar.{readAt}
+use Rattle.calendar.proofs.Flows.{Makes, cond-mark, cell-now}
 
 -- a condition of truth u, read from its flow's cell
 abbrev pub holds : Bool → Cell → Bool
 holds u absent = false
 holds u (present v) = Bool·beq (truthOf v) u
 
-abbrev pub allHold : Tick → List Condition → Bool
-allHold now [] = true
-allHold now (c ∷ cs) = holds (c .truth) (cellIn now (c .flow)) && allHold now cs
+-- flow f's cell of tick u: of the tick after those past, or of an earlier one
+abbrev pub cellThen : Tick → Ticks → ℕ → ℕ → Cell
+cellThen now past f u = cellOn (cellIn now f ∷ history past f) u
 
--- the tick after those past is on the clock, the conditions read from its cells
-pub due : Clock → Tick → Ticks → Bool
-due k now past = onGrid (k .period) (k .phase) (length past) && allHold now (k .conditions)
+-- the cell that a condition of a clock with phase p is read from, for the tick after those past
+abbrev pub readFrom : (ℕ → Clock) → ℕ → Tick → Ticks → Condition → Cell
+readFrom clk p now past c = cellThen now past (c .flow) (readAt (c .view) p (clk (c .flow) .phase) (length past))
 
-pub due-is : (k : Clock) (now : Tick) (past : Ticks) → due k now past ≡ (onGrid (k .period) (k .phase) (length past) && allHold now (k .conditions))
-unfolding due
-due-is k now past = refl
+abbrev pub allHold : (ℕ → Clock) → ℕ → Tick → Ticks → List Condition → Bool
+allHold clk p now past [] = true
+allHold clk p now past (c ∷ cs) = holds (c .truth) (readFrom clk p now past c) && allHold clk p now past cs
 
-pub due-plain : (k : Clock) (now : Tick) (past : Ticks) → plain k ≡ true → due k now past ≡ onGrid (k .period) (k .phase) (length past)
-unfolding due
-due-plain k now past e = rw (plain-empty k e) (and-true _)
+-- the tick after those past is on the clock, its conditions read from the cells of that tick and of those past
+pub due : (ℕ → Clock) → Clock → Tick → Ticks → Bool
+due clk k now past = onGrid (k .period) (k .phase) (length past) && allHold clk (k .phase) now past (k .conditions)
 
--- one condition more
-hold-snoc : (now : Tick) (cs : List Condition) (c : Condition) → allHold now (cs ++ (c ∷ [])) ≡ (allHold now cs && holds (c .truth) (cellIn now (c .flow)))
-hold-snoc now [] c = and-true _
-hold-snoc now (d ∷ cs) c = rw (hold-snoc now cs c) (sym (and-assoc (holds (d .truth) (cellIn now (d .flow))) (allHold now cs) _))
+module _ (clk : ℕ → Clock) where
+  pub due-is : (k : Clock) (now : Tick) (past : Ticks)
+      → due clk k now past ≡ (onGrid (k .period) (k .phase) (length past) && allHold clk (k .phase) now past (k .conditions))
+  unfolding due
+  due-is k now past = refl
 
-pub due-under : (k : Clock) (c : ℕ) (u : Bool) (now : Tick) (past : Ticks) → due (under k c u) now past ≡ (due k now past && holds u (cellIn now c))
-unfolding due
-due-under k c u now past =
-    ap (λ (b : Bool). onGrid (k .period) (k .phase) (length past) && b) (hold-snoc now (k .conditions) record { flow = c; truth = u })
-    ∙ sym (and-assoc (onGrid (k .period) (k .phase) (length past)) _ _)
+  pub due-plain : (k : Clock) (now : Tick) (past : Ticks) → plain k ≡ true → due clk k now past ≡ onGrid (k .period) (k .phase) (length past)
+  unfolding due
+  due-plain k now past e = rw (plain-empty k e) (and-true _)
 
--- the flows after its conditions do not matter to a clock
-hold-append : (now more : Tick) (cs : List Condition) → Below (length now) cs → allHold (now ++ more) cs ≡ allHold now cs
-hold-append now more [] b = refl
-hold-append now more (c ∷ cs) b = rw (List·getD-append now more absent (c .flow) (b .0), hold-append now more cs (b .1))
+  -- one condition more
+  hold-snoc : (p : ℕ) (now : Tick) (past : Ticks) (cs : List Condition) (c : Condition)
+      → allHold clk p now past (cs ++ (c ∷ [])) ≡ (allHold clk p now past cs && holds (c .truth) (readFrom clk p now past c))
+  hold-snoc p now past [] c = and-true _
+  hold-snoc p now past (d ∷ cs) c =
+      rw (hold-snoc p now past cs c) (sym (and-assoc (holds (d .truth) (readFrom clk p now past d)) (allHold clk p now past cs) _))
 
-pub due-append : (now more : Tick) (k : Clock) (past : Ticks) → Below (length now) (k .conditions) → due k (now ++ more) past ≡ due k now past
-unfolding due
-due-append now more k past b = rw (hold-append now more (k .conditions) b)
+  pub due-under : (k : Clock) (c : ℕ) (u : Bool) (w : ℕ) (now : Tick) (past : Ticks)
+      → due clk (under k c u w) now past ≡ (due clk k now past && holds u (readFrom clk (k .phase) now past record { flow = c; truth = u; view = w }))
+  unfolding due
+  due-under k c u w now past =
+      ap (λ (b : Bool). onGrid (k .period) (k .phase) (length past) && b)
+      (hold-snoc (k .phase) now past (k .conditions) record { flow = c; truth = u; view = w })
+      ∙ sym (and-assoc (onGrid (k .period) (k .phase) (length past)) _ _)
+
+  -- one that is sampled directly
+  pub due-direct : (k : Clock) (c : ℕ) (u : Bool) (now : Tick) (past : Ticks) → due clk (under k c u 0) now past ≡ (due clk k now past && holds u (cellIn now c))
+  due-direct k c u now past =
+      due-under k c u 0 now past
+      ∙ ap (λ (x : Cell). due clk k now past && holds u x) (cell-now (cellIn now c) (history past c) (length past) (sym (history-length past c)))
+
+  -- the flows after its conditions do not matter to a clock
+  hold-append : (p : ℕ) (now more : Tick) (past : Ticks) (cs : List Condition) → Below (length now) cs
+      → allHold clk p (now ++ more) past cs ≡ allHold clk p now past cs
+  hold-append p now more past [] b = refl
+  hold-append p now more past (c ∷ cs) b = rw (List·getD-append now more absent (c .flow) (b .0), hold-append p now more past cs (b .1))
+
+  pub due-append : (now more : Tick) (k : Clock) (past : Ticks) → Below (length now) (k .conditions) → due clk k (now ++ more) past ≡ due clk k now past
+  unfolding due
+  due-append now more k past b = rw (hold-append (k .phase) now more past (k .conditions) b)
 
 pub made : (c : Cell) (b : Bool) → mark c ≡ b → Makes (is c) b
 made c b e = record { cell = c; eq = refl; due-eq = e }

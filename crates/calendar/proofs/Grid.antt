@@ -56,7 +56,7 @@ at-first n p t e = of-on record { whole = 0; eq = omega arith }
 pub at-second : (n p t : ℕ) → t ≡ p + n → onGrid n p t ≡ true
 at-second n p t e = of-on record { whole = 1; eq = omega arith }
 
-before-first : (n p t : ℕ) → t < p → onGrid n p t ≡ false
+pub before-first : (n p t : ℕ) → t < p → onGrid n p t ≡ false
 before-first n p t l = not-on n p t (λ o. omega (arith, o .eq))
 
 before-second : (n p t : ℕ) → p < t → t < p + n → onGrid n p t ≡ false

@@ -1,4 +1,4 @@
--- A plan free of sampling and merging whose clocks differ clashes within the judging ticks. Assumes nothing.
+-- A plan free of sampling, merging and views whose clocks differ clashes within the judging ticks. Assumes nothing.
 use mathlib.Core.Path.{_≡_, refl, sym, _∙_, ap, subst}
 use Prim.Native.Nat.{ℕ, suc, _+_, _*_, _-_, _≤_, _<_}
 use native.Mathlib.Decide.{decLt}
@@ -10,7 +10,7 @@ use lib.ListN.{length, length-append}
 use lib.Dec.{eqb}
 use borrow.Author.Tests.{eqb-false}
 use Rattle.table.specs.Answers.{Refusal, Result, good, refused, unless, clocksDiffer, beyondLimits, notPlain}
-use Rattle.table.specs.Rows.{Row, input, constant, combine, register, faster, slower, later, head, tail, sample, merge, unrated, onRegister}
+use Rattle.table.specs.Rows.{Row, input, constant, combine, register, faster, slower, later, head, tail, sample, merge, unrated, view, onRegister}
 use Rattle.table.proofs.Lists.{Each, each-front, each-at, below-suc}
 use Rattle.table.proofs.Registers.{RegisterOr, is-register, is-other, register-or, Passes, Registers, all-pass, registers}
 use Rattle.table.specs.Tables.{Fits}
@@ -19,7 +19,7 @@ use Rattle.checker.specs.Clocks.{Clock, every, plain, sameClock}
 use Rattle.checker.specs.Rules.{maxDerived, withinLimits, limited, clockOf, clockAt, sourceFits, clocksOf}
 use Rattle.checker.proofs.ClockLaws.{beq-true, plain-differ}
 use Rattle.checker.proofs.RuleLaws.{Rule, by-input, by-constant, by-combine, by-register, by-faster, by-slower, by-later, by-head, by-tail}
-use Rattle.checker.proofs.RuleLaws.{by-sample, by-merge, rule-of}
+use Rattle.checker.proofs.RuleLaws.{by-sample, by-merge, by-view, rule-of}
 use Rattle.checker.proofs.CheckLaws.{Clocked, Sane, AllSane, all-sane, Checked, fine, bad-row, bad-source, checked}
 use Rattle.semantics.specs.Cells.{mark, onGrid}
 use Rattle.semantics.specs.Operators.{clashes}
@@ -33,7 +33,7 @@ use Rattle.calendar.proofs.Keeping.{Kept, regular}
 use Rattle.calendar.proofs.Endings.{not-filled, Last, last, ended-before, tick-parts, front-of, front-kept, front-filled}
 use Rattle.calendar.proofs.Endings.{tick-kept, run-kept}
 
--- a row that samples or merges, and one that does neither
+-- a row that samples, merges or views, and one that does not
 abbrev pub conditional : Row → Bool
 conditional (input n p) = false
 conditional (constant v n p) = false
@@ -47,6 +47,7 @@ conditional (tail a) = false
 conditional (sample u a c) = true
 conditional (merge c a b) = true
 conditional unrated = false
+conditional (view u a c w) = true
 
 abbrev pub FreeRow : Row → Type 0
 FreeRow r = conditional r ≡ false
@@ -71,6 +72,7 @@ module _ (clk : ℕ → Clock) (m : ℕ) where
   plain-row f r k (by-tail y z) w x s = refl
   plain-row f r k (by-sample y l) w x s = absurd (true≢false x)
   plain-row f r k (by-merge y z) w x s = absurd (true≢false x)
+  plain-row f r k (by-view y z v) w x s = absurd (true≢false x)
 
   plain-from : (f : ℕ) (rs : List Row) → AllFit m f rs → AllFree f rs → Clocked clk f rs → AllPlain clk f → AllPlain clk (f + length rs)
   plain-from f [] w x k s = subst (AllPlain clk) (omega arith) s
@@ -109,12 +111,12 @@ record Clashing (rows : List Row) (log : List ℕ) (clk : ℕ → Clock) (f : �
 
 module _ (rows : List Row) (log : List ℕ) (clk : ℕ → Clock) (f : ℕ) (sane : AllSane clk f) (flat : AllPlain clk f) where
   regular-at : (a : ℕ) → a < f → (past : Ticks) (now : Tick) → Kept clk f (now ∷ past) → Regular (clk a .period) (clk a .phase) (cellIn now a ∷ history past a)
-  regular-at a l past now k = regular (clk a) now past a (flat a l) (k a l)
+  regular-at a l past now k = regular clk now past a (flat a l) (k a l)
 
   parting : (a b : ℕ) → a < f → b < f → sameClock (clk a) (clk b) ≡ false → Parted (clk a .period) (clk a .phase) (clk b .period) (clk b .phase) maxDerived
   parting a b l m e =
-      let x : Sane a (clk a) = sane a l in
-      let y : Sane b (clk b) = sane b m in
+      let x : Sane clk a (clk a) = sane a l in
+      let y : Sane clk b (clk b) = sane b m in
       parted _ _ _ _ maxDerived (x .period-fits) (x .phase-fits) (y .period-fits) (y .phase-fits) (x .positive) (y .positive) (plain-differ (clk a) (clk b) (flat a l) (flat b m) e)
 
   -- there one is present and not the other
@@ -124,19 +126,19 @@ module _ (rows : List Row) (log : List ℕ) (clk : ℕ → Clock) (f : ℕ) (san
       p .apart (subst (λ (t : ℕ). onGrid (clk a .period) (clk a .phase) t ≡ onGrid (clk b .period) (clk b .phase) t) e (sym (on a l) ∙ q ∙ on b m))
     where
       on : (a : ℕ) → a < f → mark (cellIn now a) ≡ onGrid (clk a .period) (clk a .phase) (length past)
-      on a l = k a l .0 ∙ due-plain (clk a) now past (flat a l)
+      on a l = k a l .0 ∙ due-plain clk (clk a) now past (flat a l)
 
   head-clashing : (a v s : ℕ) → a < f → (clk a .phase ≡ s + clk a .period → ⊥) → Dec (s < clk a .phase) → Clashing rows log clk f (head a v s)
   unfolding cellOf
   head-clashing a v s l d (yes y) =
-      let z : Sane a (clk a) = sane a l in
+      let z : Sane clk a (clk a) = sane a l in
       record {
         tick = clk a .phase + clk a .period;
         soon = omega arith;
         clash = λ past now t k. head-clash _ _ _ _ (z .positive) (regular-at a l past now k) v s y d (history-length past a ∙ t);
       }
   head-clashing a v s l d (no y) =
-      let z : Sane a (clk a) = sane a l in
+      let z : Sane clk a (clk a) = sane a l in
       record {
         tick = clk a .phase;
         soon = omega arith;
@@ -152,7 +154,7 @@ module _ (rows : List Row) (log : List ℕ) (clk : ℕ → Clock) (f : ℕ) (san
       record { tick = p .tick; soon = p .soon; clash = λ past now t k. combined-clash op _ _ (λ q. marks-part a b (w .0) (w .1) p past now t k q) }
   row-clashing m g (register v b a) w x e = good-refused e
   row-clashing m g (faster a c gap) w x e =
-      let s : Sane a (clk a) = sane a (w .0) in
+      let s : Sane clk a (clk a) = sane a (w .0) in
       let d : (clk a .period ≡ c * gap → ⊥) =
       eqb-false _ _ (failed-test (eqb (clk a .period) (c * gap)) clocksDiffer clocksDiffer f g _ (passed-test _ notPlain clocksDiffer f g _ (flat a (w .0)) e)) in
       record {
@@ -170,6 +172,7 @@ module _ (rows : List Row) (log : List ℕ) (clk : ℕ → Clock) (f : ℕ) (san
   row-clashing m g (sample u a c) w x e = absurd (true≢false x)
   row-clashing m g (merge c a b) w x e = absurd (true≢false x)
   row-clashing m g unrated w x e = absurd (let z : _≡_ {A = ℕ} 0 1 = cc in omega arith)
+  row-clashing m g (view u a c v) w x e = absurd (true≢false x)
 
 module _ (rows : List Row) (fit : AllFit (length rows) 0 rows) (free : AllFree 0 rows) (log : List ℕ) (all : Ticks) (ended : run rows log judgingTicks ≡ done all) where
   -- tick t of the run

@@ -2,6 +2,7 @@ pub mod Cases
 pub mod Grid
 pub mod Flows
 pub mod Dues
+pub mod Views
 pub mod Keeping
 pub mod Accepted
 pub mod Unclashed

@@ -1,5 +1,5 @@
 -- Check and run share one calendar. Assumes nothing.
-use mathlib.Core.Path.{_≡_, refl, sym, _∙_, ap, subst}
+use mathlib.Core.Path.{_≡_, refl, _∙_, ap, subst}
 use mathlib.Core.Logic.{_↔_, inl, inr}
 use Prim.Native.Nat.{ℕ, _+_, _*_, _≤_, _<_}
 use native.Mathlib.Nat.{mul-le-mul-right}
@@ -14,7 +14,7 @@ use Rattle.table.specs.Answers.{wrongLog, shortTrace}
 use Rattle.table.specs.Rows.{Row, tail, Kind, kinds, kindCount, decode}
 use Rattle.table.specs.Plain.{rowWords, tableOf}
 use Rattle.table.specs.Tables.{rowAt}
-use Rattle.table.proofs.Tests.{and-left, and-right, Tried, passed, failed, try, good-inj, unless-good, then-good}
+use Rattle.table.proofs.Tests.{and-left, and-right, one-of, good-inj, unless-good, then-good}
 use Rattle.table.proofs.AnswerLaws.{no-zero, answer-zero, is-differing}
 use Rattle.table.proofs.Lists.{Each, each-of}
 use Rattle.table.proofs.Entries.{every, kind-test}
@@ -23,14 +23,14 @@ use Rattle.table.proofs.Tables.{AllFit, Made, Table, table-made}
 use Rattle.checker.specs.Clocks.{Clock}
 use Rattle.checker.specs.Rules.{clockAt, sourceFits, clocksOf}
 use Rattle.checker.specs.Answers.{clockSize, clocksWords, checking, checkAnswer}
-use Rattle.checker.proofs.CheckLaws.{Clocked, AllSane, all-sane, Checked, fine, bad-row, bad-source, checked}
+use Rattle.checker.proofs.CheckLaws.{Clocked, AllSane, all-sane}
 use Rattle.semantics.specs.Cells.{value}
 use Rattle.semantics.specs.Runs.{Ticks, inputs, Ran, done, clashed, run, cells, Regular as Wide}
 use Rattle.semantics.specs.Answers.{maxTicks, running, ranAnswer, markByte}
-use Rattle.calendar.specs.Calendar.{Accepts, Asked, Ends, OnCalendar, Free, Judged, judgingTicks, SharedCalendar}
+use Rattle.calendar.specs.Calendar.{Accepts, Asked, Ends, OnCalendar, Samples, Free, Judged, judgingTicks, SharedCalendar}
 use Rattle.semantics.proofs.Traces.{cells-length}
 use Rattle.calendar.proofs.Accepted.{Runs, runs}
-use Rattle.calendar.proofs.Unclashed.{rows-fit}
+use Rattle.calendar.proofs.Unclashed.{rows-fit, Found, clocks-found}
 use Rattle.calendar.proofs.Judged.{conditional, FreeRow, AllFree, refused-clashes}
 use Rattle.calendar.proofs.Shown.{AtTick, at-tick, written, due-shown}
 
@@ -52,26 +52,20 @@ accepted m words room e =
     let a = answer-zero length (checking m words room) e in
     let b = then-good (tableOf m words) (λ rows. unless (leb (clockSize * m) room) noRoom 0 (clocksOf rows)) (a .0) (a .1) in
     let c = unless-good (leb (clockSize * m) room) noRoom 0 (clocksOf (b .0)) (a .0) (b .2) in
-    go (b .0) (a .0) (b .1) (a .1) (clocksOf (b .0)) (c .1) (checked (length (b .0)) (b .0) (rows-fit m words (b .0) (b .1)))
-  where
-    go : (rows : List Row) (ks : List Clock) → tableOf m words ≡ good rows → checking m words room ≡ good ks
-        → (c : Result (List Clock)) → c ≡ good ks → Checked rows c → Accepted m words room
-    go rows ks t f c x (fine ks′ s k y) =
-        let p : ks′ ≡ ks = good-inj x in
-        let z : length rows ≡ m = table-made m words rows t .size in
-        record {
-          rows = rows;
-          clocks = ks;
-          table = t;
-          size = z;
-          clocks-size = ap length (sym p) ∙ s ∙ z;
-          fits = rows-fit m words rows t;
-          clocked = subst (λ (l : List Clock). Clocked (clockAt l) 0 rows) p k;
-          sources = subst (λ (l : List Clock). Each (Passes (sourceFits l)) 0 rows) p y;
-          found = f;
-        }
-    go rows ks t f c x (bad-row ks′ why g front r back y k z) = absurd (let p : _≡_ {A = ℕ} 0 1 = cc in omega arith)
-    go rows ks t f c x (bad-source ks′ g front r back k y z) = absurd (let p : _≡_ {A = ℕ} 0 1 = cc in omega arith)
+    let fit : AllFit (length (b .0)) 0 (b .0) = rows-fit m words (b .0) (b .1) in
+    let size : length (b .0) ≡ m = table-made m words (b .0) (b .1) .size in
+    let f : Found (b .0) (a .0) = clocks-found (b .0) (a .0) fit (c .1) in
+    record {
+      rows = b .0;
+      clocks = a .0;
+      table = b .1;
+      size = size;
+      clocks-size = f .0 ∙ size;
+      fits = fit;
+      clocked = f .1;
+      sources = f .2;
+      found = a .1;
+    }
 
 -- where the lengths are those asked, the run is the rows'
 asked-runs : (m : ℕ) (words : List ℕ) (rows : List Row) (log : List ℕ) (ticks : ℕ) (marks values : List ℕ) → tableOf m words ≡ good rows
@@ -102,13 +96,12 @@ module _ (m : ℕ) (words clocks log : List ℕ) (ticks : ℕ) (marks values : L
   on-calendar t f x y =
       let s : AtTick m (r .past) t = at-tick m (r .past) t wide (rw (r .size) x) in
       rw (e, a .found)
-      (due-shown m (over (map markByte (cells (r .past))) marks) (over (map value (cells (r .past))) values) t (s .now)
+      (due-shown m (over (map markByte (cells (r .past))) marks) (over (map value (cells (r .past))) values) t (s .now) (s .before) (s .size)
       record {
-        mark-at = λ g z. written markByte (cells (r .past)) _ (t * m + g) (inside t g x z) ∙ ap markByte (s .cell g z);
-        value-at = λ g z. written value (cells (r .past)) _ (t * m + g) (inside t g x z) ∙ ap value (s .cell g z);
+        mark-at = λ u g v z. written markByte (cells (r .past)) _ (u * m + g) (inside u g (omega arith) z) ∙ ap markByte (s .cell u g v z);
+        value-at = λ u g v z. written value (cells (r .past)) _ (u * m + g) (inside u g (omega arith) z) ∙ ap value (s .cell u g v z);
       }
-      (a .clocks) (drop (length (clocksWords (a .clocks))) clocks) f (s .before) y (rw (a .clocks-size) y) (sane f y) (s .size)
-      (s .keeps (clockAt (a .clocks) f) f (r .kept f (rw (a .size) y))))
+      (a .clocks) (drop (length (clocksWords (a .clocks))) clocks) f y (a .clocks-size) (sane f y) (s .keeps (clockAt (a .clocks)) f (r .kept f (rw (a .size) y))))
 
 accepted-run : (m : ℕ) (words clocks : List ℕ) → Accepts m words clocks → (log : List ℕ) (ticks : ℕ) (marks values : List ℕ) → ticks ≤ maxTicks
     → Asked m words log ticks marks values → Ends m words log ticks marks values × OnCalendar m words clocks log ticks marks values
@@ -122,21 +115,27 @@ accepted-run m words clocks x log ticks marks values l asked = go (accepted m wo
         (rw e, on-calendar m words clocks log ticks marks values a r e)
 
 -- SECOND HALF
--- kinds other than 13 to 15 make rows that neither sample nor merge
+-- kinds other than 13 to 15, 17 and 18 make rows that neither sample nor merge nor view
+between : ℕ → ℕ → ℕ → Bool
+between low high n = leb low n && leb n high
+
+in-between : (low high n : ℕ) → between low high n ≡ true → (low ≤ n) × (n ≤ high)
+unfolding between
+in-between low high n e = (leb-true low n (and-left (leb low n) _ e), leb-true n high (and-right (leb low n) _ e))
+
 free-kind : (x y z : ℕ) (n : ℕ) (k : Kind) → Bool
-free-kind x y z n k = (leb 13 n && leb n 15) || not (conditional (k .make x y z))
+free-kind x y z n k = between 13 15 n || (between 17 18 n || not (conditional (k .make x y z)))
 
 kinds-free : (x y z : ℕ) → every (free-kind x y z) 0 kinds ≡ true
-unfolding kinds free-kind
+unfolding kinds free-kind between
 kinds-free x y z = refl
 
-row-free : (n x y z : ℕ) → n < kindCount → (13 ≤ n → n ≤ 15 → ⊥) → FreeRow (decode n x y z)
+row-free : (n x y z : ℕ) → n < kindCount → (Samples n → ⊥) → FreeRow (decode n x y z)
 unfolding free-kind
-row-free n x y z l h = go (try (leb 13 n && leb n 15)) (kind-test (free-kind x y z) (kinds-free x y z) n l)
-  where
-    go : Tried (leb 13 n && leb n 15) → ((leb 13 n && leb n 15) || not (conditional (decode n x y z))) ≡ true → FreeRow (decode n x y z)
-    go (passed e) t = absurd (h (leb-true 13 n (and-left (leb 13 n) _ e)) (leb-true n 15 (and-right (leb 13 n) _ e)))
-    go (failed e) t = not-true (conditional (decode n x y z)) (rw e at t)
+row-free n x y z l h =
+    one-of (between 13 15 n) _ (λ e. absurd (h (inl (in-between 13 15 n e))))
+    (one-of (between 17 18 n) _ (λ e. absurd (h (inr (in-between 17 18 n e)))) (not-true (conditional (decode n x y z))))
+    (kind-test (free-kind x y z) (kinds-free x y z) n l)
 
 free-rows : (m : ℕ) (words : List ℕ) (rows : List Row) → tableOf m words ≡ good rows → Free m words → AllFree 0 rows
 free-rows m words rows e free = go (table-made m words rows e)
