@@ -5,8 +5,7 @@ use native.Mathlib.Omega.{arith}
 use mathlib.Core.Bool.{Bool, true, cond}
 use mathlib.Core.List.{List, [], _∷_, _++_}
 use mathlib.Core.Option.{Option, none, some}
-use lib.ListN.{length, drop, take, length-append}
-use lib.Seq.{take-at}
+use lib.ListN.{length, drop, length-append}
 use lib.Dec.{eqb, leb}
 use borrow.Author.Tests.{le-leb, lt-leb}
 use Rattle.table.specs.Answers.{Refusal, noRoom, Result, good, refused, unless, then, over}
@@ -18,10 +17,12 @@ use Rattle.table.proofs.Tables.{Made, Table, AllFit}
 use Rattle.table.proofs.Registers.{register-same, register-by}
 use Rattle.checker.specs.Clocks.{Clock}
 use Rattle.checker.specs.Rules.{clockOf, clockAt, clocksFrom, clocksOf, sourced, sourceFits, AllWithin}
-use Rattle.checker.specs.Answers.{clockSize, clocksWords, checking, clocksAfter}
+use Rattle.checker.specs.Answers.{clockSize, checking, clocksAfter}
+use Rattle.checker.specs.Private.Kept.{keptSize, keptWords}
 use Rattle.checker.specs.Private.Kept as Kept
-use Rattle.checker.proofs.Agree.{few, same-kept}
-use Rattle.checker.proofs.Folds.{clock-in, words-length}
+use Rattle.checker.proofs.Agree.{same-kept}
+use Rattle.checker.proofs.Folds.{clock-in}
+use Rattle.checker.proofs.Giving.{all-given}
 
 -- ---- the registers' sources, over clocks and over words
 
@@ -44,16 +45,16 @@ clocks-length js (r ∷ rs) ks e =
     omega (arith, clocks-length (js ++ (x .0 ∷ [])) rs ks (x .2), length-append js (x .0 ∷ []))
 
 module _ (m : ℕ) (words : List ℕ) (rows : List Row) (t : Table m words rows) (ks : List Clock) (e : clocksFrom [] rows ≡ good ks)
-    (old buffer : List ℕ) (held : buffer ≡ over (clocksWords ks) old) (within : AllWithin ks) where
+    (old buffer : List ℕ) (held : buffer ≡ over (keptWords ks) old) (within : AllWithin ks) where
   fits-same : (b a : ℕ) → b < m → a < m → Kept.fitsIn buffer b a ≡ sourceFits ks b a
   fits-same b a p q =
       let n : length ks ≡ m = omega (arith, clocks-length [] rows ks e, t .size) in
       let x : a < length ks = omega arith in
       let y : b < length ks = omega arith in
       ap₂ Kept.same
-      (ap (λ (l : List ℕ). Kept.clockIn (drop (clockSize * a) l)) held ∙ clock-in ks (drop (length (clocksWords ks)) old) a x)
-      (ap (λ (l : List ℕ). Kept.clockIn (drop (clockSize * b) l)) held ∙ clock-in ks (drop (length (clocksWords ks)) old) b y)
-      ∙ sym (same-kept (clockAt ks a) (clockAt ks b) (few (clockAt ks a) (within a x)))
+      (ap (λ (l : List ℕ). Kept.clockIn (drop (keptSize * a) l)) held ∙ clock-in ks (drop (length (keptWords ks)) old) a x)
+      (ap (λ (l : List ℕ). Kept.clockIn (drop (keptSize * b) l)) held ∙ clock-in ks (drop (length (keptWords ks)) old) b y)
+      ∙ sym (same-kept (clockAt ks a) (clockAt ks b) (within a x) (within b y .1))
 
   pub sourced-by : (o : Option ℕ) → o ≡ badRegister (Kept.fitsIn buffer) 0 rows → clocksOf rows ≡ sourced ks o
   unfolding clocksOf
@@ -95,11 +96,10 @@ clocks-found rows ks e =
 all-clocks : (rows : List Row) (ks : List Clock) → clocksOf rows ≡ good ks → length ks ≡ length rows
 all-clocks rows ks e = omega (arith, clocks-length [] rows ks (clocks-found rows ks e))
 
--- the words that were copied
-pub whole-copied : (m : ℕ) (words old zeros buffer new : List ℕ) (rows : List Row) (ks : List Clock) → Table m words rows → clocksOf rows ≡ good ks
-    → checking m words (length old) ≡ clocksOf rows → buffer ≡ over (clocksWords ks) zeros
-    → new ≡ take (clockSize * m) buffer ++ drop (clockSize * m) old → new ≡ clocksAfter m words old
-whole-copied m words old zeros buffer new rows ks t e w held copied =
-    let n : length (clocksWords ks) ≡ clockSize * m = omega (arith, words-length ks, all-clocks rows ks e, t .size) in
-    rw (w, e) (copied ∙ ap₂ _++_ (ap (take (clockSize * m)) held ∙ take-at (clocksWords ks) (drop (length (clocksWords ks)) zeros) (clockSize * m) n)
-    (ap (λ (i : ℕ). drop i old) (sym n)))
+-- the words that were given out
+pub whole-given : (m : ℕ) (words old zeros buffer new : List ℕ) (rows : List Row) (ks : List Clock) → Table m words rows → clocksOf rows ≡ good ks
+    → checking m words (length old) ≡ clocksOf rows → (buffer ≡ over (keptWords ks) zeros) × AllWithin ks
+    → new ≡ over (Kept.allGiven m buffer) old → new ≡ clocksAfter m words old
+whole-given m words old zeros buffer new rows ks t e w held given =
+    let n : m ≡ length ks = omega (arith, all-clocks rows ks e, t .size) in
+    rw (w, e) (given ∙ ap (λ (l : List ℕ). over l old) (ap₂ Kept.allGiven n (held .0) ∙ all-given ks (drop (length (keptWords ks)) zeros) (held .1)))

@@ -4,9 +4,9 @@ use Prim.Native.Nat.{ℕ, zero, suc, _+_, _*_, _≤_, _<_}
 use native.Mathlib.Numerals.{add-one}
 use native.Mathlib.Omega.{arith}
 use mathlib.Core.Bool.{Bool, true, false}
-use mathlib.Core.List.{List, [], _∷_, _++_, map, append-assoc, append-nil}
+use mathlib.Core.List.{List, [], _∷_, _++_, append-assoc, append-nil}
 use mathlib.Core.Option.{none, some}
-use lib.ListN.{length, take, drop, getD, length-append, drop-of-length-le}
+use lib.ListN.{length, take, drop, length-append, drop-of-length-le}
 use lib.Seq.{drop-cons, drop-drop, take-at, drop-at, drop-append-add}
 use Rattle.table.specs.Tables.{rowAt}
 use Rattle.table.specs.Answers.{Refusal, Result, good, refused, number, answer, success, numbered, over}
@@ -16,9 +16,9 @@ use Rattle.table.specs.Plain.{rowWords}
 use Rattle.table.proofs.Tables.{Table, Made}
 use Rattle.checker.specs.Clocks.{Clock}
 use Rattle.checker.specs.Rules.{clockOf, clockAt, clocksFrom, Within, AllWithin}
-use Rattle.checker.specs.Answers.{clockSize, conditionWord, clockWords, clocksWords}
 use Rattle.checker.specs.declared.Clock.{Clock as Kept}
 use Rattle.checker.specs.declared.Verdict.the-variants.{Is, Refused}
+use Rattle.checker.specs.Private.Kept.{keptSize, keptWords}
 use Rattle.checker.specs.Private.Kept as Kept
 use Rattle.checker.proofs.Agree.{Agrees}
 use Rattle.checker.proofs.ByRow.{row-agrees}
@@ -34,43 +34,35 @@ is-not-refused e = let z : _≡_ {A = ℕ} 0 1 = cc in omega arith
 
 -- ---- the words of clocks
 
-four-words : (ws : List ℕ) → take 4 (ws ++ (0 ∷ 0 ∷ 0 ∷ 0 ∷ [])) ≡ getD ws 0 0 ∷ getD ws 1 0 ∷ getD ws 2 0 ∷ getD ws 3 0 ∷ []
-four-words [] = refl
-four-words (a ∷ []) = refl
-four-words (a ∷ b ∷ []) = refl
-four-words (a ∷ b ∷ c ∷ []) = refl
-four-words (a ∷ b ∷ c ∷ d ∷ ws) = refl
-
-pub words-kept : (k : Clock) → clockWords k ≡ Kept.words (Kept.kept k)
-words-kept k = rw (four-words (map conditionWord (k .conditions)))
-
-pub words-cons : (k : Clock) (ks : List Clock) → clocksWords (k ∷ ks) ≡ Kept.words (Kept.kept k) ++ clocksWords ks
-unfolding clocksWords
-words-cons k ks = ap (λ (l : List ℕ). l ++ clocksWords ks) (words-kept k)
-
-pub words-length : (ks : List Clock) → length (clocksWords ks) ≡ clockSize * length ks
-unfolding clocksWords
+words-length : (ks : List Clock) → length (keptWords ks) ≡ keptSize * length ks
+unfolding keptWords
 words-length [] = refl
-words-length (k ∷ ks) = ap length (words-cons k ks) ∙ omega (arith, words-length ks)
+words-length (k ∷ ks) = omega (arith, words-length ks)
 
-pub words-snoc : (ks : List Clock) (k : Clock) → clocksWords (ks ++ (k ∷ [])) ≡ clocksWords ks ++ Kept.words (Kept.kept k)
-unfolding clocksWords
-words-snoc [] k = words-cons k [] ∙ append-nil (Kept.words (Kept.kept k))
-words-snoc (j ∷ ks) k =
-    words-cons j (ks ++ (k ∷ [])) ∙ ap (λ (l : List ℕ). Kept.words (Kept.kept j) ++ l) (words-snoc ks k)
-    ∙ sym (append-assoc (Kept.words (Kept.kept j)) (clocksWords ks) (Kept.words (Kept.kept k)))
-    ∙ ap (λ (l : List ℕ). l ++ Kept.words (Kept.kept k)) (sym (words-cons j ks))
+words-snoc : (ks : List Clock) (k : Clock) → keptWords (ks ++ (k ∷ [])) ≡ keptWords ks ++ Kept.words (Kept.kept k)
+unfolding keptWords
+words-snoc [] k = append-nil (Kept.words (Kept.kept k))
+words-snoc (j ∷ ks) k = ap (λ (l : List ℕ). Kept.words (Kept.kept j) ++ l) (words-snoc ks k)
 
 -- the clock of a flow, read from the words
-pub clock-in : (ks : List Clock) (rest : List ℕ) (g : ℕ) → g < length ks → Kept.clockIn (drop (clockSize * g) (clocksWords ks ++ rest)) ≡ Kept.kept (clockAt ks g)
+pub clock-in : (ks : List Clock) (rest : List ℕ) (g : ℕ) → g < length ks → Kept.clockIn (drop (keptSize * g) (keptWords ks ++ rest)) ≡ Kept.kept (clockAt ks g)
+unfolding keptWords
 clock-in [] rest g l = absurd (omega arith)
-clock-in (k ∷ ks) rest zero l = ap (λ (w : List ℕ). Kept.clockIn (w ++ rest)) (words-cons k ks)
+clock-in (k ∷ ks) rest zero l = refl
 clock-in (k ∷ ks) rest (suc g) l =
-    let e : clockSize * suc g ≡ clockSize + clockSize * g = omega arith in
-    ap Kept.clockIn (ap₂ (λ (n : ℕ) (w : List ℕ). drop n (w ++ rest)) e (words-cons k ks)
-    ∙ ap (drop (clockSize + clockSize * g)) (append-assoc (Kept.words (Kept.kept k)) (clocksWords ks) rest)
-    ∙ drop-append-add (Kept.words (Kept.kept k)) (clocksWords ks ++ rest) (clockSize * g))
+    let e : keptSize * suc g ≡ keptSize + keptSize * g = omega arith in
+    ap (λ (n : ℕ). Kept.clockIn (drop n (Kept.words (Kept.kept k) ++ (keptWords ks ++ rest)))) e
+    ∙ ap Kept.clockIn (drop-append-add (Kept.words (Kept.kept k)) (keptWords ks ++ rest) (keptSize * g))
     ∙ clock-in ks rest g (omega arith)
+
+-- a buffer that begins with xs, once j words ys are stored behind them
+pub stored-next : (xs ys old buffer : List ℕ) (i j : ℕ) → length xs ≡ i → buffer ≡ xs ++ drop i old
+    → take i buffer ++ (ys ++ drop (i + j) buffer) ≡ (xs ++ ys) ++ drop (i + j) old
+stored-next xs ys old buffer i j n held =
+    let front : take i buffer ≡ xs = ap (take i) held ∙ take-at xs (drop i old) i n in
+    let back : drop (i + j) buffer ≡ drop (i + j) old =
+    sym (drop-drop j i buffer) ∙ ap (λ (x : List ℕ). drop j (drop i x)) held ∙ ap (drop j) (drop-at xs (drop i old) i n) ∙ drop-drop j i old in
+    ap₂ (λ (x y : List ℕ). x ++ (ys ++ y)) front back ∙ sym (append-assoc xs ys (drop (i + j) old))
 
 -- ---- the clocks row by row
 
@@ -78,12 +70,12 @@ clock-in (k ∷ ks) rest (suc g) l =
 pub record Going (rows : List Row) (old : List ℕ) (f : ℕ) (buffer : List ℕ) : Type 0 where
   pub clocks : List Clock
   pub size : length clocks ≡ f
-  pub held : buffer ≡ clocksWords clocks ++ drop (clockSize * f) old
+  pub held : buffer ≡ keptWords clocks ++ drop (keptSize * f) old
   pub within : AllWithin clocks
   pub left : clocksFrom clocks (drop f rows) ≡ clocksFrom [] rows
 
 pub start : (rows : List Row) (old : List ℕ) → Going rows old 0 old
-unfolding clocksWords
+unfolding keptWords
 start rows old = record { clocks = []; size = refl; held = refl; within = λ (f : ℕ). λ (l : f < 0). absurd (omega arith); left = refl }
 
 step-good : (ks : List Clock) (r : Row) (rs : List Row) (f : ℕ) (k : Clock) → length ks ≡ f → clockOf (clockAt ks) f r ≡ good k
@@ -105,10 +97,10 @@ within-snoc (j ∷ ks) k h w (suc f) l = within-snoc ks k (λ (g : ℕ). λ (i :
 -- the row at f, as its verdict goes
 module _ (m : ℕ) (words : List ℕ) (rows : List Row) (old : List ℕ) (f : ℕ) (buffer : List ℕ) (t : Table m words rows) (s : Going rows old f buffer) (l : f < m) where
   pub verdict-agrees : (w : Words) → w ≡ rowWords words f
-      → Agrees f (Kept.rule (λ (g : ℕ). Kept.clockIn (drop (clockSize * g) buffer)) (w .kind) (w .one) (w .two) (w .three)) (clockOf (clockAt (s .clocks)) f (rowAt rows f))
+      → Agrees f (Kept.rule (λ (g : ℕ). Kept.clockIn (drop (keptSize * g) buffer)) (w .kind) (w .one) (w .two) (w .three)) (clockOf (clockAt (s .clocks)) f (rowAt rows f))
   verdict-agrees w e =
-      row-agrees m f (omega (arith, t .few)) (clockAt (s .clocks)) (λ (g : ℕ). Kept.clockIn (drop (clockSize * g) buffer))
-      (λ (g : ℕ). λ (i : g < f). ap (λ (b : List ℕ). Kept.clockIn (drop (clockSize * g) b)) (s .held) ∙ clock-in (s .clocks) (drop (clockSize * f) old) g (omega (arith, s .size)))
+      row-agrees m f (omega (arith, t .few)) (clockAt (s .clocks)) (λ (g : ℕ). Kept.clockIn (drop (keptSize * g) buffer))
+      (λ (g : ℕ). λ (i : g < f). ap (λ (b : List ℕ). Kept.clockIn (drop (keptSize * g) b)) (s .held) ∙ clock-in (s .clocks) (drop (keptSize * f) old) g (omega (arith, s .size)))
       (λ (g : ℕ). λ (i : g < f). s .within g (omega (arith, s .size)))
       w (rowAt rows f) (subst (λ (v : Words). Made m f v (rowAt rows f)) (sym e) (t .row-at f l))
 
@@ -116,24 +108,18 @@ module _ (m : ℕ) (words : List ℕ) (rows : List Row) (old : List ℕ) (f : �
   rows-here = drop-cons rows f (tail 0) (omega (arith, t .size))
 
   pub go-on : (k : Clock) (buffer′ : List ℕ) → clockOf (clockAt (s .clocks)) f (rowAt rows f) ≡ good k → Within k
-      → clockSize * f + clockSize ≤ length old
-      → buffer′ ≡ take (clockSize * f) buffer ++ (Kept.words (Kept.kept k) ++ drop (clockSize * f + clockSize) buffer)
+      → keptSize * f + keptSize ≤ length old
+      → buffer′ ≡ take (keptSize * f) buffer ++ (Kept.words (Kept.kept k) ++ drop (keptSize * f + keptSize) buffer)
       → Going rows old (f + 1) buffer′
   go-on k buffer′ e w fits b =
       let ks : List Clock = s .clocks in
-      let n : length (clocksWords ks) ≡ clockSize * f = words-length ks ∙ ap (λ (i : ℕ). clockSize * i) (s .size) in
-      let front : take (clockSize * f) buffer ≡ clocksWords ks = ap (take (clockSize * f)) (s .held) ∙ take-at (clocksWords ks) (drop (clockSize * f) old) (clockSize * f) n in
-      let next : clockSize * f + clockSize ≡ clockSize * (f + 1) = omega arith in
-      let back : drop (clockSize * f + clockSize) buffer ≡ drop (clockSize * (f + 1)) old =
-      sym (drop-drop clockSize (clockSize * f) buffer) ∙ ap (λ (x : List ℕ). drop clockSize (drop (clockSize * f) x)) (s .held)
-      ∙ ap (drop 7) (drop-at (clocksWords ks) (drop (clockSize * f) old) (clockSize * f) n)
-      ∙ drop-drop clockSize (clockSize * f) old ∙ ap (λ (i : ℕ). drop i old) next in
+      let n : length (keptWords ks) ≡ keptSize * f = words-length ks ∙ ap (λ (i : ℕ). keptSize * i) (s .size) in
+      let next : keptSize * f + keptSize ≡ keptSize * (f + 1) = omega arith in
       record {
         clocks = ks ++ (k ∷ []);
         size = length-append ks (k ∷ []) ∙ ap (λ (i : ℕ). i + 1) (s .size);
-        held = b ∙ ap₂ (λ (x y : List ℕ). x ++ (Kept.words (Kept.kept k) ++ y)) front back
-            ∙ sym (append-assoc (clocksWords ks) (Kept.words (Kept.kept k)) (drop (clockSize * (f + 1)) old))
-            ∙ ap (λ (x : List ℕ). x ++ drop (clockSize * (f + 1)) old) (sym (words-snoc ks k));
+        held = b ∙ stored-next (keptWords ks) (Kept.words (Kept.kept k)) old buffer (keptSize * f) keptSize n (s .held)
+            ∙ ap₂ (λ (x : List ℕ) (i : ℕ). x ++ drop i old) (sym (words-snoc ks k)) next;
         within = within-snoc ks k (s .within) w;
         left = ap (λ (i : ℕ). clocksFrom (ks ++ (k ∷ [])) (drop i rows)) (add-one f)
             ∙ sym (step-good ks (rowAt rows f) (drop (suc f) rows) f k (s .size) e) ∙ ap (clocksFrom ks) (sym rows-here) ∙ s .left;
@@ -145,26 +131,26 @@ module _ (m : ℕ) (words : List ℕ) (rows : List Row) (old : List ℕ) (f : �
 
   -- the verdict is a clock, which was stored
   pub next : (w : Words) → w ≡ rowWords words f → (k : Kept) (buffer′ : List ℕ)
-      → Is k ≡ Kept.rule (λ (g : ℕ). Kept.clockIn (drop (clockSize * g) buffer)) (w .kind) (w .one) (w .two) (w .three)
-      → clockSize * f + clockSize ≤ length old → buffer′ ≡ take (clockSize * f) buffer ++ (Kept.words k ++ drop (clockSize * f + clockSize) buffer) → Going rows old (f + 1) buffer′
+      → Is k ≡ Kept.rule (λ (g : ℕ). Kept.clockIn (drop (keptSize * g) buffer)) (w .kind) (w .one) (w .two) (w .three)
+      → keptSize * f + keptSize ≤ length old → buffer′ ≡ take (keptSize * f) buffer ++ (Kept.words k ++ drop (keptSize * f + keptSize) buffer) → Going rows old (f + 1) buffer′
   next w e k buffer′ v fits b = go (clockOf (clockAt (s .clocks)) f (rowAt rows f)) refl (verdict-agrees w e)
     where
       go : (r : Result Clock) → clockOf (clockAt (s .clocks)) f (rowAt rows f) ≡ r
-          → Agrees f (Kept.rule (λ (g : ℕ). Kept.clockIn (drop (clockSize * g) buffer)) (w .kind) (w .one) (w .two) (w .three)) r → Going rows old (f + 1) buffer′
+          → Agrees f (Kept.rule (λ (g : ℕ). Kept.clockIn (drop (keptSize * g) buffer)) (w .kind) (w .one) (w .two) (w .three)) r → Going rows old (f + 1) buffer′
       go (good j) r a =
           let same : k ≡ Kept.kept j = is-inj (v ∙ a .0) in
-          go-on j buffer′ r (a .1) fits (b ∙ ap (λ (x : Kept). take (clockSize * f) buffer ++ (Kept.words x ++ drop (clockSize * f + clockSize) buffer)) same)
+          go-on j buffer′ r (a .1) fits (b ∙ ap (λ (x : Kept). take (keptSize * f) buffer ++ (Kept.words x ++ drop (keptSize * f + keptSize) buffer)) same)
       go (refused why g) r a = absurd (is-not-refused (v ∙ a .0))
 
   -- the verdict is a refusal
   pub stop : (w : Words) → w ≡ rowWords words f → (n : ℕ)
-      → Refused n ≡ Kept.rule (λ (g : ℕ). Kept.clockIn (drop (clockSize * g) buffer)) (w .kind) (w .one) (w .two) (w .three)
+      → Refused n ≡ Kept.rule (λ (g : ℕ). Kept.clockIn (drop (keptSize * g) buffer)) (w .kind) (w .one) (w .two) (w .three)
       → (numbered n f ≡ answer length (clocksFrom [] rows))
       × ((ks : List Clock) → clocksFrom [] rows ≡ good ks → ⊥)
   stop w e n v = go (clockOf (clockAt (s .clocks)) f (rowAt rows f)) refl (verdict-agrees w e)
     where
       go : (r : Result Clock) → clockOf (clockAt (s .clocks)) f (rowAt rows f) ≡ r
-          → Agrees f (Kept.rule (λ (g : ℕ). Kept.clockIn (drop (clockSize * g) buffer)) (w .kind) (w .one) (w .two) (w .three)) r
+          → Agrees f (Kept.rule (λ (g : ℕ). Kept.clockIn (drop (keptSize * g) buffer)) (w .kind) (w .one) (w .two) (w .three)) r
           → (numbered n f ≡ answer length (clocksFrom [] rows))
           × ((ks : List Clock) → clocksFrom [] rows ≡ good ks → ⊥)
       go (good j) r a = absurd (is-not-refused (sym (v ∙ a .0)))
@@ -188,13 +174,13 @@ finish rows old f buffer e s = (rw (whole, s .size), given)
     whole : clocksFrom [] rows ≡ good (s .clocks)
     whole = ended rows old f buffer e s
 
-    n : clockSize * f ≡ length (clocksWords (s .clocks))
-    n = sym (words-length (s .clocks) ∙ ap (λ (i : ℕ). clockSize * i) (s .size))
+    n : keptSize * f ≡ length (keptWords (s .clocks))
+    n = sym (words-length (s .clocks) ∙ ap (λ (i : ℕ). keptSize * i) (s .size))
 
     given : Kept.Assigned (clocksFrom [] rows) old buffer
     given ks x =
-        subst (λ (l : List Clock). (buffer ≡ over (clocksWords l) old) × AllWithin l) (good-inj (sym whole ∙ x))
-        (s .held ∙ ap (λ (i : ℕ). clocksWords (s .clocks) ++ drop i old) n, s .within)
+        subst (λ (l : List Clock). (buffer ≡ over (keptWords l) old) × AllWithin l) (good-inj (sym whole ∙ x))
+        (s .held ∙ ap (λ (i : ℕ). keptWords (s .clocks) ++ drop i old) n, s .within)
 
 -- ---- the registers' sources
 

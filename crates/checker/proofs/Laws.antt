@@ -1,17 +1,17 @@
 -- Numbers and lists of words. Assumes nothing.
-use mathlib.Core.Path.{_≡_, sym, _∙_, ap₂, subst⁻¹}
+use mathlib.Core.Path.{_≡_, refl, sym, _∙_, ap, ap₂, subst⁻¹}
 use Prim.Native.Nat.{ℕ, suc, _+_, _*_, _^_, _≤_, _<_}
 use native.Mathlib.Nat.{mul-le-mul-left, mul-lt-mul-of-pos-right, lt-of-le-of-lt, le-of-lt}
+use native.Mathlib.Numerals.{add-one}
 use native.Mathlib.Omega.{arith}
 use lib.Pow.{pow-pos, pow-add}
 use lib.ListN.{length, take, drop, set, getD}
-use lib.Seq.{sets-eq, getD-drop}
-use mathlib.Core.List.{List, _++_, append-assoc}
+use lib.Seq.{sets, sets-eq, getD-drop}
+use mathlib.Core.List.{List, [], _∷_, _++_, append-assoc}
 use mathlib.Core.Bool.{_&&_}
 use lib.Dec.{eqb}
-use Rattle.checker.specs.Answers.{clockSize}
 use Rattle.checker.specs.declared.Clock.{Clock as Kept}
-use Rattle.checker.specs.Private.Kept.{clockIn, words, same}
+use Rattle.checker.specs.Private.Kept.{clockIn, same}
 
 -- a product fits twice the width of its factors
 pub below : (k : ℕ) {a b : ℕ} → a < 2 ^ k → b < 2 ^ k → a * b < 2 ^ (k + k)
@@ -19,18 +19,27 @@ below k {a} {b} ha hb =
     subst⁻¹ (λ (n : ℕ). a * b < n) (pow-add 2 k k)
     (lt-of-le-of-lt (mul-le-mul-left a (le-of-lt hb)) (mul-lt-mul-of-pos-right ha (pow-pos k)))
 
--- clockIn words that are stored one after the other
-pub clock-set : (l : List ℕ) (i : ℕ) (k : Kept) → i + clockSize ≤ length l
-    → set (set (set (set (set (set (set l i (k .period)) (i + 1) (k .phase)) (i + 2) (k .count)) (i + 3) (k .first)) (i + 4) (k .second)) (i + 5) (k .third)) (i + 6) (k .fourth)
-    ≡ take i l ++ (words k ++ drop (i + clockSize) l)
-clock-set l i k h =
-    let e1 : i + 1 ≡ suc i = omega arith in
-    let e2 : i + 2 ≡ suc (suc i) = omega arith in
-    let e3 : i + 3 ≡ suc (suc (suc i)) = omega arith in
-    let e4 : i + 4 ≡ suc (suc (suc (suc i))) = omega arith in
-    let e5 : i + 5 ≡ suc (suc (suc (suc (suc i)))) = omega arith in
-    let e6 : i + 6 ≡ suc (suc (suc (suc (suc (suc i))))) = omega arith in
-    rw (e1, e2, e3, e4, e5, e6) (sets-eq (words k) l i h ∙ append-assoc (take i l) (words k) (drop (i + clockSize) l))
+-- words that are stored one after the other, from place i + n on, and from place i on
+abbrev storedFrom : List ℕ → ℕ → ℕ → List ℕ → List ℕ
+storedFrom l i n [] = l
+storedFrom l i n (v ∷ vs) = storedFrom (set l (i + n) v) i (suc n) vs
+
+abbrev stored : List ℕ → ℕ → List ℕ → List ℕ
+stored l i [] = l
+stored l i (v ∷ vs) = storedFrom (set l i v) i 1 vs
+
+pub words-stored : (l : List ℕ) (i : ℕ) (vs : List ℕ) → i + length vs ≤ length l → stored l i vs ≡ take i l ++ (vs ++ drop (i + length vs) l)
+words-stored l i vs h = one-by-one l i vs ∙ sets-eq vs l i h ∙ append-assoc (take i l) vs (drop (i + length vs) l)
+  where
+    from : (l : List ℕ) (i n : ℕ) (vs : List ℕ) → storedFrom l i n vs ≡ sets l (i + n) vs
+    from l i n [] = refl
+    from l i n (v ∷ vs) =
+        let e : i + suc n ≡ suc (i + n) = omega arith in
+        from (set l (i + n) v) i (suc n) vs ∙ ap (λ (j : ℕ). sets (set l (i + n) v) j vs) e
+
+    one-by-one : (l : List ℕ) (i : ℕ) (vs : List ℕ) → stored l i vs ≡ sets l i vs
+    one-by-one l i [] = refl
+    one-by-one l i (v ∷ vs) = from (set l i v) i 1 vs ∙ ap (λ (j : ℕ). sets (set l i v) j vs) (add-one i)
 
 -- clockIn words that are read one by one
 pub clock-read : (l : List ℕ) (i : ℕ) → _≡_ {A = Kept}

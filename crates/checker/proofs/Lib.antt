@@ -6,5 +6,6 @@ pub mod Laws
 pub mod Agree
 mod ByRow
 pub mod Folds
+pub mod Giving
 pub mod Checks
 pub mod Bounds

@@ -28,7 +28,7 @@ four-at word cs i d l few =
     mapped (c ∷ cs) zero l = refl
     mapped (c ∷ cs) (suc i) l = mapped cs i (omega arith)
 
-abbrev viewOf : Condition → ℕ
+abbrev pub viewOf : Condition → ℕ
 viewOf c = c .view
 
 pub clock-words : (k : Clock) → length (clockWords k) ≡ clockSize

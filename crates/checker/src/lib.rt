@@ -11,6 +11,7 @@ use rules::same;
 use rules::sampled;
 use rules::slower;
 use rules::tail;
+use rules::viewed;
 use table::Answer;
 use table::record_at;
 use table::word_at;
@@ -18,12 +19,12 @@ ghost use mathlib.Core.Path.{_≡_};
 ghost use mathlib.Core.List.{[], _++_};
 ghost use Prim.Native.Nat.{ℕ, _+_, _*_, _≤_, _<_};
 ghost use lib.ListN.{length, take, drop};
-ghost use Rattle.table.specs.Answers.{good, answer};
+ghost use Rattle.table.specs.Answers.{good, answer, over};
 ghost use Rattle.table.specs.Rows.{badRegister, maxFlows};
 ghost use Rattle.table.specs.Plain.{rowWords, tableOf, rowsIn};
 ghost use Rattle.checker.specs.Rules.{clocksFrom, clocksOf};
 ghost use Rattle.checker.specs.Answers.{clockSize, checkAnswer, clocksAfter, checkNumber};
-ghost use Rattle.checker.specs.Private.Kept.{clockIn, words, same, combined, rule, fitsIn, sourceIn, place, Assigned};
+ghost use Rattle.checker.specs.Private.Kept.{keptSize, clockIn, words, given, allGiven, same, combined, rule, fitsIn, sourceIn, place, Assigned};
 
 // A clock as the check keeps it: its words, of which the conditions that are not used are 0.
 struct Clock {
@@ -47,15 +48,23 @@ pub const MAX_DERIVED: u64 = 4095;
 
 pub const MAX_CONDITIONS: u32 = 4;
 
-pub const CLOCK_SIZE: usize = 7;
+pub const CLOCK_SIZE: usize = 11;
 
 pub const CLOCKS: usize = CLOCK_SIZE * (table::MAX_FLOWS as usize);
 
+// The same as the check keeps them.
+const KEPT_SIZE: usize = 7;
+
+const KEPT: usize = KEPT_SIZE * (table::MAX_FLOWS as usize);
+
+// In a condition's word the view period stands above flow and truth, which are below this.
+const VIEW_UNIT: u32 = 2 * table::MAX_FLOWS;
+
 // The clock of flow f among those kept.
 fn clock_at(kept: &[u32], f: u32) -> Clock
-    ensures { λ r. ⌜ r ≡ clockIn (drop (clockSize * f) (now (kept .entry))) ⌝ }
+    ensures { λ r. ⌜ r ≡ clockIn (drop (keptSize * f) (now (kept .entry))) ⌝ }
 {
-    let at = CLOCK_SIZE * (f as usize);
+    let at = KEPT_SIZE * (f as usize);
     Clock {
         period: word_at(kept, at),
         phase: word_at(kept, at + 1),
@@ -69,7 +78,7 @@ fn clock_at(kept: &[u32], f: u32) -> Clock
 
 // Whether the clocks whose words begin at a and at b are equal. A word is looked at only where those before it agree.
 fn same_words(kept: &[u32], a: usize, b: usize) -> bool
-    requires { ⌜ (a + clockSize ≤ length (now kept)) × (b + clockSize ≤ length (now kept)) ⌝ }
+    requires { ⌜ (a + keptSize ≤ length (now kept)) × (b + keptSize ≤ length (now kept)) ⌝ }
     ensures { λ r. ⌜ r ≡ same (clockIn (drop a (now (kept .entry)))) (clockIn (drop b (now (kept .entry)))) ⌝ }
 {
     if kept[a] != kept[b] {
@@ -95,12 +104,12 @@ fn same_words(kept: &[u32], a: usize, b: usize) -> bool
 
 // Whether the clocks kept of two flows are equal.
 fn same_at(kept: &[u32], f: u32, g: u32) -> bool
-    ensures { λ r. ⌜ r ≡ same (clockIn (drop (clockSize * f) (now (kept .entry)))) (clockIn (drop (clockSize * g) (now (kept .entry)))) ⌝ }
+    ensures { λ r. ⌜ r ≡ same (clockIn (drop (keptSize * f) (now (kept .entry)))) (clockIn (drop (keptSize * g) (now (kept .entry)))) ⌝ }
 {
-    let a = CLOCK_SIZE * (f as usize);
-    let b = CLOCK_SIZE * (g as usize);
-    if a + CLOCK_SIZE <= kept.len() {
-        if b + CLOCK_SIZE <= kept.len() {
+    let a = KEPT_SIZE * (f as usize);
+    let b = KEPT_SIZE * (g as usize);
+    if a + KEPT_SIZE <= kept.len() {
+        if b + KEPT_SIZE <= kept.len() {
             return same_words(kept, a, b);
         }
     }
@@ -109,7 +118,7 @@ fn same_at(kept: &[u32], f: u32, g: u32) -> bool
 
 // Kinds 2 to 6.
 fn combined(kept: &[u32], f: u32, g: u32) -> Verdict
-    ensures { λ r. ⌜ r ≡ combined (clockIn (drop (clockSize * f) (now (kept .entry)))) (clockIn (drop (clockSize * g) (now (kept .entry)))) ⌝ }
+    ensures { λ r. ⌜ r ≡ combined (clockIn (drop (keptSize * f) (now (kept .entry)))) (clockIn (drop (keptSize * g) (now (kept .entry)))) ⌝ }
 {
     if same_at(kept, f, g) {
         Verdict::Is(clock_at(kept, f))
@@ -120,7 +129,7 @@ fn combined(kept: &[u32], f: u32, g: u32) -> Verdict
 
 // A row's clock from the clocks kept: one decision over the kind.
 fn rule(kind: u32, p: u32, q: u32, r: u32, kept: &[u32]) -> Verdict
-    ensures { λ v. ⌜ v ≡ rule (λ (f : ℕ). clockIn (drop (clockSize * f) (now (kept .entry)))) kind p q r ⌝ }
+    ensures { λ v. ⌜ v ≡ rule (λ (f : ℕ). clockIn (drop (keptSize * f) (now (kept .entry)))) kind p q r ⌝ }
 {
     match kind {
         0 => Verdict::Is(every(p, q)),
@@ -132,19 +141,32 @@ fn rule(kind: u32, p: u32, q: u32, r: u32, kept: &[u32]) -> Verdict
         10 => later(clock_at(kept, p), q),
         11 => head(clock_at(kept, p), r),
         12 => tail(clock_at(kept, p)),
-        13 => sampled(clock_at(kept, p), clock_at(kept, q), condition(q, true)),
-        14 => sampled(clock_at(kept, p), clock_at(kept, q), condition(q, false)),
+        13 => sampled(clock_at(kept, p), clock_at(kept, q), condition(q, true, 0)),
+        14 => sampled(clock_at(kept, p), clock_at(kept, q), condition(q, false, 0)),
         15 => merged(p, clock_at(kept, p), clock_at(kept, q), clock_at(kept, r)),
-        16..=4294967295 => Verdict::Refused(table::UNKNOWN_KIND),
+        16 => Verdict::Refused(table::UNKNOWN_KIND),
+        17 => viewed(
+            clock_at(kept, p),
+            clock_at(kept, q),
+            r,
+            condition(q, true, r),
+        ),
+        18 => viewed(
+            clock_at(kept, p),
+            clock_at(kept, q),
+            r,
+            condition(q, false, r),
+        ),
+        19..=4294967295 => Verdict::Refused(table::UNKNOWN_KIND),
     }
 }
 
 // Keeps a clock as flow f's.
 fn store(kept: &mut [u32], f: u32, k: Clock)
-    requires { ⌜ (f < maxFlows) × (clockSize * f + clockSize ≤ length (now kept)) ⌝ }
-    ensures { λ _. ⌜ now (kept .exit) ≡ take (clockSize * f) (now (kept .entry)) ++ (words k ++ drop (clockSize * f + clockSize) (now (kept .entry))) ⌝ }
+    requires { ⌜ (f < maxFlows) × (keptSize * f + keptSize ≤ length (now kept)) ⌝ }
+    ensures { λ _. ⌜ now (kept .exit) ≡ take (keptSize * f) (now (kept .entry)) ++ (words k ++ drop (keptSize * f + keptSize) (now (kept .entry))) ⌝ }
 {
-    let at = CLOCK_SIZE * (f as usize);
+    let at = KEPT_SIZE * (f as usize);
     kept[at] = k.period;
     kept[at + 1] = k.phase;
     kept[at + 2] = k.count;
@@ -156,7 +178,7 @@ fn store(kept: &mut [u32], f: u32, k: Clock)
 
 // The clocks of n rows, row by row, each kept for those after it.
 fn assign(n: u32, words: &[u32], kept: &mut [u32]) -> Answer
-    requires { ⌜ (n ≤ maxFlows) × (clockSize * n ≤ length (now kept)) × (tableOf n (now words) ≡ good (rowsIn (tableOf n (now words)))) ⌝ }
+    requires { ⌜ (n ≤ maxFlows) × (keptSize * n ≤ length (now kept)) × (tableOf n (now words) ≡ good (rowsIn (tableOf n (now words)))) ⌝ }
     ensures { λ r. ⌜ r ≡ answer length (clocksFrom [] (rowsIn (tableOf n (now (words .entry))))) ⌝ }
     ensures { λ _. ⌜ Assigned (clocksFrom [] (rowsIn (tableOf n (now (words .entry))))) (now (kept .entry)) (now (kept .exit)) ⌝ }
 {
@@ -207,7 +229,7 @@ fn bad_register(n: u32, words: &[u32], kept: &[u32]) -> Found
 
 // The clocks of n rows, and then the registers' sources.
 fn judge(n: u32, words: &[u32], kept: &mut [u32]) -> Answer
-    requires { ⌜ (n ≤ maxFlows) × (clockSize * n ≤ length (now kept)) × (tableOf n (now words) ≡ good (rowsIn (tableOf n (now words)))) ⌝ }
+    requires { ⌜ (n ≤ maxFlows) × (keptSize * n ≤ length (now kept)) × (tableOf n (now words) ≡ good (rowsIn (tableOf n (now words)))) ⌝ }
     ensures { λ r. ⌜ r ≡ answer length (clocksOf (rowsIn (tableOf n (now (words .entry))))) ⌝ }
     ensures { λ _. ⌜ Assigned (clocksOf (rowsIn (tableOf n (now (words .entry))))) (now (kept .entry)) (now (kept .exit)) ⌝ }
 {
@@ -219,6 +241,37 @@ fn judge(n: u32, words: &[u32], kept: &mut [u32]) -> Answer
     match found {
         Found::At(f) => Answer::refusal(table::CLOCKS_DIFFER, f),
         Found::Nothing => answer,
+    }
+}
+
+// Gives out a clock as flow f's: the view periods apart from flows and truths.
+fn give(clocks: &mut [u32], f: u32, k: Clock)
+    requires { ⌜ (f < maxFlows) × (clockSize * f + clockSize ≤ length (now clocks)) ⌝ }
+    ensures { λ _. ⌜ now (clocks .exit) ≡ take (clockSize * f) (now (clocks .entry)) ++ (given k ++ drop (clockSize * f + clockSize) (now (clocks .entry))) ⌝ }
+{
+    let at = CLOCK_SIZE * (f as usize);
+    clocks[at] = k.period;
+    clocks[at + 1] = k.phase;
+    clocks[at + 2] = k.count;
+    clocks[at + 3] = k.first % VIEW_UNIT;
+    clocks[at + 4] = k.second % VIEW_UNIT;
+    clocks[at + 5] = k.third % VIEW_UNIT;
+    clocks[at + 6] = k.fourth % VIEW_UNIT;
+    clocks[at + 7] = k.first / VIEW_UNIT;
+    clocks[at + 8] = k.second / VIEW_UNIT;
+    clocks[at + 9] = k.third / VIEW_UNIT;
+    clocks[at + 10] = k.fourth / VIEW_UNIT;
+}
+
+// Gives out the clocks kept of n flows.
+fn give_all(n: u32, kept: &[u32], clocks: &mut [u32])
+    requires { ⌜ (n ≤ maxFlows) × (clockSize * n ≤ length (now clocks)) ⌝ }
+    ensures { λ _. ⌜ now (clocks .exit) ≡ over (allGiven n (now (kept .entry))) (now (clocks .entry)) ⌝ }
+{
+    let mut f: u32 = 0;
+    while f < n {
+        give(clocks, f, clock_at(kept, f));
+        f += 1;
     }
 }
 
@@ -235,12 +288,12 @@ pub fn check(count: u32, words: &[u32], clocks: &mut [u32]) -> Answer
     if clocks.len() < size {
         return Answer::refusal(table::NO_ROOM, 0);
     }
-    let mut kept = [0u32; CLOCKS];
+    let mut kept = [0u32; KEPT];
     let answer = judge(count, words, &mut kept);
     if answer.number != 0 {
         return answer;
     }
-    table::copy(size, &kept, clocks);
+    give_all(count, &kept, clocks);
     answer
 }
 

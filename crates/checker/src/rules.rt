@@ -2,14 +2,20 @@
 use super::Clock;
 use super::MAX_CONDITIONS;
 use super::MAX_DERIVED;
+use super::VIEW_UNIT;
 use super::Verdict;
+use table::BAD_VIEW;
 use table::BEYOND_LIMITS;
 use table::CLOCKS_DIFFER;
+use table::MAX_FLOWS;
 use table::NOT_PLAIN;
 ghost use mathlib.Core.Path.{_≡_};
-ghost use Prim.Native.Nat.{_+_, _*_, _%_};
-ghost use Rattle.table.specs.Bits.{bit};
-ghost use Rattle.checker.specs.Private.Kept.{every, sameShape, same, limited, put, under, faster, slower, later, head, tail, sampled, extends, merged};
+ghost use Prim.Native.Nat.{_+_, _*_};
+ghost use Rattle.checker.specs.Rules.{multiple};
+ghost use Rattle.checker.specs.Private.Kept.{every, sameShape, same, limited, put, under, condition, faster, slower, later, head, tail, sampled, extends, merged, viewed};
+
+// View periods are below this.
+const VIEWS: u32 = 4096;
 
 // The whole product of two numbers.
 fn product(a: u32, b: u32) -> u64
@@ -145,14 +151,15 @@ pub fn tail(a: Clock) -> Verdict
     limited(a.period as u64, sum(a.phase, a.period))
 }
 
-// A condition's word. A flow's number is below 64: the remainder is the number itself.
-pub fn condition(flow: u32, truth: bool) -> u32
-    ensures { λ r. ⌜ r ≡ 2 * (flow % 64) + bit truth ⌝ }
+// A condition's word. Flow and view period are below the divisors: the remainders are the numbers themselves.
+pub fn condition(flow: u32, truth: bool, view: u32) -> u32
+    ensures { λ r. ⌜ r ≡ condition flow truth view ⌝ }
 {
+    let above = VIEW_UNIT * (view % VIEWS);
     if truth {
-        2 * (flow % 64) + 1
+        2 * (flow % MAX_FLOWS) + 1 + above
     } else {
-        2 * (flow % 64)
+        2 * (flow % MAX_FLOWS) + above
     }
 }
 
@@ -206,11 +213,40 @@ fn extends(a: Clock, c: Clock, word: u32) -> bool
 pub fn merged(flow: u32, c: Clock, a: Clock, b: Clock) -> Verdict
     ensures { λ r. ⌜ r ≡ merged flow c a b ⌝ }
 {
-    if !extends(a, c, condition(flow, true)) {
+    if !extends(a, c, condition(flow, true, 0)) {
         return Verdict::Refused(CLOCKS_DIFFER);
     }
-    if !extends(b, c, condition(flow, false)) {
+    if !extends(b, c, condition(flow, false, 0)) {
         return Verdict::Refused(CLOCKS_DIFFER);
     }
     Verdict::Is(c)
+}
+
+// Whether w is a multiple of n; of 0 only 0 is.
+fn multiple(n: u32, w: u32) -> bool
+    ensures { λ r. ⌜ r ≡ multiple n w ⌝ }
+{
+    if n == 0 { w == 0 } else { w % n == 0 }
+}
+
+// Kinds 17 and 18: a where the condition holds of c, which is looked at once a view period w.
+pub fn viewed(a: Clock, c: Clock, w: u32, word: u32) -> Verdict
+    ensures { λ r. ⌜ r ≡ viewed a c w word ⌝ }
+{
+    if a.count != 0 {
+        return Verdict::Refused(NOT_PLAIN);
+    }
+    if c.count != 0 {
+        return Verdict::Refused(NOT_PLAIN);
+    }
+    if !multiple(a.period, w) {
+        return Verdict::Refused(BAD_VIEW);
+    }
+    if !multiple(c.period, w) {
+        return Verdict::Refused(BAD_VIEW);
+    }
+    if a.phase < c.phase {
+        return Verdict::Refused(BAD_VIEW);
+    }
+    under(a, word)
 }

@@ -2,21 +2,18 @@
 use mathlib.Core.Bool.{true}
 use mathlib.Core.List.{List}
 use mathlib.Core.Path.{_≡_, sym, _∙_, ap}
-use Prim.Native.Nat.{_*_}
 use native.Mathlib.Omega.{arith}
-use lib.Dec.{leb}
 use lib.ListN.{length}
 use denote.Ref.{now}
-use borrow.Author.Tests.{le-leb}
 use borrow.Author.Needs.{needs}
 use Rattle.checker.specs.Rules.{clocksOf}
-use Rattle.checker.specs.Answers.{clockSize, clocksWords, checking}
+use Rattle.checker.specs.Answers.{clocksWords, checking}
 use Rattle.table.proofs.Tables.{table-made, rows-good}
 use Rattle.table.specs.Answers.{good, answer, noRoom}
 use Rattle.table.specs.Rows.{Row}
 use Rattle.table.specs.Plain.{tableOf, rowsIn}
 use Rattle.table.proofs.AnswerLaws.{answer-zero, answer-other, refused-leaves}
-use Rattle.checker.proofs.Checks.{check-table, check-room, check-clocks, whole-copied}
+use Rattle.checker.proofs.Checks.{check-table, check-room, check-clocks, whole-given}
 use Rattle.checker.proofs.check.Statement.{statement}
 use Rattle.checker.proofs.check.Tie as tie
 
@@ -94,19 +91,31 @@ returns-3 c =
     let e = refused-leaves length clocksWords (checking (a .count) ws (length old)) old (o .0) (o .1) (check-clocks (a .count) ws (length old) g (else2 .if2 .left) ∙ o .2) in
     (j .ensures .0 ∙ ap (answer length) (o .2) ∙ e .0, e .1)
 
-slice-aggregate-copy : tie.Need-slice-aggregate-copy
-slice-aggregate-copy c = search needs
+slice-aggregate-give-all : tie.Need-slice-aggregate-give-all
+slice-aggregate-give-all c = search needs
 
-copy-requires : tie.Need-copy-requires
-copy-requires c κs = search needs
+give-all-requires : tie.Need-give-all-requires
+give-all-requires c κs =
+    let else3 = c .before .before in
+    let after-judge = else3 .before .before .before in
+    let else2 = after-judge .before .before in
+    let else1 = else2 .before in
+    let after-examine = else1 .before .before in
+    let start = after-examine .before .before .before in
+    let a = start .args in
+    let ws = now (a .words) in
+    let x = after-examine .examine in
+    let z = answer-zero length (tableOf (a .count) ws) (ap (λ w. w .number) (sym (x .ensures)) ∙ else1 .if1 .left) in
+    let t = table-made (a .count) ws (z .0) (z .1) in
+    (t .few, else2 .if2 .left)
 
 same-length : tie.Need-same-length
 same-length c = search needs
 
 returns-4 : tie.Need-returns-4
 returns-4 c =
-    let after-copy = c .before .before in
-    let else3 = after-copy .before .before .before in
+    let after-give-all = c .before .before in
+    let else3 = after-give-all .before .before .before in
     let after-judge = else3 .before .before .before in
     let else2 = after-judge .before .before in
     let else1 = else2 .before in
@@ -123,10 +132,7 @@ returns-4 c =
     let rows : List Row = rowsIn (tableOf (a .count) ws) in
     let y = answer-zero length (clocksOf rows) (ap (λ w. w .number) (sym (j .ensures .0)) ∙ else3 .if3 .left) in
     let w = check-clocks (a .count) ws (length old) g (else2 .if2 .left) in
-    let n = clockSize * a .count in
-    let here : leb n (length (j .last .1 .1 .0)) ≡ true = le-leb n (length (j .last .1 .1 .0)) (omega (arith, t .few, j .kept .1 .1 .0)) in
-    let there : leb n (length old) ≡ true = le-leb n (length old) (else2 .if2 .left) in
-    (j .ensures .0 ∙ ap (answer length) (sym w), whole-copied (a .count) ws old _ _ _ rows (y .0) t (y .1) w (j .ensures .1 (y .0) (y .1) .0) (rw (here, there) at (after-copy .copy .ensures)))
+    (j .ensures .0 ∙ ap (answer length) (sym w), whole-given (a .count) ws old _ _ _ rows (y .0) t (y .1) w (j .ensures .1 (y .0) (y .1)) (after-give-all .give-all .ensures))
 
 pub check-spec : {M : Type 1} → statement M
 check-spec =
@@ -140,7 +146,7 @@ check-spec =
     slice-aggregate-judge
     judge-requires
     returns-3
-    slice-aggregate-copy
-    copy-requires
+    slice-aggregate-give-all
+    give-all-requires
     same-length
     returns-4)

@@ -2,7 +2,7 @@
 use Prim.Native.Nat.{_*_}
 use denote.Ref.{now}
 use borrow.Author.Needs.{needs}
-use Rattle.checker.specs.Answers.{clockSize}
+use Rattle.checker.specs.Private.Kept.{keptSize}
 use Rattle.checker.proofs.Laws.{clock-read}
 use Rattle.checker.proofs.clock_at.Statement.{statement}
 use Rattle.checker.proofs.clock_at.Tie as tie
@@ -67,7 +67,7 @@ returns c =
       after-word-at2 .word-at2 .ensures,
       after-word-at .word-at .ensures,
     )
-    (clock-read (now (start .args .kept)) (clockSize * start .args .f))
+    (clock-read (now (start .args .kept)) (keptSize * start .args .f))
 
 pub clock-at-spec : {M : Type 1} → statement M
 clock-at-spec =

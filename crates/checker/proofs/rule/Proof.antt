@@ -83,6 +83,30 @@ clock-at-requires-13 c κs = search needs
 merged-requires : tie.Need-merged-requires
 merged-requires c κs = search needs
 
+clock-at-requires-14 : tie.Need-clock-at-requires-14
+clock-at-requires-14 c κs = search needs
+
+clock-at-requires-15 : tie.Need-clock-at-requires-15
+clock-at-requires-15 c κs = search needs
+
+condition-requires-3 : tie.Need-condition-requires-3
+condition-requires-3 c κs = search needs
+
+viewed-requires : tie.Need-viewed-requires
+viewed-requires c κs = search needs
+
+clock-at-requires-16 : tie.Need-clock-at-requires-16
+clock-at-requires-16 c κs = search needs
+
+clock-at-requires-17 : tie.Need-clock-at-requires-17
+clock-at-requires-17 c κs = search needs
+
+condition-requires-4 : tie.Need-condition-requires-4
+condition-requires-4 c κs = search needs
+
+viewed-requires-2 : tie.Need-viewed-requires-2
+viewed-requires-2 c κs = search needs
+
 combined-requires : tie.Need-combined-requires
 combined-requires c κs = search needs
 
@@ -146,24 +170,44 @@ returns-11 c =
     rw (at-match-keys11 .match .keys11, c .merged .ensures, after-clock-at13 .clock-at13 .ensures, after-clock-at12 .clock-at12 .ensures, after-clock-at11 .clock-at11 .ensures)
 
 returns-12 : tie.Need-returns-12
-returns-12 c =
+unfolding rule ruleOf kinds
+returns-12 c = rw (c .match .keys12)
+
+returns-13 : tie.Need-returns-13
+unfolding rule ruleOf kinds
+returns-13 c =
+    let after-condition3 = c .before in
+    let after-clock-at15 = after-condition3 .before in
+    let after-clock-at14 = after-clock-at15 .before in
+    let at-match-keys13 = after-clock-at14 .before in
+    rw (at-match-keys13 .match .keys13, c .viewed .ensures, after-condition3 .condition3 .ensures, after-clock-at15 .clock-at15 .ensures, after-clock-at14 .clock-at14 .ensures)
+
+returns-14 : tie.Need-returns-14
+unfolding rule ruleOf kinds
+returns-14 c =
+    let after-condition4 = c .before in
+    let after-clock-at17 = after-condition4 .before in
+    let after-clock-at16 = after-clock-at17 .before in
+    let at-match-keys14 = after-clock-at16 .before in
+    rw (at-match-keys14 .match .keys14, c .viewed2 .ensures, after-condition4 .condition4 .ensures, after-clock-at17 .clock-at17 .ensures, after-clock-at16 .clock-at16 .ensures)
+
+returns-15 : tie.Need-returns-15
+returns-15 c =
     let at-match-rest = c .before .before in
     let start = at-match-rest .before .before in
     let a = start .args in
     let n = at-match-rest .match .rest in
-    rw (
-      rule-combine _ (a .kind) (a .p) (a .q) (a .r) (n .0 .0 .0 .0 .0 .0 .0 .0 .0 .0 .1) (n .0 .0 .0 .0 .0 .0 .0 .0 .0 .1) (omega arith),
-      c .combined .ensures,
-    )
+    rw (rule-combine _ (a .kind) (a .p) (a .q) (a .r) (n .0 .0 .0 .0 .0 .0 .0 .0 .0 .0 .0 .0 .0 .1) (n .0 .0 .0 .0 .0 .0 .0 .0 .0 .0 .0 .0 .1) (omega arith), c .combined .ensures)
 
-returns-13 : tie.Need-returns-13
-returns-13 c =
+returns-16 : tie.Need-returns-16
+returns-16 c =
     let at-match-rest = c .before in
     let start = at-match-rest .before .before in
     let a = start .args in
     let n = at-match-rest .match .rest in
-    let other = no-kind (a .kind) (omega arith) (n .0 .0 .0 .0 .0 .0 .0 .0 .1) (n .0 .0 .0 .0 .0 .0 .0 .1) (n .0 .0 .0 .0 .0 .0 .1) (n .0 .0 .0 .0 .0 .1) (n .0 .0 .0 .0 .1)
-    (n .0 .0 .0 .1) (n .0 .0 .1) (n .0 .1) (n .1) in
+    let m = n .0 .0 .0 .0 .0 .0 in
+    let other = no-kind (a .kind) (omega arith) (m .0 .0 .0 .0 .0 .1) (m .0 .0 .0 .0 .1) (m .0 .0 .0 .1) (m .0 .0 .1) (m .0 .1) (m .1)
+    (n .0 .0 .0 .0 .0 .1) (n .0 .0 .0 .0 .1) (n .0 .0 .0 .1) (n .0 .0 .1) (n .0 .1) (n .1) in
     rw (rule-unknown _ (a .kind) (a .p) (a .q) (a .r) other)
 
 pub rule-spec : {M : Type 1} → statement M
@@ -195,6 +239,14 @@ rule-spec =
     clock-at-requires-12
     clock-at-requires-13
     merged-requires
+    clock-at-requires-14
+    clock-at-requires-15
+    condition-requires-3
+    viewed-requires
+    clock-at-requires-16
+    clock-at-requires-17
+    condition-requires-4
+    viewed-requires-2
     combined-requires
     returns
     returns-2
@@ -208,4 +260,7 @@ rule-spec =
     returns-10
     returns-11
     returns-12
-    returns-13)
+    returns-13
+    returns-14
+    returns-15
+    returns-16)

@@ -4,8 +4,8 @@ use native.Mathlib.Omega.{arith}
 use lib.ListN.{length-set}
 use denote.Ref.{now}
 use borrow.Author.Needs.{needs}
-use Rattle.checker.specs.Answers.{clockSize}
-use Rattle.checker.proofs.Laws.{clock-set}
+use Rattle.checker.specs.Private.Kept.{keptSize, words}
+use Rattle.checker.proofs.Laws.{words-stored}
 use Rattle.checker.proofs.store.Statement.{statement}
 use Rattle.checker.proofs.store.Tie as tie
 
@@ -76,7 +76,7 @@ same-length : tie.Need-same-length
 same-length c = search needs
 
 returns : tie.Need-returns
-returns c = let a = c .args in clock-set (now (a .kept)) (clockSize * a .f) (a .k) (c .pre .1)
+returns c = let a = c .args in words-stored (now (a .kept)) (keptSize * a .f) (words (a .k)) (c .pre .1)
 
 pub store-spec : {M : Type 1} → statement M
 store-spec =

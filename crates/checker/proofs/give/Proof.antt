@@ -1,0 +1,159 @@
+-- `checker::give` meets its contract. Assumes nothing.
+use Prim.Native.Nat.{_*_}
+use native.Mathlib.Omega.{arith}
+use lib.ListN.{length-set}
+use denote.Ref.{now}
+use borrow.Author.Needs.{needs}
+use Rattle.checker.specs.Answers.{clockSize}
+use Rattle.checker.specs.Private.Kept.{given}
+use Rattle.checker.proofs.Laws.{words-stored}
+use Rattle.checker.proofs.give.Statement.{statement}
+use Rattle.checker.proofs.give.Tie as tie
+
+mul-at : tie.Need-mul-at
+mul-at c = search needs
+
+mul-clocks : tie.Need-mul-clocks
+mul-clocks c = search needs
+
+slice-write-clocks : tie.Need-slice-write-clocks
+slice-write-clocks c = search needs
+
+add-clocks : tie.Need-add-clocks
+add-clocks c = search needs
+
+mul-clocks-2 : tie.Need-mul-clocks-2
+mul-clocks-2 c = search needs
+
+slice-write-clocks-2 : tie.Need-slice-write-clocks-2
+slice-write-clocks-2 c = simp length-set (omega arith)
+
+add-clocks-2 : tie.Need-add-clocks-2
+add-clocks-2 c = search needs
+
+mul-clocks-3 : tie.Need-mul-clocks-3
+mul-clocks-3 c = search needs
+
+slice-write-clocks-3 : tie.Need-slice-write-clocks-3
+slice-write-clocks-3 c = simp length-set (omega arith)
+
+add-clocks-3 : tie.Need-add-clocks-3
+add-clocks-3 c = search needs
+
+mul-clocks-4 : tie.Need-mul-clocks-4
+mul-clocks-4 c = search needs
+
+slice-write-clocks-4 : tie.Need-slice-write-clocks-4
+slice-write-clocks-4 c = simp length-set (omega arith)
+
+add-clocks-4 : tie.Need-add-clocks-4
+add-clocks-4 c = search needs
+
+mul-clocks-5 : tie.Need-mul-clocks-5
+mul-clocks-5 c = search needs
+
+slice-write-clocks-5 : tie.Need-slice-write-clocks-5
+slice-write-clocks-5 c = simp length-set (omega arith)
+
+add-clocks-5 : tie.Need-add-clocks-5
+add-clocks-5 c = search needs
+
+mul-clocks-6 : tie.Need-mul-clocks-6
+mul-clocks-6 c = search needs
+
+slice-write-clocks-6 : tie.Need-slice-write-clocks-6
+slice-write-clocks-6 c = simp length-set (omega arith)
+
+add-clocks-6 : tie.Need-add-clocks-6
+add-clocks-6 c = search needs
+
+mul-clocks-7 : tie.Need-mul-clocks-7
+mul-clocks-7 c = search needs
+
+slice-write-clocks-7 : tie.Need-slice-write-clocks-7
+slice-write-clocks-7 c = simp length-set (omega arith)
+
+add-clocks-7 : tie.Need-add-clocks-7
+add-clocks-7 c = search needs
+
+mul-clocks-8 : tie.Need-mul-clocks-8
+mul-clocks-8 c = search needs
+
+slice-write-clocks-8 : tie.Need-slice-write-clocks-8
+slice-write-clocks-8 c = simp length-set (omega arith)
+
+add-clocks-8 : tie.Need-add-clocks-8
+add-clocks-8 c = search needs
+
+mul-clocks-9 : tie.Need-mul-clocks-9
+mul-clocks-9 c = search needs
+
+slice-write-clocks-9 : tie.Need-slice-write-clocks-9
+slice-write-clocks-9 c = simp length-set (omega arith)
+
+add-clocks-9 : tie.Need-add-clocks-9
+add-clocks-9 c = search needs
+
+mul-clocks-10 : tie.Need-mul-clocks-10
+mul-clocks-10 c = search needs
+
+slice-write-clocks-10 : tie.Need-slice-write-clocks-10
+slice-write-clocks-10 c = simp length-set (omega arith)
+
+add-clocks-10 : tie.Need-add-clocks-10
+add-clocks-10 c = search needs
+
+mul-clocks-11 : tie.Need-mul-clocks-11
+mul-clocks-11 c = search needs
+
+slice-write-clocks-11 : tie.Need-slice-write-clocks-11
+slice-write-clocks-11 c = simp length-set (omega arith)
+
+same-length : tie.Need-same-length
+same-length c = simp length-set
+
+returns : tie.Need-returns
+returns c =
+    let start = c .before .before .before .before .before .before .before .before in
+    let a = start .args in
+    words-stored (now (a .clocks)) (clockSize * a .f) (given (a .k)) (start .pre .1)
+
+pub give-spec : {M : Type 1} → statement M
+give-spec =
+    tie.close
+    (tie.spec
+    mul-at
+    mul-clocks
+    slice-write-clocks
+    add-clocks
+    mul-clocks-2
+    slice-write-clocks-2
+    add-clocks-2
+    mul-clocks-3
+    slice-write-clocks-3
+    add-clocks-3
+    mul-clocks-4
+    slice-write-clocks-4
+    add-clocks-4
+    mul-clocks-5
+    slice-write-clocks-5
+    add-clocks-5
+    mul-clocks-6
+    slice-write-clocks-6
+    add-clocks-6
+    mul-clocks-7
+    slice-write-clocks-7
+    add-clocks-7
+    mul-clocks-8
+    slice-write-clocks-8
+    add-clocks-8
+    mul-clocks-9
+    slice-write-clocks-9
+    add-clocks-9
+    mul-clocks-10
+    slice-write-clocks-10
+    add-clocks-10
+    mul-clocks-11
+    slice-write-clocks-11
+    same-length
+    returns)
