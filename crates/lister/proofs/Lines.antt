@@ -8,11 +8,12 @@ use lib.ListN.{length, getD, drop, length-append}
 use lib.Seq.{drop-drop, getD-drop}
 use Rattle.text.specs.Text.{lineFeed, space, decimal}
 use Rattle.text.proofs.Decimal.{digits-fit}
+use Rattle.checker.specs.Rules.{maxConditions}
 use Rattle.checker.specs.Answers.{clockSize}
 use Rattle.lister.specs.Listing.{field, refusalText, longest}
 use Rattle.lister.specs.Private.Words.{wordText, wordsText, countedText, clockText, clocksText}
 
-words-suc : (m n : ℕ) (ws : List ℕ) → m ≡ suc n → wordsText m ws ≡ wordText (getD ws 0 0) ++ wordsText n (drop 1 ws)
+words-suc : (m n : ℕ) (ws : List ℕ) → m ≡ suc n → wordsText m ws ≡ wordText (getD ws 0 0) (getD ws maxConditions 0) ++ wordsText n (drop 1 ws)
 unfolding wordsText
 words-suc m n ws e = rw e
 
@@ -22,12 +23,13 @@ words-none m ws e = rw e
 
 -- condition i of n
 pub words-step : (n i from : ℕ) (ws : List ℕ) → i < n
-    → wordsText (n - i) (drop (from + i) ws) ≡ wordText (getD ws (from + i) 0) ++ wordsText (n - (i + 1)) (drop (from + (i + 1)) ws)
+    → wordsText (n - i) (drop (from + i) ws)
+    ≡ wordText (getD ws (from + i) 0) (getD ws (from + i + maxConditions) 0) ++ wordsText (n - (i + 1)) (drop (from + (i + 1)) ws)
 words-step n i from ws l =
     let e : from + i + 1 ≡ from + (i + 1) = omega arith in
     words-suc (n - i) (n - (i + 1)) (drop (from + i) ws) (omega arith)
-    ∙ ap₂ (λ (x : ℕ) (y : List ℕ). wordText x ++ wordsText (n - (i + 1)) y)
-    (getD-drop (from + i) ws 0 0 ∙ ap (λ (k : ℕ). getD ws k 0) (add-zero (from + i)))
+    ∙ ap₂ (λ (x y : List ℕ). x ++ wordsText (n - (i + 1)) y)
+    (ap₂ wordText (getD-drop (from + i) ws 0 0 ∙ ap (λ (k : ℕ). getD ws k 0) (add-zero (from + i))) (getD-drop (from + i) ws maxConditions 0))
     (drop-drop 1 (from + i) ws ∙ ap (λ (k : ℕ). drop k ws) e)
 
 pub words-end : (n i from : ℕ) (ws : List ℕ) → n ≤ i → wordsText (n - i) (drop (from + i) ws) ≡ []

@@ -1,69 +1,62 @@
 -- The text of the words that the check left is the text of the clocks, and how long it is. Assumes nothing.
 use mathlib.Core.Path.{_≡_, refl, sym, _∙_, ap, ap₂}
-use Prim.Native.Nat.{ℕ, suc, _+_, _*_, _-_, _/_, _%_, _≤_, _<_}
+use Prim.Native.Nat.{ℕ, zero, suc, _+_, _*_, _/_, _%_, _≤_, _<_}
 use native.Mathlib.Omega.{arith}
 use mathlib.Core.Bool.{Bool, true, false}
-use mathlib.Core.List.{List, [], _∷_, _++_, map, append-assoc}
-use lib.ListN.{length, take, drop, length-append, length-map}
-use lib.Seq.{drop-append-seam, take-append-add}
-use lib.Dec.{eqb, leb}
-use borrow.Author.Tests.{ne-eqb, le-leb, lt-leb}
+use mathlib.Core.List.{List, [], _∷_, _++_, append-assoc}
+use lib.ListN.{length, drop, length-append}
+use lib.Seq.{drop-append-seam}
+use lib.Dec.{eqb, leb, eqb·suc-zero}
+use borrow.Author.Tests.{le-leb, lt-leb}
 use Rattle.text.specs.Text.{lineFeed, space, decimal, Wrote}
 use Rattle.text.proofs.Decimal.{digits-fit}
 use Rattle.text.proofs.Writing.{whole-text}
 use Rattle.table.specs.declared.Answer.{Answer}
 use Rattle.table.specs.Answers.{Refusal, good, refused, number, success, over, answer, leaves}
 use Rattle.table.specs.Bits.{bit}
-use Rattle.table.specs.Rows.{maxFlows}
+use Rattle.table.specs.Rows.{maxFlows, maxField}
 use Rattle.table.proofs.AnswerLaws.{answer-zero, answer-other}
-use Rattle.checker.specs.Rules.{maxConditions, Below, Within, AllWithin}
+use Rattle.checker.specs.Rules.{maxConditions, Every, Below, Direct, FirstViewed, Within, AllWithin}
 use Rattle.checker.specs.Clocks.{Condition, Clock}
-use Rattle.checker.specs.Answers.{clockSize, conditionWord, clockWords, clocksWords}
+use Rattle.checker.specs.Answers.{clockSize, conditionWord, fourWords, clockWords, clocksWords}
 use Rattle.checker.proofs.RuleLaws.{limits}
 use Rattle.checker.proofs.Agree.{few}
-use Rattle.checker.proofs.WordLaws.{clock-words}
+use Rattle.checker.proofs.WordLaws.{viewOf, clock-words}
 use Rattle.lister.specs.declared.Listed.the-variants.{Bytes, NoRoom}
-use Rattle.lister.specs.Listing.{letterC, sign, field, okay, conditionText, conditionsFrom, conditionsText, lineText, linesFrom, okText, refusalText}
-use Rattle.lister.specs.Listing.{checked, listingOf, longestLine, longest, listing, parts, listingAnswer, textAfter}
+use Rattle.lister.specs.Listing.{letterC, sign, viewText, field, okay, conditionText, conditionsFrom, conditionsText, lineText, linesFrom, okText, refusalText}
+use Rattle.lister.specs.Listing.{checked, listingOf, longestView, longestLine, longest, listing, parts, listingAnswer, textAfter}
 use Rattle.lister.specs.Private.Words.{wordText, wordsText, countedText, clockText, clocksText, tableText}
 use Rattle.lister.proofs.Joined.{checked-clocks}
 
-word-condition : (c : Condition) → wordText (conditionWord c) ≡ conditionText c
+word-condition : (c : Condition) → wordText (conditionWord c) (c .view) ≡ conditionText c
 unfolding wordText conditionText
-word-condition c = go (c .flow) (c .truth)
+word-condition c = go (c .flow) (c .truth) (viewText (c .view))
   where
-    go : (f : ℕ) (t : Bool) → letterC ∷ (decimal ((2 * f + bit t) / 2) ++ (sign (eqb ((2 * f + bit t) % 2) 1) ∷ [])) ≡ letterC ∷ (decimal f ++ (sign t ∷ []))
-    go f true =
+    go : (f : ℕ) (t : Bool) (v : List ℕ) → letterC ∷ (decimal ((2 * f + bit t) / 2) ++ (sign (eqb ((2 * f + bit t) % 2) 1) ∷ v)) ≡ letterC ∷ (decimal f ++ (sign t ∷ v))
+    go f true v =
         let p : (2 * f + 1) / 2 ≡ f = omega arith in
         let q : (2 * f + 1) % 2 ≡ 1 = omega arith in
         rw (p, q)
-    go f false =
+    go f false v =
         let p : (2 * f + 0) / 2 ≡ f = omega arith in
         let q : (2 * f + 0) % 2 ≡ 0 = omega arith in
         rw (p, q)
 
-words-text : (cs : List Condition) (rest : List ℕ) → wordsText (length cs) (map conditionWord cs ++ rest) ≡ conditionsFrom cs
-unfolding wordsText conditionsFrom
-words-text [] rest = refl
-words-text (c ∷ cs) rest = ap₂ _++_ (word-condition c) (words-text cs rest)
-
--- the words of conditions in a clock, unused ones too, and what stands after them
-counted-text : (cs : List Condition) (unused rest : List ℕ) → length cs ≤ maxConditions
-    → countedText (length cs) (take maxConditions (map conditionWord cs ++ unused) ++ rest) ≡ conditionsText cs
-unfolding countedText
-counted-text [] unused rest l = refl
-counted-text (c ∷ cs) unused rest l =
-    let ws : List ℕ = map conditionWord (c ∷ cs) in
-    let n : ℕ = maxConditions - length ws in
-    let size : maxConditions ≡ length ws + n = omega (arith, length-map (c ∷ cs) conditionWord) in
-    let e : take maxConditions (ws ++ unused) ++ rest ≡ ws ++ (take n unused ++ rest) =
-    ap (λ (i : ℕ). take i (ws ++ unused) ++ rest) size ∙ ap (λ (w : List ℕ). w ++ rest) (take-append-add ws unused n) ∙ append-assoc ws (take n unused) rest in
-    rw (ne-eqb (suc (length cs)) 0 (λ z. omega arith)) (ap (wordsText (length (c ∷ cs))) e ∙ words-text (c ∷ cs) (take n unused ++ rest))
+-- the words of conditions in a clock, unused ones too, their view periods, and what stands after them
+counted-text : (cs : List Condition) (rest : List ℕ) → length cs ≤ maxConditions
+    → countedText (length cs) ((fourWords conditionWord cs ++ fourWords viewOf cs) ++ rest) ≡ conditionsText cs
+unfolding countedText wordsText conditionsFrom
+counted-text [] rest l = refl
+counted-text (a ∷ []) rest l = rw (word-condition a)
+counted-text (a ∷ b ∷ []) rest l = rw (word-condition a, word-condition b)
+counted-text (a ∷ b ∷ c ∷ []) rest l = rw (word-condition a, word-condition b, word-condition c)
+counted-text (a ∷ b ∷ c ∷ d ∷ []) rest l = rw (word-condition a, word-condition b, word-condition c, word-condition d)
+counted-text (a ∷ b ∷ c ∷ d ∷ e ∷ cs) rest l = absurd (omega arith)
 
 clock-line : (f : ℕ) (k : Clock) (rest : List ℕ) → length (k .conditions) ≤ maxConditions → clockText f (clockWords k ++ rest) ≡ lineText f k
 unfolding clockText lineText
 clock-line f k rest l =
-    ap (λ (w : List ℕ). field f ++ (field (k .period) ++ (field (k .phase) ++ (w ++ (lineFeed ∷ []))))) (counted-text (k .conditions) _ rest l)
+    ap (λ (w : List ℕ). field f ++ (field (k .period) ++ (field (k .phase) ++ (w ++ (lineFeed ∷ []))))) (counted-text (k .conditions) rest l)
 
 clocks-lines : (f : ℕ) (ks : List Clock) (rest : List ℕ) → AllWithin ks → clocksText (length ks) f (clocksWords ks ++ rest) ≡ linesFrom f ks
 unfolding clocksText linesFrom clocksWords
@@ -82,18 +75,30 @@ table-text ks rest h = ap (λ (w : List ℕ). okay ++ (decimal (length ks) ++ (l
 
 -- ---- lengths
 
-condition-length : (c : Condition) → c .flow < maxFlows → length (conditionText c) ≤ 4
+view-length : (w : ℕ) → w ≤ maxField → length (viewText w) ≤ longestView
+unfolding viewText
+view-length zero l = omega arith
+view-length (suc w) l = rw (eqb·suc-zero w) (omega (arith, digits-fit 3 (suc w) (omega arith)))
+
+no-view : (w : ℕ) → w ≡ 0 → length (viewText w) ≡ 0
+unfolding viewText
+no-view w e = rw e
+
+condition-length : (c : Condition) → c .flow < maxFlows → length (conditionText c) ≤ 4 + length (viewText (c .view))
 unfolding conditionText
-condition-length c l = omega (arith, digits-fit 1 (c .flow) (omega arith), length-append (decimal (c .flow)) (sign (c .truth) ∷ []))
+condition-length c l = omega (arith, digits-fit 1 (c .flow) (omega arith), length-append (decimal (c .flow)) (sign (c .truth) ∷ viewText (c .view)))
 
-conditions-length : (cs : List Condition) → Below maxFlows cs → length (conditionsFrom cs) ≤ 4 * length cs
+conditions-length : (cs : List Condition) → Below maxFlows cs → Every Direct cs → length (conditionsFrom cs) ≤ 4 * length cs
 unfolding conditionsFrom
-conditions-length [] h = omega arith
-conditions-length (c ∷ cs) h = omega (arith, condition-length c (h .0), conditions-length cs (h .1), length-append (conditionText c) (conditionsFrom cs))
+conditions-length [] h v = omega arith
+conditions-length (c ∷ cs) h v =
+    omega (arith, condition-length c (h .0), no-view (c .view) (v .0), conditions-length cs (h .1) (v .1), length-append (conditionText c) (conditionsFrom cs))
 
-conditions-short : (cs : List Condition) → length cs ≤ maxConditions → Below maxFlows cs → length (conditionsText cs) ≤ 4 * maxConditions
-conditions-short [] l h = omega arith
-conditions-short (c ∷ cs) l h = omega (arith, conditions-length (c ∷ cs) h)
+conditions-short : (cs : List Condition) → length cs ≤ maxConditions → Below maxFlows cs → FirstViewed cs → length (conditionsText cs) ≤ 4 * maxConditions + longestView
+unfolding conditionsFrom
+conditions-short [] l h v = omega arith
+conditions-short (c ∷ cs) l h v =
+    omega (arith, condition-length c (h .0), view-length (c .view) (v .0), conditions-length cs (h .1) (v .1), length-append (conditionText c) (conditionsFrom cs))
 
 field-length : (n j : ℕ) → length (decimal n) ≤ j → length (field n) ≤ j + 1
 field-length n j h = omega (arith, length-append (decimal n) (space ∷ []))
@@ -108,7 +113,7 @@ line-length f k l w =
       field-length f 2 (digits-fit 1 f (omega arith)),
       field-length (k .period) 4 (digits-fit 3 (k .period) (omega (arith, fit .period-fits))),
       field-length (k .phase) 4 (digits-fit 3 (k .phase) (omega (arith, fit .phase-fits))),
-      conditions-short (k .conditions) (few k w) (w .1),
+      conditions-short (k .conditions) (few k w) (w .1) (w .2),
       length-append (field f) (field (k .period) ++ (field (k .phase) ++ t)),
       length-append (field (k .period)) (field (k .phase) ++ t),
       length-append (field (k .phase)) t,

@@ -1,9 +1,9 @@
 -- The listing of a packed table, byte by byte.
 use Prim.Native.Nat.{ℕ, suc, _+_, _*_}
-use mathlib.Core.Bool.{Bool, true, false}
+use mathlib.Core.Bool.{Bool, true, false, cond}
 use mathlib.Core.List.{List, [], _∷_, _++_}
 use lib.ListN.{length}
-use lib.Dec.{leb}
+use lib.Dec.{eqb, leb}
 use Rattle.text.specs.Text.{lineFeed, space, decimal}
 use Rattle.table.specs.declared.Answer.{Answer}
 use Rattle.table.specs.Answers.{Result, good, refused, unless, then, number, noRoom, success, refusal, answer, leaves}
@@ -16,12 +16,15 @@ use Rattle.checker.specs.Answers.{clockSize, checking}
 use Rattle.lister.specs.declared.Listed.{Listed}
 use Rattle.lister.specs.declared.Listed.the-variants.{Bytes, NoRoom}
 
--- ASCII: plus, minus, c
+-- ASCII: plus, minus, at sign, c
 abbrev pub plus : ℕ
 plus = 43
 
 abbrev pub minus : ℕ
 minus = 45
+
+abbrev pub atSign : ℕ
+atSign = 64
 
 abbrev pub letterC : ℕ
 letterC = 99
@@ -41,9 +44,13 @@ abbrev pub sign : Bool → ℕ
 sign true = plus
 sign false = minus
 
--- a condition, as `c1+`
+-- a view period, as `@30`, and nothing where it is 0
+unfoldable pub viewText : ℕ → List ℕ
+viewText w = cond (eqb w 0) [] (atSign ∷ decimal w)
+
+-- a condition, as `c1+`, and `c1+@30` where it is viewed
 unfoldable pub conditionText : Condition → List ℕ
-conditionText c = letterC ∷ (decimal (c .flow) ++ (sign (c .truth) ∷ []))
+conditionText c = letterC ∷ (decimal (c .flow) ++ (sign (c .truth) ∷ viewText (c .view)))
 
 unfoldable pub conditionsFrom : List Condition → List ℕ
 conditionsFrom [] = []
@@ -80,10 +87,13 @@ checked packed = then (unpacked packed) λ ws. checking (length ws) (joined ws) 
 unfoldable pub listingOf : List ℕ → List ℕ
 listingOf packed = resultText (checked packed)
 
--- Room for every listing: `ok 64` and its line feed, and a line for each flow. The longest line is one such as
--- `63 4095 4095 c10+c11-c12+c13-` and its line feed.
+-- Room for every listing: `ok 64` and its line feed, and a line for each flow. Of a clock's conditions only the first can be viewed, so the
+-- longest line is one such as `63 4095 4095 c10+@4095c11-c12+c13-` and its line feed.
+abbrev pub longestView : ℕ
+longestView = 5
+
 abbrev pub longestLine : ℕ
-longestLine = 14 + 4 * maxConditions
+longestLine = 14 + 4 * maxConditions + longestView
 
 abbrev pub longest : ℕ
 longest = 6 + longestLine * maxFlows

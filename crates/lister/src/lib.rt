@@ -8,7 +8,7 @@ ghost use Rattle.text.specs.Text.{space, Wrote};
 ghost use Rattle.table.specs.Answers.{answer, leaves};
 ghost use Rattle.table.specs.Rows.{maxFlows};
 ghost use Rattle.checker.specs.Answers.{clockSize, clocksWords};
-ghost use Rattle.lister.specs.Listing.{field, sign, refusalText, checked, longest, parts, listingAnswer, textAfter};
+ghost use Rattle.lister.specs.Listing.{field, sign, viewText, refusalText, checked, longest, parts, listingAnswer, textAfter};
 ghost use Rattle.lister.specs.Private.Words.{wordText, wordsText, countedText, clockText, clocksText, tableText};
 use checker::CLOCK_SIZE;
 use checker::CLOCKS;
@@ -23,8 +23,10 @@ const MAX_FLOWS: usize = table::MAX_FLOWS as usize;
 
 const MAX_CONDITIONS: usize = checker::MAX_CONDITIONS as usize;
 
-// Room for every listing: a first line of six bytes, and a line for each flow.
-pub const LONGEST: usize = 6 + (14 + 4 * MAX_CONDITIONS) * MAX_FLOWS;
+// Room for every listing: a first line of six bytes, and a line for each flow, in which one condition can be viewed.
+const LONGEST_VIEW: usize = 5;
+
+pub const LONGEST: usize = 6 + (14 + 4 * MAX_CONDITIONS + LONGEST_VIEW) * MAX_FLOWS;
 
 // What the listing answers: how many bytes it wrote, or that the text has too little room.
 pub enum Listed {
@@ -56,16 +58,28 @@ fn sign(word: u32) -> u8
     if word % 2 == 1 { b'+' } else { b'-' }
 }
 
-// Writes a condition by its word.
-fn put_condition(text: &mut [u8], at: usize, word: u32) -> usize
-    ensures { λ r. ⌜ Wrote at (wordText word) (now (text .entry)) r (now (text .exit)) ⌝ }
+// Writes a view period, and nothing where it is 0.
+fn put_view(text: &mut [u8], at: usize, view: u32) -> usize
+    ensures { λ r. ⌜ Wrote at (viewText view) (now (text .entry)) r (now (text .exit)) ⌝ }
+{
+    if view == 0 {
+        return at;
+    }
+    let next = put(text, at, b'@');
+    put_decimal(text, next, view)
+}
+
+// Writes a condition by its word and its view period.
+fn put_condition(text: &mut [u8], at: usize, word: u32, view: u32) -> usize
+    ensures { λ r. ⌜ Wrote at (wordText word view) (now (text .entry)) r (now (text .exit)) ⌝ }
 {
     let next = put(text, at, b'c');
     let last = put_decimal(text, next, word / 2);
-    put(text, last, sign(word))
+    let signed = put(text, last, sign(word));
+    put_view(text, signed, view)
 }
 
-// Writes n conditions, of which the words stand from a place on.
+// Writes n conditions, of which the words stand from a place on, and the view periods behind the words of the most conditions.
 fn put_words(text: &mut [u8], at: usize, words: &[u32], from: usize, n: u32) -> usize
     requires { ⌜ from ≤ clockSize * maxFlows ⌝ }
     ensures { λ r. ⌜ Wrote at (wordsText n (drop from (now (words .entry)))) (now (text .entry)) r (now (text .exit)) ⌝ }
@@ -73,8 +87,10 @@ fn put_words(text: &mut [u8], at: usize, words: &[u32], from: usize, n: u32) -> 
     let mut next = at;
     let mut i: u32 = 0;
     while i < n {
-        let word = word_at(words, from + (i as usize));
-        next = put_condition(text, next, word);
+        let place = from + (i as usize);
+        let word = word_at(words, place);
+        let view = word_at(words, place + MAX_CONDITIONS);
+        next = put_condition(text, next, word, view);
         i += 1;
     }
     next

@@ -17,6 +17,9 @@ sign-requires c κs = search needs
 put-requires-2 : tie.Need-put-requires-2
 put-requires-2 c κs = search needs
 
+put-view-requires : tie.Need-put-view-requires
+put-view-requires c κs = search needs
+
 same-length : tie.Need-same-length
 same-length c = search needs
 
@@ -24,12 +27,21 @@ returns : tie.Need-returns
 unfolding wordText
 returns c =
     let end = c .before .before in
-    let after-sign = end .before in
+    let signed = end .before .before .before .before in
+    let after-sign = signed .before in
     let number = after-sign .before .before .before .before in
     let letter = number .before .before .before .before in
-    both (letter .put .ensures) (both (number .put-decimal .ensures) (rw (← after-sign .sign .ensures) (end .put2 .ensures)))
+    let w = both (letter .put .ensures) (both (number .put-decimal .ensures) (both (signed .put2 .ensures) (end .put-view .ensures))) in
+    rw (← after-sign .sign .ensures) w
 
 pub put-condition-spec : {M : Type 1} → statement M
 put-condition-spec =
     tie.close
-    (tie.spec put-requires put-decimal-requires sign-requires put-requires-2 same-length returns)
+    (tie.spec
+    put-requires
+    put-decimal-requires
+    sign-requires
+    put-requires-2
+    put-view-requires
+    same-length
+    returns)

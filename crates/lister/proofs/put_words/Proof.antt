@@ -21,14 +21,20 @@ abbrev μ-loop : tie.MeasureT-loop
 loop-holds : tie.Need-loop-holds Inv-loop μ-loop
 loop-holds c = (search needs, refl, rw (sub-zero, add-zero) (begin _ _ _))
 
-cast-word-at : tie.Need-cast-word-at Inv-loop μ-loop
-cast-word-at c = search needs
+cast-place : tie.Need-cast-place Inv-loop μ-loop
+cast-place c = search needs
+
+add-place : tie.Need-add-place Inv-loop μ-loop
+add-place c = search needs
+
+word-at-requires : tie.Need-word-at-requires Inv-loop μ-loop
+word-at-requires c κs = search needs
 
 add-word-at : tie.Need-add-word-at Inv-loop μ-loop
 add-word-at c = search needs
 
-word-at-requires : tie.Need-word-at-requires Inv-loop μ-loop
-word-at-requires c κs = search needs
+word-at-requires-2 : tie.Need-word-at-requires-2 Inv-loop μ-loop
+word-at-requires-2 c κs = search needs
 
 put-condition-requires : tie.Need-put-condition-requires Inv-loop μ-loop
 put-condition-requires c κs = search needs
@@ -42,14 +48,15 @@ loop-less c = search needs
 loop-again : tie.Need-loop-again Inv-loop μ-loop
 loop-again c =
     let after-put-condition = c .before .before in
-    let after-word-at = after-put-condition .before .before in
+    let after-word-at2 = after-put-condition .before .before in
+    let after-word-at = after-word-at2 .before in
     let at-loop = after-word-at .before .before in
     let start = at-loop .before .before .before in
     let a = start .args in
     let l = at-loop .loop in
     let w = after-put-condition .put-condition in
     let s = rw (words-step (a .n) (l .i) (a .from) (now (a .words)) (search needs)) at (l .inv .2) in
-    (search needs, w .kept .0 ∙ l .inv .1, and-then s (rw (after-word-at .word-at .ensures) at (w .ensures)))
+    (search needs, w .kept .0 ∙ l .inv .1, and-then s (rw (after-word-at .word-at .ensures, after-word-at2 .word-at2 .ensures) at (w .ensures)))
 
 same-length : tie.Need-same-length Inv-loop μ-loop
 same-length c = c .before .loop .inv .1
@@ -69,9 +76,11 @@ put-words-spec =
     Inv-loop
     μ-loop
     loop-holds
-    cast-word-at
-    add-word-at
+    cast-place
+    add-place
     word-at-requires
+    add-word-at
+    word-at-requires-2
     put-condition-requires
     add-i
     loop-less

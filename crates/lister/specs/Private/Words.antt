@@ -5,17 +5,18 @@ use mathlib.Core.List.{List, [], _∷_, _++_}
 use lib.ListN.{getD, drop}
 use lib.Dec.{eqb}
 use Rattle.text.specs.Text.{lineFeed, decimal}
+use Rattle.checker.specs.Rules.{maxConditions}
 use Rattle.checker.specs.Answers.{clockSize}
-use Rattle.lister.specs.Listing.{minus, letterC, sign, field, okay}
+use Rattle.lister.specs.Listing.{minus, letterC, sign, viewText, field, okay}
 
--- a condition's word
-unfoldable pub wordText : ℕ → List ℕ
-wordText w = letterC ∷ (decimal (w / 2) ++ (sign (eqb (w % 2) 1) ∷ []))
+-- a condition by its word and its view period
+unfoldable pub wordText : ℕ → ℕ → List ℕ
+wordText w v = letterC ∷ (decimal (w / 2) ++ (sign (eqb (w % 2) 1) ∷ viewText v))
 
--- n words of conditions
+-- n conditions; the view periods stand behind the words of the most conditions
 unfoldable pub wordsText : ℕ → List ℕ → List ℕ
 wordsText zero ws = []
-wordsText (suc n) ws = wordText (getD ws 0 0) ++ wordsText n (drop 1 ws)
+wordsText (suc n) ws = wordText (getD ws 0 0) (getD ws maxConditions 0) ++ wordsText n (drop 1 ws)
 
 unfoldable pub countedText : ℕ → List ℕ → List ℕ
 countedText n ws = cond (eqb n 0) (minus ∷ []) (wordsText n ws)
