@@ -14,5 +14,5 @@ pub record Bounded (l : Line) : Type 0 where
   pub phase : l .phase ≤ maxDerived
   pub conditions : l .conditions ≤ maxConditions
 
-pub bounded : (ks : List Clock) (times : List ℕ) (f : ℕ) → f < maxFlows → Sane f (clockAt ks f) → Bounded (lineOf ks times f)
+pub bounded : (ks : List Clock) (times : List ℕ) (f : ℕ) → f < maxFlows → Sane (clockAt ks) f (clockAt ks f) → Bounded (lineOf ks times f)
 bounded ks times f l s = record { flow = l; positive = s .positive; period = s .period-fits; phase = s .phase-fits; conditions = s .few }
