@@ -123,12 +123,15 @@ kinds =
     ∷ kind operand operand period (λ a c w. view false a c w)
     ∷ []
 
--- how many there are, and the kind of an unrated row
+-- how many there are, the kind of an unrated row, and the first of the views
 abbrev pub kindCount : ℕ
 kindCount = 19
 
 abbrev pub unratedKind : ℕ
 unratedKind = 16
+
+abbrev pub firstView : ℕ
+firstView = 17
 
 -- the kind with a number, and the row that it makes of three fields; a number from kindCount on is no kind
 abbrev pub noKind : Kind

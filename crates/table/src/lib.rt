@@ -104,10 +104,13 @@ pub enum Scan {
     Stopped(u32, u32),
 }
 
-// How many kinds of rows there are, the kind of an input with no rate written, how many words a row has, and how many flows a table has at most.
+// How many kinds of rows there are, the kind of an input with no rate written, the first of the views, how many words a row has, and how many
+// flows a table has at most.
 pub const KINDS: u32 = 19;
 
 pub const UNRATED: u32 = 16;
+
+pub const FIRST_VIEW: u32 = 17;
 
 pub const ROW_SIZE: usize = 4;
 
