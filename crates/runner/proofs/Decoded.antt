@@ -2,14 +2,17 @@
 use mathlib.Core.Path.{_≡_, refl, sym, _∙_, ap}
 use Prim.Native.Nat.{ℕ, _<_, _≤_}
 use native.Mathlib.Omega.{arith}
-use mathlib.Core.Bool.{Bool, true, false, _||_, not, Bool·beq, false≢true}
-use lib.Dec.{eqb}
-use borrow.Author.Tests.{eqb-true, ne-eqb}
-use Rattle.table.specs.Rows.{Row, Op, input, constant, combine, register, faster, slower, later, head, tail, sample, merge, unrated, kinds, kindCount, decode}
+use mathlib.Core.Bool.{Bool, true, false, _||_, Bool·beq, false≢true}
+use mathlib.Core.Logic.{_⊎_, inl, inr}
+use lib.Dec.{eqb, leb}
+use borrow.Author.Tests.{eqb-true, eq-eqb, ne-eqb, leb-true}
+use Rattle.table.specs.Rows.{Row, Op, input, constant, combine, register, faster, slower, later, head, tail, sample, merge, unrated, view, kinds, kindCount, decode}
+use Rattle.table.proofs.Tests.{Tried, passed, failed, try}
 use Rattle.table.proofs.Entries.{every, kind-test}
 use Rattle.checker.proofs.ClockLaws.{beq-true}
 use Rattle.semantics.specs.Runs.{isInput}
 use Rattle.runner.specs.Private.Carried.{Combines, startWord}
+use Rattle.runner.specs.Private.Ready.{oneOf, isRegister, looksBack}
 
 -- inputs are of kind 0 alone
 inputs-told : (x y z : ℕ) → every (λ n k. Bool·beq (isInput (k .make x y z)) (eqb n 0)) 0 kinds ≡ true
@@ -29,28 +32,52 @@ no-start n x y z l a b c =
     eqb-true (startWord (decode n x y z)) 0
     (rw (ne-eqb n 0 a, ne-eqb n 1 b, ne-eqb n 7 c) at (kind-test (λ n k. eqb n 0 || (eqb n 1 || (eqb n 7 || eqb (startWord (k .make x y z)) 0))) (starts-told x y z) n l))
 
--- later rows are of kind 10 alone
-abbrev isLater : Row → Bool
-isLater (input n p) = false
-isLater (constant v n p) = false
-isLater (combine op a b) = false
-isLater (register v b a) = false
-isLater (faster a k g) = false
-isLater (slower a k) = false
-isLater (later a d) = true
-isLater (head a v s) = false
-isLater (tail a) = false
-isLater (sample u a c) = false
-isLater (merge c a b) = false
-isLater unrated = false
+-- a kind that is one of those listed
+pub of-kind : (kind from k : ℕ) → k ≡ kind → oneOf kind from k ≡ true
+of-kind kind from k e = rw (eq-eqb k kind e)
 
-laters-told : (x y z : ℕ) → every (λ n k. eqb n 10 || not (isLater (k .make x y z))) 0 kinds ≡ true
+pub one-of : (kind from k : ℕ) → oneOf kind from k ≡ true → (k ≡ kind) ⊎ (from ≤ k)
+one-of kind from k h = go (try (eqb k kind))
+  where
+    go : Tried (eqb k kind) → (k ≡ kind) ⊎ (from ≤ k)
+    go (passed e) = inl (eqb-true k kind e)
+    go (failed e) = inr (leb-true from k (rw e at h))
+
+pub seven-of : (k : ℕ) → k < kindCount → isRegister k ≡ true → k ≡ 7
+seven-of k l h = go (one-of 7 kindCount k h)
+  where
+    go : (k ≡ 7) ⊎ (kindCount ≤ k) → k ≡ 7
+    go (inl e) = e
+    go (inr m) = absurd (omega arith)
+
+-- later rows and views are of the kinds that look back
+abbrev looks : Row → Bool
+looks (input n p) = false
+looks (constant v n p) = false
+looks (combine op a b) = false
+looks (register v b a) = false
+looks (faster a k g) = false
+looks (slower a k) = false
+looks (later a d) = true
+looks (head a v s) = false
+looks (tail a) = false
+looks (sample u a c) = false
+looks (merge c a b) = false
+looks unrated = false
+looks (view u a c w) = true
+
+looks-told : (x y z : ℕ) → every (λ n k. Bool·beq (looks (k .make x y z)) (looksBack n)) 0 kinds ≡ true
 unfolding kinds
-laters-told x y z = refl
+looks-told x y z = refl
 
-pub no-later : (n x y z a d : ℕ) → n < kindCount → (n ≡ 10 → ⊥) → decode n x y z ≡ later a d → ⊥
-no-later n x y z a d l m e =
-    false≢true (ap (λ (r : Row). not (isLater r)) (sym e) ∙ (rw (ne-eqb n 10 m) at (kind-test (λ n k. eqb n 10 || not (isLater (k .make x y z))) (laters-told x y z) n l)))
+looks-by : (n x y z : ℕ) → n < kindCount → looks (decode n x y z) ≡ looksBack n
+looks-by n x y z l = beq-true (looks (decode n x y z)) (looksBack n) (kind-test (λ n k. Bool·beq (looks (k .make x y z)) (looksBack n)) (looks-told x y z) n l)
+
+pub no-later : (n x y z a d : ℕ) → n < kindCount → looksBack n ≡ false → decode n x y z ≡ later a d → ⊥
+no-later n x y z a d l m e = false≢true (sym m ∙ sym (looks-by n x y z l) ∙ ap looks e)
+
+pub no-view : (n x y z : ℕ) (u : Bool) (a c w : ℕ) → n < kindCount → looksBack n ≡ false → decode n x y z ≡ view u a c w → ⊥
+no-view n x y z u a c w l m e = false≢true (sym m ∙ sym (looks-by n x y z l) ∙ ap looks e)
 
 -- kinds 2 to 6 have an operator each
 pub op-is : (k n : ℕ) (op op′ : Op) → k ≡ n → Combines n op → Combines k op′ → op ≡ op′

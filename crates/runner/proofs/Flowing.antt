@@ -157,7 +157,7 @@ module _ (n : ℕ) (words log : List ℕ) (rows : List Row) (T : Table n words r
                 (follows-on n f t rows past (G .now) (G .now ++ (c ∷ [])) (heldIn s′ (heldSize * f)) (rowAt rows f) (row .fits) (λ a k. grows c f a (omega arith) k)
                 (subst (λ (w : Held). Follows rows f (rowAt rows f) t (G .now) past w) (sym (D .carried ∙ next-near))
                 (subst (λ (i : ℕ). Follows rows f (rowAt rows f) i (G .now) past (nextOf (rowAt rows f) (length past) (cellIn (G .now)) (heldIn s (heldSize * f)))) (R .ticks)
-                (row-follows n f rows log past (G .now) (heldIn s (heldSize * f)) at (rowAt rows f) c (row .fits) carried (sym near ∙ e)))))
+                (row-follows n f rows log past (G .now) (heldIn s (heldSize * f)) at (rowAt rows f) c (row .fits) carried collected (sym near ∙ e)))))
 
         pub goes-on : (ms′ vs′ : List ℕ) → (r .mark ≡ clashMark → ⊥) → f < length ms₀ → f < length vs₀ → ms′ ≡ set ms f (r .mark) → vs′ ≡ set vs f (r .value)
             → Going rows log past t s₀ ms₀ vs₀ s′ ms′ vs′ (f + 1)

@@ -11,7 +11,7 @@ use lib.ListN.{length, getD, set, drop}
 use lib.Seq.{drop-cons, drop-length}
 use lib.Dec.{eqb, ltb}
 use borrow.Author.Tests.{eq-eqb, ne-eqb, eqb-true, eqb-false, ltb-true, ltb-false}
-use Rattle.table.specs.Rows.{Row, tail, register, kinds, decode, onRegister, badRegister, rowSize}
+use Rattle.table.specs.Rows.{Row, tail, register, kinds, decode, onRegister, badRegister, rowSize, kindCount}
 use Rattle.table.proofs.Tests.{Tried, passed, failed, try}
 use Rattle.table.specs.Tables.{Fits, rowAt}
 use Rattle.table.proofs.Tables.{Table}
@@ -21,9 +21,10 @@ use Rattle.semantics.specs.Operators.{valueOr}
 use Rattle.semantics.specs.Runs.{Tick, Ticks, cellIn, history, sourceMeets}
 use Rattle.semantics.specs.Answers.{markByte}
 use Rattle.runner.specs.Private.Carried.{Held, heldIn, stateSize, heldSize}
-use Rattle.runner.specs.Private.Ready.{Carries, Follows, AllCarry, AllFollow, Wrote, LatchEnd, Listed}
+use Rattle.runner.specs.Private.Ready.{Carries, Follows, AllCarry, AllFollow, Wrote, LatchEnd, Listed, isRegister}
 use Rattle.runner.proofs.Words.{stored, stored-other}
 use Rattle.runner.proofs.Cells.{mark-at, value-at}
+use Rattle.runner.proofs.Decoded.{of-kind, seven-of}
 use Rattle.runner.proofs.Tabled.{row-of}
 
 -- the rows before g have no register that does not pass: the lowest one is the lowest from g on
@@ -62,10 +63,13 @@ pub record Latching (n t : ℕ) (words list : List ℕ) (rows : List Row) (cells
   pub done : (i : ℕ) → i < j → Carries rows (getD list i 0) (rowAt rows (getD list i 0)) (suc t) (history (cells ∷ past)) (heldIn s (heldSize * getD list i 0))
   pub left : (g : ℕ) → ((i : ℕ) → i < j → getD list i 0 ≡ g → ⊥) → heldIn s (heldSize * g) ≡ heldIn s₀ (heldSize * g)
 
-module _ (n count : ℕ) (words list : List ℕ) (rows : List Row) (T : Table n words rows) (I : Listed 7 n words list count) where
+module _ (n count : ℕ) (words list : List ℕ) (rows : List Row) (T : Table n words rows) (I : Listed isRegister n words list count) where
   -- a row of another kind is no register
   other-row : (test : ℕ → ℕ → Bool) (g : ℕ) → g < n → (getD words (rowSize * g) 0 ≡ 7 → ⊥) → onRegister test (rowAt rows g) ≡ true
   other-row test g l k = row-of n words rows T g l .no-register k test
+
+  kind-at : (j : ℕ) → j < count → getD words (rowSize * getD list j 0) 0 ≡ 7
+  kind-at j h = seven-of _ (row-of n words rows T (getD list j 0) (I .within j h) .known) (I .kind j h)
 
   register-at :
       (j : ℕ) → j < count → rowAt rows (getD list j 0)
@@ -74,7 +78,8 @@ module _ (n count : ℕ) (words list : List ℕ) (rows : List Row) (T : Table n 
   register-at j h =
       sym (row-of n words rows T (getD list j 0) (I .within j h) .made)
       ∙ ap (λ (k : ℕ). decode k (getD words (rowSize * getD list j 0 + 1) 0) (getD words (rowSize * getD list j 0 + 2) 0)
-      (getD words (rowSize * getD list j 0 + 3) 0)) (I .kind j h)
+      (getD words (rowSize * getD list j 0 + 3) 0))
+      (kind-at j h)
 
   -- its beat is below it, its source in the table
   pub operands-low : (j : ℕ) → j < count → (getD words (rowSize * getD list j 0 + 2) 0 < getD list j 0) × (getD words (rowSize * getD list j 0 + 3) 0 < n)
@@ -88,7 +93,7 @@ module _ (n count : ℕ) (words list : List ℕ) (rows : List Row) (T : Table n 
     in-list : (g j : ℕ) → g < n → j ≤ count → ((i : ℕ) → j ≤ i → i < count → getD list i 0 ≡ g → ⊥) → Tried (eqb (getD words (rowSize * g) 0) 7)
         → ((i : ℕ) × (i < j) × (getD list i 0 ≡ g)) ⊎ (getD words (rowSize * g) 0 ≡ 7 → ⊥)
     in-list g j l k out (failed e) = inr (eqb-false (getD words (rowSize * g) 0) 7 e)
-    in-list g j l k out (passed e) = inl (here (I .all g l (eqb-true (getD words (rowSize * g) 0) 7 e)))
+    in-list g j l k out (passed e) = inl (here (I .all g l (of-kind 7 kindCount _ (eqb-true (getD words (rowSize * g) 0) 7 e))))
       where
         here : (i : ℕ) × (i < count) × (getD list i 0 ≡ g) → (i : ℕ) × (i < j) × (getD list i 0 ≡ g)
         here p = go (try (ltb (p .0) j))
@@ -113,7 +118,7 @@ module _ (n count : ℕ) (words list : List ℕ) (rows : List Row) (T : Table n 
               (λ (e : getD words (rowSize * g) 0 ≡ 7 → ⊥). other-row (sourceMeets cells) g (omega (arith, T .size)) e) (split g (omega (arith, T .size)))
 
           apart : (g : ℕ) → (getD words (rowSize * g) 0 ≡ 7 → ⊥) → (i : ℕ) → i < j → getD list i 0 ≡ g → ⊥
-          apart g e i b q = e (ap (λ (m : ℕ). getD words (rowSize * m) 0) (sym q) ∙ I .kind i (omega arith))
+          apart g e i b q = e (ap (λ (m : ℕ). getD words (rowSize * m) 0) (sym q) ∙ kind-at i (omega arith))
 
           carry : (g : ℕ) → g < length rows → Carries rows g (rowAt rows g) (suc t) (history (cells ∷ past)) (heldIn s (heldSize * g))
           carry g b =

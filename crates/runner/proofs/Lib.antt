@@ -2,6 +2,7 @@ pub mod Words
 pub mod Decoded
 pub mod Copies
 pub mod Histories
+pub mod Views
 pub mod Steps
 pub mod Tabled
 pub mod Cells

@@ -1,21 +1,19 @@
--- The list of the rows of a kind, row after row. Assumes nothing.
+-- The list of the rows whose kinds pass a test, row after row. Assumes nothing.
 use mathlib.Core.Path.{_≡_, sym, _∙_, ap, subst}
 use Prim.Native.Nat.{ℕ, _+_, _*_, _≤_, _<_}
 use native.Mathlib.Nat.{eq-or-lt-of-le}
 use native.Mathlib.Omega.{arith}
-use mathlib.Core.Bool.{cond}
+use mathlib.Core.Bool.{Bool, true, cond, true≢false}
 use mathlib.Core.Logic.{_⊎_, inl, inr, ⊎-elim}
 use mathlib.Core.List.{List}
 use lib.ListN.{length, getD, set, length-set}
 use lib.Seq.{getD-set-same, getD-set-other}
-use lib.Dec.{eqb}
-use borrow.Author.Tests.{eqb-true, eqb-false}
 use Rattle.table.proofs.Tests.{Tried, passed, failed, try}
 use Rattle.runner.specs.Private.Ready.{Listed}
 use Rattle.table.specs.Rows.{rowSize}
 
-pub no-rows : (k : ℕ) (words list : List ℕ) → Listed k 0 words list 0
-no-rows k words list =
+pub no-rows : (test : ℕ → Bool) (words list : List ℕ) → Listed test 0 words list 0
+no-rows test words list =
     record {
       room = omega arith;
       within = λ j l. absurd (omega arith);
@@ -24,8 +22,8 @@ no-rows k words list =
       all = λ f l. absurd (omega arith);
     }
 
-module _ (k f : ℕ) (words list : List ℕ) (c : ℕ) (L : Listed k f words list c) where
-  skips : (getD words (rowSize * f) 0 ≡ k → ⊥) → Listed k (f + 1) words list c
+module _ (test : ℕ → Bool) (f : ℕ) (words list : List ℕ) (c : ℕ) (L : Listed test f words list c) where
+  skips : (test (getD words (rowSize * f) 0) ≡ true → ⊥) → Listed test (f + 1) words list c
   skips n =
       record {
         room = L .room;
@@ -33,16 +31,16 @@ module _ (k f : ℕ) (words list : List ℕ) (c : ℕ) (L : Listed k f words lis
         kind = L .kind;
         rising = L .rising;
         all =
-            λ g l e. ⊎-elim (λ (u : g ≡ f). absurd (n (ap (λ (i : ℕ). getD words (rowSize * i) 0) (sym u) ∙ e))) (λ (u : g < f). L .all g u e)
+            λ g l e. ⊎-elim (λ (u : g ≡ f). absurd (n (ap (λ (i : ℕ). test (getD words (rowSize * i) 0)) (sym u) ∙ e))) (λ (u : g < f). L .all g u e)
             (eq-or-lt-of-le {n = g} {m = f} (omega arith));
       }
 
-  takes : c < length list → getD words (rowSize * f) 0 ≡ k → Listed k (f + 1) words (set list c f) (c + 1)
+  takes : c < length list → test (getD words (rowSize * f) 0) ≡ true → Listed test (f + 1) words (set list c f) (c + 1)
   takes r e =
       record {
         room = omega (arith, length-set list c f);
         within = λ j l. by j (λ i. i < f + 1) (omega arith) (λ u. omega (arith, L .within j u)) l;
-        kind = λ j l. by j (λ i. getD words (rowSize * i) 0 ≡ k) e (λ u. L .kind j u) l;
+        kind = λ j l. by j (λ i. test (getD words (rowSize * i) 0) ≡ true) e (λ u. L .kind j u) l;
         rising = λ i j l m. up i j l (eq-or-lt-of-le {n = j} {m = c} (omega arith));
         all = λ g l q. ⊎-elim (λ (u : g ≡ f). (c, omega arith, here ∙ sym u)) (λ (u : g < f). old g (L .all g u q)) (eq-or-lt-of-le {n = g} {m = f} (omega arith));
       }
@@ -70,24 +68,24 @@ module _ (k f : ℕ) (words list : List ℕ) (c : ℕ) (L : Listed k f words lis
 
   -- one row more
   pub listed-more :
-      (list′ : List ℕ) (c′ : ℕ) → c < length list → list′ ≡ cond (eqb (getD words (rowSize * f) 0) k) (set list c f) list
-      → c′ ≡ cond (eqb (getD words (rowSize * f) 0) k) (c + 1) c → Listed k (f + 1) words list′ c′ × (c′ ≤ c + 1)
-  listed-more list′ c′ r p q = go (try (eqb (getD words (rowSize * f) 0) k)) p q
+      (list′ : List ℕ) (c′ : ℕ) → c < length list → list′ ≡ cond (test (getD words (rowSize * f) 0)) (set list c f) list
+      → c′ ≡ cond (test (getD words (rowSize * f) 0)) (c + 1) c → Listed test (f + 1) words list′ c′ × (c′ ≤ c + 1)
+  listed-more list′ c′ r p q = go (try (test (getD words (rowSize * f) 0))) p q
     where
       go :
-          Tried (eqb (getD words (rowSize * f) 0) k) → list′ ≡ cond (eqb (getD words (rowSize * f) 0) k) (set list c f) list
-          → c′ ≡ cond (eqb (getD words (rowSize * f) 0) k) (c + 1) c → Listed k (f + 1) words list′ c′ × (c′ ≤ c + 1)
+          Tried (test (getD words (rowSize * f) 0)) → list′ ≡ cond (test (getD words (rowSize * f) 0)) (set list c f) list
+          → c′ ≡ cond (test (getD words (rowSize * f) 0)) (c + 1) c → Listed test (f + 1) words list′ c′ × (c′ ≤ c + 1)
       go (passed e) p q =
           let p′ : list′ ≡ set list c f = rw (e) at p in
           let q′ : c′ ≡ c + 1 = rw (e) at q in (
-            subst (λ (l : List ℕ). Listed k (f + 1) words l c′) (sym p′)
-                (subst (Listed k (f + 1) words (set list c f)) (sym q′) (takes r (eqb-true (getD words (rowSize * f) 0) k e))),
+            subst (λ (l : List ℕ). Listed test (f + 1) words l c′) (sym p′)
+                (subst (Listed test (f + 1) words (set list c f)) (sym q′) (takes r e)),
             omega arith,
           )
       go (failed e) p q =
           let p′ : list′ ≡ list = rw (e) at p in
           let q′ : c′ ≡ c = rw (e) at q in (
-            subst (λ (l : List ℕ). Listed k (f + 1) words l c′) (sym p′)
-                (subst (Listed k (f + 1) words list) (sym q′) (skips (eqb-false (getD words (rowSize * f) 0) k e))),
+            subst (λ (l : List ℕ). Listed test (f + 1) words l c′) (sym p′)
+                (subst (Listed test (f + 1) words list) (sym q′) (skips (λ y. true≢false (sym y ∙ e)))),
             omega arith,
           )

@@ -12,16 +12,16 @@ use Rattle.table.specs.Plain.{tableOf, rowsIn as goodRows}
 use Rattle.table.proofs.Tests.{then-good}
 use Rattle.checker.specs.Rules.{clocksOf}
 use Rattle.checker.specs.Answers.{clockSize, clocksFor, checkAnswer}
-use Rattle.table.proofs.Tables.{rows-good}
+use Rattle.table.proofs.Tables.{rows-good, table-made}
 use Rattle.checker.proofs.Bounds.{told-clocks, told-refusal}
 use Rattle.semantics.specs.Cells.{Cell, absent, value}
 use Rattle.semantics.specs.Runs.{Ticks, Ran, done, run, Regular}
 use Rattle.semantics.specs.Answers.{ranAnswer, markByte}
 use Rattle.semantics.specs.Windows.{Windowed}
-use Rattle.calendar.proofs.Unclashed.{unclashed}
+use Rattle.calendar.proofs.Unclashed.{unclashed, lag}
 use Rattle.runner.specs.Long.{windowTicks, maxLongTicks, longRunning, LongLeft, LongCalled}
 use Rattle.runner.specs.Private.Ready.{rowsIn, Plain, Clocked}
-use Rattle.runner.specs.Private.Placed.{placed, RanTo, testing, Replayed}
+use Rattle.runner.specs.Private.Placed.{placed, Nearby, RanTo, testing, Replayed}
 use Rattle.runner.proofs.Placing.{windowed, window-fits}
 use Rattle.runner.proofs.Replaying.{granted}
 
@@ -36,6 +36,18 @@ called m words log ticks ms vs ts ms′ vs′ ts′ r x e a l =
 finished : (m : ℕ) (words log : List ℕ) (ticks : ℕ) → Plain m words → Clocked m words → (past : Ticks) × (run (rowsIn m words) log ticks ≡ done past)
 unfolding Plain Clocked
 finished m words log ticks P K = let u = unclashed m words (rowsIn m words) (K .0) P (K .1) log ticks in (u .0, u .1)
+
+-- and its views look back by no more than the difference of two phases
+pub close-by : (m : ℕ) (words log : List ℕ) → Plain m words → Clocked m words → Nearby windowTicks (rowsIn m words) log
+unfolding Plain Clocked
+close-by m words log P K =
+    let rows : List Row = rowsIn m words in
+    let size : length rows ≡ m = table-made m words rows P .size in
+    record {
+      near =
+          λ t past l e.
+          record { lag = λ f u a c w s r b q x y. omega (arith, lag m words rows (K .0) P (K .1) log t past e f u a c w (omega arith) q s r x y .1) };
+    }
 
 -- a run into a window: what it leaves are window and tallies of a run to its end
 module _ (m : ℕ) (words log : List ℕ) (ticks : ℕ) (ms vs ts ms′ vs′ ts′ : List ℕ) (r : Answer) (P : Plain m words) (K : Clocked m words) where

@@ -8,7 +8,7 @@ use mathlib.Core.List.{List, [], _∷_, map}
 use lib.ListN.{length}
 use Rattle.table.specs.declared.Answer.{Answer}
 use Rattle.table.specs.Answers.{number, clash, success}
-use Rattle.table.specs.Rows.{Row, maxField}
+use Rattle.table.specs.Rows.{Row}
 use Rattle.semantics.specs.Cells.{Cell, value}
 use Rattle.semantics.specs.Runs.{Tick, Ticks, TickEnd, filled, stopped, tickOf, Ran, done, clashed, onTick, onRun, run, Regular}
 use Rattle.semantics.specs.Answers.{markByte}
@@ -16,7 +16,7 @@ use Rattle.semantics.specs.Windows.{Tallied}
 use Rattle.runner.specs.declared.ticks.Ticked.{Ticked}
 use Rattle.runner.specs.declared.ticks.Ticked.the-variants as ticked
 use Rattle.runner.specs.Private.Ready.{AllCarry}
-use Rattle.runner.specs.Private.Placed.{firstCell, Fitting, splice, placed, Recalls, WroteAt, TickAt, Low, Counted, RanTo}
+use Rattle.runner.specs.Private.Placed.{firstCell, Fitting, splice, placed, Recalls, Near, Nearby, WroteAt, TickAt, Low, Counted, RanTo}
 use Rattle.runner.proofs.Ticking.{full-or-stopped, same-flow}
 use Rattle.runner.proofs.Placing.{fewer}
 use Rattle.runner.proofs.Recalling.{recalls}
@@ -60,8 +60,11 @@ module _ {n room k : ℕ} {rows : List Row} {log ms₀ vs₀ ts₀ : List ℕ} w
   starts C T = record { past = []; ticks = refl; so-far = refl; regular = tt; marks = refl; values = refl; tallied = T; carried = C }
 
   module _ {t : ℕ} {s ms vs ts : List ℕ} (ticks : ℕ) (R : Running n room k t rows log ms₀ vs₀ ts₀ s ms vs ts) where
-    pub recall : t ≤ ticks → maxField ≤ room → Fitting room n ticks (length ms₀) → Fitting room n ticks (length vs₀) → Recalls room n t (R .past) ms vs
-    recall l w F G = recalls room n t (R .past) (R .ticks) (R .regular) w ms₀ vs₀ ms vs (fewer t l F) (fewer t l G) (R .marks) (R .values)
+    pub recall : t ≤ ticks → Fitting room n ticks (length ms₀) → Fitting room n ticks (length vs₀) → Recalls room n t (R .past) ms vs
+    recall l F G = recalls room n t (R .past) (R .ticks) (R .regular) ms₀ vs₀ ms vs (fewer t l F) (fewer t l G) (R .marks) (R .values)
+
+    pub close : t < 2 ^ 24 → Nearby room rows log → Near room rows (R .past)
+    close l N = N .near t (R .past) l (R .so-far)
 
     pub low : t < 2 ^ 24 → Low k ts
     low l = tallied-low k t (R .past) ts₀ ts (R .ticks) l (R .tallied)

@@ -10,19 +10,19 @@ use mathlib.Core.List.{List, [], _∷_}
 use lib.ListN.{length, getD, take, replicate}
 use lib.Seq.{take-all, take-length}
 use lib.Dec.{eqb}
-use Rattle.table.specs.Rows.{Row, input, constant, combine, register, faster, slower, later, head, tail, sample, merge, unrated, rowSize, maxFlows}
+use Rattle.table.specs.Rows.{Row, input, constant, combine, register, faster, slower, later, head, tail, sample, merge, unrated, view, rowSize, maxFlows}
 use Rattle.table.specs.Bits.{bit}
 use Rattle.table.specs.Tables.{Fits, rowAt}
 use Rattle.table.proofs.Tables.{Table}
-use Rattle.semantics.specs.Cells.{count, latest}
+use Rattle.semantics.specs.Cells.{count, latest, first}
 use Rattle.semantics.specs.Runs.{history, inputs, isInput}
 use Rattle.runner.specs.Private.Carried.{Held, held, heldIn, stateSize, startWord, startOf, Started, heldSize}
-use Rattle.runner.specs.Private.Ready.{unseen, never, Carries, AllCarry}
+use Rattle.runner.specs.Private.Ready.{unseen, never, waiting, Carries, AllCarry}
 use Rattle.runner.proofs.Tabled.{wordsAt, madeOf, Row-at, row-of}
 use Rattle.runner.proofs.Histories.{timed-starts}
 
 row-starts : (m f : ℕ) (rows : List Row) (row : Row) → Fits m f row → Carries rows f row 0 (history []) (startOf row (inputs (take f rows)) (held 0 0 0))
-unfolding Carries startWord history latest count
+unfolding Carries startWord history latest count first
 row-starts m f rows (input n p) l = (timed-starts n p, refl)
 row-starts m f rows (constant v n p) l = timed-starts n p
 row-starts m f rows (combine op a b) l = tt
@@ -35,6 +35,7 @@ row-starts m f rows (tail a) l = refl
 row-starts m f rows (sample u a c) l = tt
 row-starts m f rows (merge c a b) l = tt
 row-starts m f rows unrated l = tt
+row-starts m f rows (view u a c v) l = waiting refl refl refl refl
 
 -- the inputs before a row
 inputs-step : (rows : List Row) (f : ℕ) → f < length rows → inputs (take (suc f) rows) ≡ inputs (take f rows) + bit (isInput (rowAt rows f))

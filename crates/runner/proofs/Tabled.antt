@@ -1,7 +1,7 @@
 -- What the words of a table that is not refused make. Assumes nothing.
 use mathlib.Core.Path.{_≡_, sym, _∙_, ap, subst}
 use Prim.Native.Nat.{ℕ, _+_, _*_, _<_}
-use mathlib.Core.Bool.{Bool, true}
+use mathlib.Core.Bool.{Bool, true, false}
 use mathlib.Core.List.{List}
 use lib.ListN.{getD}
 use lib.Dec.{eqb}
@@ -13,7 +13,7 @@ use Rattle.table.proofs.Registers.{register-by}
 use Rattle.semantics.specs.Cells.{History}
 use Rattle.semantics.specs.Runs.{isInput}
 use Rattle.runner.specs.Private.Carried.{Held}
-use Rattle.runner.specs.Private.Ready.{rowsIn, Plain, Collected}
+use Rattle.runner.specs.Private.Ready.{rowsIn, Plain, Collected, looksBack}
 use Rattle.runner.proofs.Decoded as decoded
 
 -- Row f's words as the code reads them, and the row that they make.
@@ -40,12 +40,11 @@ pub record Row-at (m : ℕ) (words : List ℕ) (row : Row) (f : ℕ) : Type 0 wh
   pub known : wordsAt words f .kind < kindCount
   pub legal : FieldsFit maxFlows f (kindAt (wordsAt words f .kind)) (wordsAt words f .one) (wordsAt words f .two) (wordsAt words f .three)
   pub no-register : (getD words (rowSize * f) 0 ≡ 7 → ⊥) → (test : ℕ → ℕ → Bool) → onRegister test row ≡ true
-  pub no-later : (getD words (rowSize * f) 0 ≡ 10 → ⊥) → (hist : ℕ → History) (w : Held) → Collected row hist w
+  pub no-look : looksBack (getD words (rowSize * f) 0) ≡ false → (hist : ℕ → History) (w : Held) → Collected row hist w
   pub is-input : isInput row ≡ eqb (getD words (rowSize * f) 0) 0
 
 module _ (m : ℕ) (words : List ℕ) (rows : List Row) (T : Table m words rows) where
   pub row-of : (f : ℕ) → f < m → Row-at m words (rowAt rows f) f
-  unfolding Collected
   row-of f l =
       let w : Words = wordsAt words f in
       let d : Made m f w (rowAt rows f) = subst (λ (v : Words). Made m f v (rowAt rows f)) (sym (four-read words (rowSize * f))) (T .row-at f l) in
@@ -56,6 +55,10 @@ module _ (m : ℕ) (words : List ℕ) (rows : List Row) (T : Table m words rows)
         legal = fit-more m maxFlows f (kindAt (w .kind)) (w .one) (w .two) (w .three) (T .few) (fields-fit m f w (rowAt rows f) d);
         no-register =
             λ n test. ap (onRegister test) (sym (d .row)) ∙ register-by test (w .kind) (w .one) (w .two) (w .three) (d .known) ∙ rw (ne-eqb (w .kind) 7 n);
-        no-later = λ n hist v a b e p. absurd (decoded.no-later (w .kind) (w .one) (w .two) (w .three) a b (d .known) n (d .row ∙ e));
+        no-look =
+            λ n hist v. record {
+              of-later = λ a b e p. absurd (decoded.no-later (w .kind) (w .one) (w .two) (w .three) a b (d .known) n (d .row ∙ e));
+              of-view = λ u a c x e. absurd (decoded.no-view (w .kind) (w .one) (w .two) (w .three) u a c x (d .known) n (d .row ∙ e));
+            };
         is-input = ap isInput (sym (d .row)) ∙ decoded.is-input (w .kind) (w .one) (w .two) (w .three) (d .known);
       }

@@ -88,12 +88,25 @@ stored-two s i u v l =
       getD-set-other s i (i + 2) u 0 (λ e. omega arith),
     )
 
-pub stored-two-other : (s : List ℕ) (f g u v : ℕ) → (g ≡ f → ⊥) → heldIn (set (set s (heldSize * f) u) (heldSize * f + 1) v) (heldSize * g) ≡ heldIn s (heldSize * g)
-stored-two-other s f g u v n =
+-- its first and its third
+pub stored-ends : (s : List ℕ) (i u v : ℕ) → i + 4 ≤ length s → heldIn (set (set s i u) (i + 2) v) i ≡ held u (getD s (i + 1) 0) v
+stored-ends s i u v l =
     rw (
-      getD-set-other (set s (heldSize * f) u) (heldSize * f + 1) (heldSize * g) v 0 (λ e. omega arith),
-      getD-set-other (set s (heldSize * f) u) (heldSize * f + 1) (heldSize * g + 1) v 0 (λ e. n (omega arith)),
-      getD-set-other (set s (heldSize * f) u) (heldSize * f + 1) (heldSize * g + 2) v 0 (λ e. omega arith),
+      getD-set-other (set s i u) (i + 2) i v 0 (λ e. omega arith),
+      getD-set-same s i u 0 (omega arith),
+      getD-set-other (set s i u) (i + 2) (i + 1) v 0 (λ e. omega arith),
+      getD-set-other s i (i + 1) u 0 (λ e. omega arith),
+      getD-set-same (set s i u) (i + 2) v 0 (omega (arith, length-set s i u)),
+    )
+
+-- the first and another of a row are no other row's
+pub stored-two-other : (s : List ℕ) (f g d u v : ℕ) → d < heldSize → (g ≡ f → ⊥)
+    → heldIn (set (set s (heldSize * f) u) (heldSize * f + d) v) (heldSize * g) ≡ heldIn s (heldSize * g)
+stored-two-other s f g d u v l n =
+    rw (
+      getD-set-other (set s (heldSize * f) u) (heldSize * f + d) (heldSize * g) v 0 (λ e. n (omega arith)),
+      getD-set-other (set s (heldSize * f) u) (heldSize * f + d) (heldSize * g + 1) v 0 (λ e. n (omega arith)),
+      getD-set-other (set s (heldSize * f) u) (heldSize * f + d) (heldSize * g + 2) v 0 (λ e. n (omega arith)),
     )
     (stored-other s f g u n)
 

@@ -1,12 +1,14 @@
 // The operators whose rows carry words from tick to tick: what each makes of its operand's cell, which stands below f in marks and values, and
 // of its words, which stand from i on in state.
 ghost use mathlib.Core.Path.{_≡_};
-ghost use Prim.Native.Nat.{ℕ, _+_, _*_, _≤_, _<_, _^_};
+ghost use Prim.Native.Nat.{ℕ, _+_, _*_, _-_, _≤_, _<_, _^_};
 ghost use lib.ListN.{length, getD};
 ghost use Rattle.runner.specs.Private.Carried.{outcomeOf, cellsIn, heldSize, heldIn, Did, timedStep, timedNext, fasterStep, fasterNext, begun};
 ghost use Rattle.runner.specs.Private.Carried.{slowerStep, slowerNext, laterStep, afterStep, afterNext, headStep, headNext, tailStep, tailNext};
 ghost use Rattle.semantics.specs.Operators.{is};
-ghost use Rattle.semantics.specs.Cells.{absent, present};
+ghost use Rattle.semantics.specs.Cells.{absent, present, mark};
+ghost use Rattle.table.specs.Bits.{bit};
+ghost use Rattle.runner.specs.Private.Carried.{Held, cellAt, status, noted, viewNext, viewStep, sightOf};
 use crate::operators::ABSENT;
 use crate::operators::CLASH;
 use crate::operators::Outcome;
@@ -282,4 +284,136 @@ pub(crate) fn tail(
             value: values[j],
         }
     }
+}
+
+// What a view keeps of a cell: 0 absent, 1 zero, 2 not zero.
+pub(crate) fn status(mark: u8, value: u32) -> u32
+    ensures { λ r. ⌜ r ≡ status (cellAt mark value) ⌝ }
+{
+    if mark == 0 {
+        return 0;
+    }
+    if value == 0 { 1 } else { 2 }
+}
+
+// The status of a cell that has the truth.
+fn wanted(truth: bool) -> u32
+    ensures { λ r. ⌜ r ≡ 1 + bit truth ⌝ }
+{
+    if truth { 2 } else { 1 }
+}
+
+// How many ticks before t the tick s was, 0 where it was not before.
+fn ago(t: u32, s: u32) -> u32
+    ensures { λ r. ⌜ r ≡ t - s ⌝ }
+{
+    if s <= t { t - s } else { 0 }
+}
+
+// The words that a view carries. Before a's first presence `next` is 0; `status` is 0, or from c's first presence on that of its cell, and
+// `lag` its tick. From then on: the next tick at which c is looked at anew, by how many ticks c began before a, and the status that governs.
+struct Sight {
+    next: u32,
+    lag: u32,
+    status: u32,
+}
+
+// Before a's first presence: c's first one is noted, with its tick. `here` is the status of c's cell at tick t.
+fn note(t: u32, here: u32, s: Sight) -> Sight
+    ensures { λ r. ⌜ sightOf r ≡ noted t here (sightOf s) ⌝ }
+{
+    if s.status == 0 {
+        Sight {
+            next: s.next,
+            lag: t,
+            status: here,
+        }
+    } else {
+        s
+    }
+}
+
+// The words after tick t; whether a is present is given, and the status of c's cell.
+fn watch(w: u32, t: u32, present: bool, here: u32, s: Sight) -> Sight
+    requires { ⌜ (t < 2 ^ 24) × (w < 2 ^ 12) ⌝ }
+    ensures { λ r. ⌜ sightOf r ≡ viewNext w t «present» here (sightOf s) ⌝ }
+{
+    if s.next == 0 {
+        let begun = note(t, here, s);
+        if present {
+            return Sight {
+                next: t + w,
+                lag: ago(t, begun.lag),
+                status: begun.status,
+            };
+        }
+        return begun;
+    }
+    if t == s.next {
+        return Sight {
+            next: t + w,
+            lag: s.lag,
+            status: here,
+        };
+    }
+    s
+}
+
+// A cell by the status that governs it.
+fn governed(truth: bool, mark: u8, value: u32, status: u32) -> Outcome
+    ensures { λ r. ⌜ ((h : Held) → h .z ≡ «status» → r ≡ outcomeOf (viewStep truth (cellAt mark value) h)) ⌝ }
+{
+    if mark == 0 {
+        return ABSENT;
+    }
+    if status == 0 {
+        return CLASH;
+    }
+    if status == wanted(truth) {
+        Outcome { mark: 1, value }
+    } else {
+        ABSENT
+    }
+}
+
+// When-seen and when-not-seen: a, where c's cell that governs has the truth.
+pub(crate) fn viewed(
+    truth: bool,
+    t: u32,
+    marks: &[u8],
+    values: &[u32],
+    f: usize,
+    a: u32,
+    c: u32,
+    w: u32,
+    state: &mut [u32],
+    i: usize,
+) -> Outcome
+    requires { ⌜ (a < f)
+        × (c < f)
+        × (f ≤ length (now marks))
+        × (f ≤ length (now values))
+        × (i + heldSize ≤ length (now state))
+        × (t < 2 ^ 24)
+        × (w < 2 ^ 12) ⌝ }
+    ensures { λ r. ⌜ Did
+        (viewStep truth (cellsIn (now (marks .entry)) (now (values .entry)) f a)
+        (viewNext w t (mark (cellsIn (now (marks .entry)) (now (values .entry)) f a)) (status (cellsIn (now (marks .entry)) (now (values .entry)) f c))
+        (heldIn (now (state .entry)) i)))
+        (viewNext w t (mark (cellsIn (now (marks .entry)) (now (values .entry)) f a)) (status (cellsIn (now (marks .entry)) (now (values .entry)) f c))
+        (heldIn (now (state .entry)) i))
+        i (now (state .entry)) (now (state .exit)) r ⌝ }
+{
+    let j = a as usize;
+    let k = c as usize;
+    let before = Sight {
+        next: state[i],
+        lag: state[i + 1],
+        status: state[i + 2],
+    };
+    let after = watch(w, t, marks[j] != 0, status(marks[k], values[k]), before);
+    state[i] = after.next;
+    state[i + 1] = after.lag;
+    state[i + 2] = after.status;
+    governed(truth, marks[j], values[j], after.status)
 }

@@ -11,8 +11,8 @@ ghost use Rattle.semantics.specs.Windows.{tallySize, Tallied};
 ghost use Rattle.runner.specs.Called.{Called};
 ghost use Rattle.runner.specs.Long.{LongCalled};
 ghost use Rattle.runner.specs.Private.Carried.{stateSize};
-ghost use Rattle.runner.specs.Private.Ready.{rowsIn, Plain, AllCarry, Ready, Listed};
-ghost use Rattle.runner.specs.Private.Placed.{Mask, firstCell, Fitting, Recalls, TickAt, RanTo, testing, Replayed};
+ghost use Rattle.runner.specs.Private.Ready.{rowsIn, Plain, AllCarry, Ready, Listed, isRegister, looksBack};
+ghost use Rattle.runner.specs.Private.Placed.{Mask, firstCell, Fitting, Recalls, Near, Nearby, TickAt, RanTo, testing, Replayed};
 
 mod carried;
 mod operators;
@@ -20,6 +20,8 @@ mod state;
 mod tally;
 mod ticks;
 
+use crate::state::LATER;
+use crate::state::REGISTER;
 use crate::state::STATE_SIZE;
 use crate::tally::TALLY_SIZE;
 use crate::ticks::Ticked;
@@ -54,7 +56,7 @@ fn tick_at(
         × (first + n ≤ length (now marks))
         × (first + n ≤ length (now values))
         × (length (now state) ≡ stateSize)
-        × (Listed 7 n (now words) (now registers) count)
+        × (Listed isRegister n (now words) (now registers) count)
         × (t < 2 ^ 24)
         × (at < 2 ^ 40) ⌝ }
     ensures { λ r. ⌜ ((past : Ticks)
@@ -82,8 +84,8 @@ fn turn(
     words: &[u32],
     registers: &[u32],
     register_count: usize,
-    laters: &[u32],
-    later_count: usize,
+    backward: &[u32],
+    backward_count: usize,
     log: &[u32],
     inputs: usize,
     t: u32,
@@ -97,20 +99,32 @@ fn turn(
         × (Fitting (mask + 1) n (t + 1) (length (now marks)))
         × (Fitting (mask + 1) n (t + 1) (length (now values)))
         × (length (now state) ≡ stateSize)
-        × (Listed 7 n (now words) (now registers) «register_count»)
-        × (Listed 10 n (now words) (now laters) «later_count»)
+        × (Listed isRegister n (now words) (now registers) «register_count»)
+        × (Listed looksBack n (now words) (now backward) «backward_count»)
         × (t < 2 ^ 24)
         × (inputs ≡ runs.inputs (rowsIn n (now words)))
         × (Mask mask)
-        × (first ≡ firstCell (mask + 1) n t) ⌝ }
+        × (first ≡ firstCell (mask + 1) n t)
+        × (maxField ≤ mask) ⌝ }
     ensures { λ r. ⌜ ((past : Ticks)
         → length past ≡ t
         → Recalls (mask + 1) n t past (now (marks .entry)) (now (values .entry))
+        → Near (mask + 1) (rowsIn n (now (words .entry))) past
         → AllCarry (rowsIn n (now (words .entry))) t past (now (state .entry))
         → TickAt first (rowsIn n (now (words .entry))) t past (tickOf (rowsIn n (now (words .entry))) (now (log .entry)) past)
         (now (marks .entry)) (now (values .entry)) (now (marks .exit)) (now (values .exit)) (now (state .exit)) r) ⌝ }
 {
-    state::collect(laters, later_count, n, words, t, mask, marks, values, state);
+    state::collect(
+        backward,
+        backward_count,
+        n,
+        words,
+        t,
+        mask,
+        marks,
+        values,
+        state,
+    );
     let at = (t as usize) * inputs;
     tick_at(
         first,
@@ -133,8 +147,8 @@ fn run_ticks(
     words: &[u32],
     registers: &[u32],
     register_count: usize,
-    laters: &[u32],
-    later_count: usize,
+    backward: &[u32],
+    backward_count: usize,
     log: &[u32],
     inputs: usize,
     ticks: u32,
@@ -149,8 +163,8 @@ fn run_ticks(
         × (Fitting (mask + 1) n ticks (length (now marks)))
         × (Fitting (mask + 1) n ticks (length (now values)))
         × (length (now state) ≡ stateSize)
-        × (Listed 7 n (now words) (now registers) «register_count»)
-        × (Listed 10 n (now words) (now laters) «later_count»)
+        × (Listed isRegister n (now words) (now registers) «register_count»)
+        × (Listed looksBack n (now words) (now backward) «backward_count»)
         × (ticks < 2 ^ 24)
         × (inputs ≡ runs.inputs (rowsIn n (now words)))
         × (AllCarry (rowsIn n (now words)) 0 [] (now state))
@@ -158,7 +172,8 @@ fn run_ticks(
         × (maxField ≤ mask)
         × (k ≤ n)
         × (tallySize * k ≤ length (now tallies))
-        × (Tallied k [] (now tallies) (now tallies)) ⌝ }
+        × (Tallied k [] (now tallies) (now tallies))
+        × (Nearby (mask + 1) (rowsIn n (now words)) (now log)) ⌝ }
     ensures { λ r. ⌜ RanTo (runs.run (rowsIn n (now (words .entry))) (now (log .entry)) ticks) (mask + 1) n k ticks (now (marks .entry))
         (now (values .entry)) (now (tallies .entry)) (now (marks .exit)) (now (values .exit)) (now (tallies .exit)) r ⌝ }
 {
@@ -171,8 +186,8 @@ fn run_ticks(
             words,
             registers,
             register_count,
-            laters,
-            later_count,
+            backward,
+            backward_count,
             log,
             inputs,
             t,
@@ -199,7 +214,7 @@ fn run_ticks(
     Answer::success(ticks)
 }
 
-// The run of a table over buffers of these lengths: the tallies begin at 0, the rows of two kinds are listed, and then its ticks.
+// The run of a table over buffers of these lengths: the tallies begin at 0, registers and the rows that look back are listed, and then its ticks.
 fn run_from(
     n: usize,
     words: &[u32],
@@ -223,22 +238,23 @@ fn run_from(
         × (Mask mask)
         × (maxField ≤ mask)
         × (k ≤ n)
-        × (tallySize * k ≤ length (now tallies)) ⌝ }
+        × (tallySize * k ≤ length (now tallies))
+        × (Nearby (mask + 1) (rowsIn n (now words)) (now log)) ⌝ }
     ensures { λ r. ⌜ RanTo (runs.run (rowsIn n (now (words .entry))) (now (log .entry)) ticks) (mask + 1) n k ticks (now (marks .entry))
         (now (values .entry)) (now (tallies .entry)) (now (marks .exit)) (now (values .exit)) (now (tallies .exit)) r ⌝ }
 {
     tally::clear(TALLY_SIZE * k, tallies);
     let mut registers = [0u32; MAX_FLOWS as usize];
-    let mut laters = [0u32; MAX_FLOWS as usize];
-    let register_count = state::listed(7, n, words, &mut registers);
-    let later_count = state::listed(10, n, words, &mut laters);
+    let mut backward = [0u32; MAX_FLOWS as usize];
+    let register_count = state::listed(REGISTER, table::KINDS, n, words, &mut registers);
+    let backward_count = state::listed(LATER, table::FIRST_VIEW, n, words, &mut backward);
     run_ticks(
         n,
         words,
         &registers,
         register_count,
-        &laters,
-        later_count,
+        &backward,
+        backward_count,
         log,
         inputs,
         ticks,
@@ -272,7 +288,8 @@ fn replay(
         × (Fitting (mask + 1) n ticks cells)
         × (Mask mask)
         × (maxField ≤ mask)
-        × (k ≤ n) ⌝ }
+        × (k ≤ n)
+        × (Nearby (mask + 1) (rowsIn n (now words)) (now log)) ⌝ }
     ensures { λ r. ⌜ ((why : Refusal)
         → number why ≡ short
         → Replayed

@@ -9,7 +9,7 @@ ghost use Rattle.table.specs.Rows.{maxFlows, kindCount, kindAt, decode, badRegi
 ghost use Rattle.table.specs.Tables.{FieldsFit};
 ghost use Rattle.runner.specs.Private.Carried.{clashMark, cellsIn, heldSize, stateSize, heldIn, stepOf, nextOf, Did};
 ghost use Rattle.semantics.specs.Runs.{Tick, Ticks, flowsFrom, sourceMeets, tickOf};
-ghost use Rattle.runner.specs.Private.Ready.{rowsIn, Plain, Ready, AllFollow, Wrote, FlowsEnd, LatchEnd, TickDone, Listed};
+ghost use Rattle.runner.specs.Private.Ready.{rowsIn, Plain, Ready, AllFollow, Wrote, FlowsEnd, LatchEnd, TickDone, Listed, isRegister};
 use crate::carried;
 use crate::operators;
 use crate::operators::CLASH;
@@ -24,9 +24,8 @@ pub enum Ticked {
     Stopped(usize),
 }
 
-// What row f comes to at tick t: one decision over the kind. That no other kind is left is told before it (no table that is run has an unrated
-// row), and the arms stand from 15 down: so
-// the compiler makes one jump of the decision and of the one over kinds 2 to 6 in it.
+// What row f comes to at tick t: one decision over the kind. That no other kind is left is told before it, and the arms stand from 18 down: so
+// the compiler makes one jump of the decision and of the one over kinds 2 to 6 in it. No table that is run has an unrated row.
 fn outcome(
     kind: u32,
     p: u32,
@@ -55,11 +54,14 @@ fn outcome(
         (heldIn (now (state .entry)) (heldSize * f)))
         (heldSize * f) (now (state .entry)) (now (state .exit)) o ⌝ }
 {
-    if table::UNRATED <= kind {
+    if table::KINDS <= kind {
         return CLASH;
     }
     let i = HELD_SIZE * f;
     match kind {
+        18 => carried::viewed(false, t, marks, values, f, p, q, r, state, i),
+        17 => carried::viewed(true, t, marks, values, f, p, q, r, state, i),
+        16 => CLASH,
         15 => operators::merged(marks, values, f, p, q, r),
         14 => operators::sampled(false, marks, values, f, p, q),
         13 => operators::sampled(true, marks, values, f, p, q),
@@ -79,7 +81,7 @@ fn outcome(
             6 => operators::combined(6, marks, values, f, p, q),
             _ => CLASH,
         },
-        16..=4294967295 => CLASH,
+        19..=4294967295 => CLASH,
     }
 }
 
@@ -166,7 +168,7 @@ fn latch(
         × (n ≤ length (now marks))
         × (n ≤ length (now values))
         × (length (now state) ≡ stateSize)
-        × (Listed 7 n (now words) (now registers) count) ⌝ }
+        × (Listed isRegister n (now words) (now registers) count) ⌝ }
     ensures { λ r. ⌜ ((past : Ticks) (cells : Tick) (ms vs : List ℕ) (t : ℕ)
         → length cells ≡ n
         → Wrote cells ms vs (now (marks .entry)) (now (values .entry))
@@ -205,7 +207,7 @@ pub(crate) fn tick(
         × (n ≤ length (now marks))
         × (n ≤ length (now values))
         × (length (now state) ≡ stateSize)
-        × (Listed 7 n (now words) (now registers) count)
+        × (Listed isRegister n (now words) (now registers) count)
         × (t < 2 ^ 24)
         × (at < 2 ^ 40) ⌝ }
     ensures { λ r. ⌜ ((past : Ticks)

@@ -1,13 +1,15 @@
 -- How many cells the ticks so far have, and where a flow's stand. Assumes nothing.
-use mathlib.Core.Path.{_≡_, sym, _∙_, ap}
+use mathlib.Core.Path.{_≡_, refl, sym, _∙_, ap}
 use Prim.Native.Nat.{ℕ, zero, suc, _+_, _*_, _≤_, _<_}
 use native.Mathlib.Nat.{suc-mul, zero-mul, mul-le-mul-right}
 use native.Mathlib.Omega.{arith}
-use mathlib.Core.List.{[], _∷_, _++_}
+use mathlib.Core.List.{List, [], _∷_, _++_}
 use lib.ListN.{length, getD, length-append, length-map, List·getD-append}
 use lib.Seq.{getD-append-add}
-use Rattle.semantics.specs.Cells.{absent, back}
-use Rattle.semantics.specs.Runs.{Tick, Ticks, cellIn, history, cells, Regular}
+use borrow.Author.Tests.{eq-eqb, ne-eqb}
+use Rattle.semantics.specs.Cells.{History, absent, back, cellOn}
+use Rattle.table.specs.Rows.{Row}
+use Rattle.semantics.specs.Runs.{Tick, Ticks, cellIn, history, TickEnd, filled, stopped, tickOf, Ran, done, clashed, onTick, onRun, run, cells, Regular}
 
 pub history-length : (past : Ticks) (a : ℕ) → length (history past a) ≡ length past
 unfolding history
@@ -32,3 +34,25 @@ cells-at n a l (now ∷ past) r i (suc k) e =
     let m : suc i * n ≤ length past * n = mul-le-mul-right n (omega arith) in
     List·getD-append (cells past) now absent (i * n + a) (omega (arith, suc-mul i n, cells-length n past (r .1)))
     ∙ cells-at n a l past (r .1) i k (omega arith)
+
+-- the cell of a tick, counted from the latest
+pub on-back : (h : History) (u i : ℕ) → u + suc i ≡ length h → cellOn h u ≡ back h i
+unfolding cellOn
+on-back [] u i e = absurd (omega arith)
+on-back (c ∷ h) u zero e = rw (eq-eqb u (length h) (omega arith))
+on-back (c ∷ h) u (suc i) e = rw (ne-eqb u (length h) (λ (q : u ≡ length h). omega arith)) (on-back h u i (omega arith))
+
+-- a run to its end has its ticks
+pub run-length : (rows : List Row) (log : List ℕ) (t : ℕ) (past : Ticks) → run rows log t ≡ done past → length past ≡ t
+unfolding run
+run-length rows log zero past e = let z : [] ≡ past = cc in ap length (sym z)
+run-length rows log (suc t) past e = go (run rows log t) refl e (run-length rows log t)
+  where
+    ended : (x : TickEnd) (front : Ticks) → onTick t front x ≡ done past → length front ≡ t → length past ≡ suc t
+    ended (filled now) front e l = let z : now ∷ front ≡ past = cc in ap length (sym z) ∙ ap suc l
+    ended (stopped f now) front e l = absurd (let z : _≡_ {A = ℕ} 0 1 = cc in omega arith)
+
+    go : (x : Ran) → run rows log t ≡ x → onRun x (λ old. onTick t old (tickOf rows log old)) ≡ done past → ((q : Ticks) → run rows log t ≡ done q → length q ≡ t)
+        → length past ≡ suc t
+    go (done front) q e next = ended (tickOf rows log front) front e (next front q)
+    go (clashed s f now front) q e next = absurd (let z : _≡_ {A = ℕ} 0 1 = cc in omega arith)

@@ -1,5 +1,5 @@
 -- `long_run` meets its contract. Assumes nothing.
-use Rattle.runner.proofs.LongCalled.{ran, accepted, handed-on}
+use Rattle.runner.proofs.LongCalled.{ran, close-by, accepted, handed-on}
 use Rattle.runner.proofs.Placing.{window-fits}
 use Rattle.runner.specs.Long.{windowTicks}
 use Rattle.runner.specs.Private.Ready.{Plain, Clocked}
@@ -51,6 +51,7 @@ replay-requires c κs =
       record { width = 13; is = refl },
       omega arith,
       omega arith,
+      close-by (a .count) (a .words .now) (a .log .now) (clocked then1 .0) (clocked then1 .1),
     )
 
 same-length : tie.Need-same-length

@@ -144,6 +144,7 @@ run-from-requires c κs =
       pre .4,
       pre .5,
       else5 .if5 .left,
+      pre .6,
     )
 
 same-length : tie.Need-same-length

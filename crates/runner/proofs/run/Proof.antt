@@ -2,6 +2,7 @@
 use Rattle.runner.proofs.Called.{ran, accepted, handed-on}
 use Rattle.runner.proofs.Placing.{whole-fits}
 use Rattle.runner.proofs.Words.{place-small}
+use Rattle.runner.proofs.Recalling.{everywhere}
 use Rattle.runner.proofs.Tabled.{plain-table}
 use Rattle.runner.specs.Private.Ready.{Plain}
 use Rattle.table.specs.Answers.{shortTrace}
@@ -41,6 +42,7 @@ replay-requires c κs =
       record { width = 32; is = refl },
       omega arith,
       omega arith,
+      everywhere (2 ^ 32) _ (a .log .now) (omega arith),
     )
 
 same-length : tie.Need-same-length

@@ -63,6 +63,7 @@ run-ticks-requires c κs =
       pre .9,
       omega (arith, z, pre .10),
       tallied-same (a .k) (a .tallies .now) _ (tallied-cleared (a .k) (a .tallies .now) _ z (clear .ensures)),
+      pre .11,
     )
 
 same-length : tie.Need-same-length
@@ -80,8 +81,8 @@ same-length-4 c = search needs
 returns : tie.Need-returns
 returns c =
     let after-run-ticks = c .before .before .before .before .before .before .before .before in
-    let after-laters2 = after-run-ticks .before .before .before .before .before .before .before in
-    let after-clear = after-laters2 .before .before .before .before .before .before .before .before in
+    let after-backward2 = after-run-ticks .before .before .before .before .before .before .before in
+    let after-clear = after-backward2 .before .before .before .before .before .before .before .before in
     let start = after-clear .before .before .before .before .before .before .before .before in
     let a = start .args in
     let clear = after-clear .clear in

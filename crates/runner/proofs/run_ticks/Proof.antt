@@ -1,5 +1,5 @@
 -- `run_ticks` meets its contract. Assumes nothing.
-use Rattle.runner.proofs.Running.{Running, starts, recall, low, goes-on, stops, ends}
+use Rattle.runner.proofs.Running.{Running, starts, recall, close, low, goes-on, stops, ends}
 use Rattle.runner.proofs.Placing.{fewer}
 use Rattle.runner.proofs.Tabled.{plain-table}
 use Rattle.runner.specs.Private.Carried.{stateSize}
@@ -15,7 +15,7 @@ use Rattle.runner.proofs.run_ticks.Statement.{statement}
 use Rattle.runner.proofs.run_ticks.Tie as tie
 
 abbrev Inv-loop : tie.InvT-loop
-Inv-loop n words registers register-count laters later-count log inputs ticks mask k state₀ marks₀ values₀ tallies₀ t₀ state marks values tallies t =
+Inv-loop n words registers register-count backward backward-count log inputs ticks mask k state₀ marks₀ values₀ tallies₀ t₀ state marks values tallies t =
     (t ≤ ticks)
     × (length state ≡ stateSize)
     × (length marks ≡ length marks₀)
@@ -24,7 +24,7 @@ Inv-loop n words registers register-count laters later-count log inputs ticks ma
     × Running n (mask + 1) k t (rowsIn n words) log marks₀ values₀ tallies₀ state marks values tallies
 
 abbrev μ-loop : tie.MeasureT-loop
-μ-loop n words registers register-count laters later-count log inputs ticks mask k state₀ marks₀ values₀ tallies₀ t₀ state marks values tallies t =
+μ-loop n words registers register-count backward backward-count log inputs ticks mask k state₀ marks₀ values₀ tallies₀ t₀ state marks values tallies t =
     ticks - t
 
 table-at : (c : tie.Start Inv-loop μ-loop) → Table (c .args .n) (c .args .words .now) (rowsIn (c .args .n) (c .args .words .now))
@@ -72,7 +72,7 @@ turn-requires c κs =
     let l = at-loop .loop in
     let f = fits in-loop in
     let h = in-loop .loop-test .taken in
-    (pre .0, f .0, f .1, l .inv .1, pre .4, pre .5, omega (arith, h, pre .6), pre .7, pre .9, after-first-cell .first-cell .ensures)
+    (pre .0, f .0, f .1, l .inv .1, pre .4, pre .5, omega (arith, h, pre .6), pre .7, pre .9, after-first-cell .first-cell .ensures, pre .10)
 
 enum-known-done : tie.Need-enum-known-done Inv-loop μ-loop
 enum-known-done c = search needs
@@ -89,8 +89,9 @@ cast-t28 c =
     let a = start .args in
     let l = at-loop .loop in
     let R = l .inv .5 in
-    let in-window = recall (a .ticks) R (l .inv .0) (omega (arith, pre .10)) (pre .1) (pre .2) in
-    let tick = rw (after-first-cell .first-cell .ensures) at (after-turn .turn .ensures (R .past) (R .ticks) in-window (R .carried)) in
+    let in-window = recall (a .ticks) R (l .inv .0) (pre .1) (pre .2) in
+    let near = close (a .ticks) R (omega (arith, in-loop .loop-test .taken, pre .6)) (pre .14) in
+    let tick = rw (after-first-cell .first-cell .ensures) at (after-turn .turn .ensures (R .past) (R .ticks) in-window near (R .carried)) in
     let stop = stops (a .ticks) R _ (table-at start .size) tick (after-done .done .given .1) (in-loop .loop-test .taken) in
     omega (arith, stop .1, table-at start .few)
 
@@ -131,8 +132,9 @@ returns c =
     let a = start .args in
     let l = at-loop .loop in
     let R = l .inv .5 in
-    let in-window = recall (a .ticks) R (l .inv .0) (omega (arith, pre .10)) (pre .1) (pre .2) in
-    let tick = rw (after-first-cell .first-cell .ensures) at (after-turn .turn .ensures (R .past) (R .ticks) in-window (R .carried)) in
+    let in-window = recall (a .ticks) R (l .inv .0) (pre .1) (pre .2) in
+    let near = close (a .ticks) R (omega (arith, in-loop .loop-test .taken, pre .6)) (pre .14) in
+    let tick = rw (after-first-cell .first-cell .ensures) at (after-turn .turn .ensures (R .past) (R .ticks) in-window near (R .carried)) in
     stops (a .ticks) R _ (table-at start .size) tick (after-done .done .given .1) (in-loop .loop-test .taken) .0
 
 enum-told : tie.Need-enum-told Inv-loop μ-loop
@@ -180,8 +182,9 @@ loop-again c =
     let f = fits in-loop in
     let kept = after-turn .turn .kept in
     let add = after-add .add in
-    let in-window = recall (a .ticks) R (l .inv .0) (omega (arith, pre .10)) (pre .1) (pre .2) in
-    let tick = rw (after-first-cell .first-cell .ensures) at (after-turn .turn .ensures (R .past) (R .ticks) in-window (R .carried)) in (
+    let in-window = recall (a .ticks) R (l .inv .0) (pre .1) (pre .2) in
+    let near = close (a .ticks) R (omega (arith, in-loop .loop-test .taken, pre .6)) (pre .14) in
+    let tick = rw (after-first-cell .first-cell .ensures) at (after-turn .turn .ensures (R .past) (R .ticks) in-window near (R .carried)) in (
       omega (arith, in-loop .loop-test .taken),
       omega (arith, kept .1 .1 .1 .1 .1 .1 .1 .1 .1 .1 .1 .0, l .inv .1),
       kept .1 .1 .1 .1 .1 .1 .1 .1 .1 .1 .1 .1 .0 ∙ l .inv .2,

@@ -59,8 +59,8 @@ returns c =
     let after-tick-at = c .before .before .before .before .before .before in
     let after-collect = after-tick-at .before .before .before .before .before .before in
     let start = after-collect .before .before .before .before .before .before .before .before .before .before .before in
-    λ past z r C.
-    after-tick-at .tick-at .ensures past (after-collect .collect .ensures past _ z (ap (λ (i : ℕ). start .args .t * i) (start .pre .7)) r C)
+    λ past z r near C.
+    after-tick-at .tick-at .ensures past (after-collect .collect .ensures past _ z (ap (λ (i : ℕ). start .args .t * i) (start .pre .7)) r near C)
 
 pub turn-spec : {M : Type 1} → statement M
 turn-spec =

@@ -2,16 +2,18 @@
 -- contract says nothing of them.
 use mathlib.Core.Path.{_≡_}
 use Prim.Native.Nat.{ℕ, _+_, _*_, _-_, _<_, _≤_}
-use mathlib.Core.Bool.{cond}
+use mathlib.Core.Bool.{Bool, true, false, cond}
 use mathlib.Core.List.{List}
 use lib.ListN.{getD}
 use lib.Dec.{eqb, ltb, leb}
-use Rattle.table.specs.Rows.{Row, Op, input, constant, combine, register, faster, slower, later, head, tail, sample, merge, unrated}
+use Rattle.table.specs.Rows.{Row, Op, input, constant, combine, register, faster, slower, later, head, tail, sample, merge, unrated, view}
 use Rattle.table.specs.Rows.{maxFlows, decode}
 use Rattle.runner.specs.declared.operators.Outcome.{Outcome}
-use Rattle.semantics.specs.Cells.{Cell, absent, present, value}
+use Rattle.runner.specs.declared.carried.Sight.{Sight}
+use Rattle.table.specs.Bits.{bit}
+use Rattle.semantics.specs.Cells.{Cell, absent, present, mark, value}
 use Rattle.semantics.specs.Answers.{markByte}
-use Rattle.semantics.specs.Operators.{Step, is, clashes, combined, sampled, merged}
+use Rattle.semantics.specs.Operators.{Step, is, clashes, combined, sampled, merged, truthOf}
 
 -- a cell from its mark and its value
 abbrev pub cellAt : ℕ → ℕ → Cell
@@ -119,6 +121,42 @@ abbrev pub tailNext : Cell → Held → Held
 tailNext absent h = h
 tailNext (present v) h = cond (eqb (h .x) 0) (held 1 (h .y) (h .z)) h
 
+-- A view: what is kept of the cell that governs it, 0 absent, 1 zero, 2 not zero.
+abbrev pub status : Cell → ℕ
+status absent = 0
+status (present v) = 1 + bit (truthOf v)
+
+-- Before a's first presence x is 0; z is 0, or from c's first presence on the status of that cell, and y its tick. From a's first presence on x
+-- is the next tick at which c is looked at anew, y by how many ticks c began before a, and z the status that governs until then. g is the
+-- status of c's cell at tick t.
+abbrev pub noted : ℕ → ℕ → Held → Held
+noted t g h = cond (eqb (h .z) 0) (held (h .x) t g) h
+
+abbrev pub begunBy : Bool → ℕ → ℕ → Held → Held
+begunBy true w t h = held (t + w) (t - h .y) (h .z)
+begunBy false w t h = h
+
+abbrev pub viewNext : ℕ → ℕ → Bool → ℕ → Held → Held
+viewNext w t a g h =
+    cond (eqb (h .x) 0) (begunBy a w t (noted t g h)) (cond (eqb t (h .x)) (held (t + w) (h .y) g) h)
+
+-- the words as the code holds them
+abbrev pub sightOf : Sight → Held
+sightOf s = held (s .next) (s .lag) (s .status)
+
+-- a's value x by the status that governs
+abbrev pub viewPass : Bool → ℕ → ℕ → Step
+viewPass u x g = cond (eqb g 0) clashes (cond (eqb g (1 + bit u)) (is (present x)) (is absent))
+
+abbrev pub viewStep : Bool → Cell → Held → Step
+viewStep u absent h = is absent
+viewStep u (present x) h = viewPass u x (h .z)
+
+-- before tick t, where c is to be looked at anew and began before a: far is its cell so many ticks before
+abbrev pub lookFor : ℕ → ℕ → Cell → Held → Held
+lookFor w t far h =
+    cond (eqb t (h .x)) (cond (eqb (h .y) 0) h (cond (leb (h .y) t) (held (t + w) (h .y) (status far)) h)) h
+
 -- What a row comes to at tick t, where at is the place of the tick's first word in the log and here has the cells of lower flows.
 unfoldable pub stepOf : Row → ℕ → List ℕ → ℕ → (ℕ → Cell) → Held → Step
 stepOf (input n p) t log at here h = timedStep t (getD log (at + h .y) 0) h
@@ -133,6 +171,7 @@ stepOf (tail a) t log at here h = tailStep (here a) h
 stepOf (sample u a c) t log at here h = sampled u (here a) (here c)
 stepOf (merge c a b) t log at here h = merged (here c) (here a) (here b)
 stepOf unrated t log at here h = clashes
+stepOf (view u a c w) t log at here h = viewStep u (here a) (viewNext w t (mark (here a)) (status (here c)) h)
 
 -- and what it then carries
 unfoldable pub nextOf : Row → ℕ → (ℕ → Cell) → Held → Held
@@ -148,6 +187,7 @@ nextOf (tail a) t here h = tailNext (here a) h
 nextOf (sample u a c) t here h = h
 nextOf (merge c a b) t here h = h
 nextOf unrated t here h = h
+nextOf (view u a c w) t here h = viewNext w t (mark (here a)) (status (here c)) h
 
 -- A row's step: its outcome, the words that it carries from place i on, and no other word changed.
 pub record Did (step : Step) (next : Held) (i : ℕ) (s s′ : List ℕ) (r : Outcome) : Type 0 where
@@ -170,6 +210,7 @@ startWord (tail a) = 0
 startWord (sample u a c) = 0
 startWord (merge c a b) = 0
 startWord unrated = 0
+startWord (view u a c w) = 0
 
 -- and all of them, where j inputs stand before it
 abbrev pub startOf : Row → ℕ → Held → Held

@@ -1,20 +1,22 @@
 -- Marks and values in which each tick stands at its own place, and the tallies. For the private functions alone.
 use mathlib.Core.Path.{_≡_}
 use Prim.Native.Nat.{ℕ, suc, _+_, _*_, _-_, _%_, _^_, _≤_, _<_}
-use mathlib.Core.Bool.{cond, _&&_}
+use mathlib.Core.Bool.{Bool, cond, _&&_}
+use mathlib.Core.Option.{some}
 use mathlib.Core.List.{List, [], _∷_, _++_, map}
 use lib.ListN.{length, getD, take, drop}
 use lib.Dec.{eqb, leb}
 use Rattle.table.specs.declared.Answer.{Answer}
 use Rattle.table.specs.Answers.{Refusal, tooManyTicks, wrongLog, Result, good, refused, unless, refusal, over}
-use Rattle.table.specs.Rows.{maxField, Row}
+use Rattle.table.specs.Rows.{Row, view}
+use Rattle.table.specs.Tables.{rowAt}
 use Rattle.runner.specs.declared.ticks.Ticked.{Ticked}
 use Rattle.runner.specs.declared.ticks.Ticked.the-variants as ticked
-use Rattle.semantics.specs.Cells.{Cell, absent, value, back}
+use Rattle.semantics.specs.Cells.{Cell, absent, value, back, first}
 use Rattle.semantics.specs.Runs.{Ticks, history, inputs, TickEnd, filled, stopped, Ran, done, clashed, run, Regular}
 use Rattle.semantics.specs.Answers.{markByte, ranAnswer}
 use Rattle.semantics.specs.Windows.{workedOut, tallySize, Tallied}
-use Rattle.runner.specs.Private.Carried.{cellAt, heldIn, heldSize}
+use Rattle.runner.specs.Private.Carried.{cellAt, heldIn, heldSize, lookFor}
 use Rattle.runner.specs.Private.Ready.{AllCarry}
 
 -- a mask that leaves of a tick its remainder by a power of 2
@@ -39,9 +41,9 @@ unfoldable pub placed : ℕ → ℕ → (Cell → ℕ) → List ℕ → Ticks �
 placed room n g old [] = old
 placed room n g old (now ∷ past) = splice (firstCell room n (length past)) (map g now) (placed room n g old past)
 
--- marks and values have the cells of earlier ticks as far back as a later row looks
+-- marks and values have the cells of earlier ticks as far back as they have room
 pub record Recalls (room n t : ℕ) (past : Ticks) (ms vs : List ℕ) : Type 0 where
-  pub cell : (a d : ℕ) → a < n → 0 < d → d ≤ t → d ≤ maxField
+  pub cell : (a d : ℕ) → a < n → 0 < d → d ≤ t → d ≤ room
       → cellAt (getD ms (firstCell room n (t - d) + a) 0) (getD vs (firstCell room n (t - d) + a) 0) ≡ back (history past a) (d - 1)
 
 -- row f's words have the cell of flow a at d ticks before tick t, absent where there is no such tick
@@ -49,6 +51,26 @@ pub record Fetched (room n a d f t : ℕ) (ms vs s s′ : List ℕ) : Type 0 whe
   pub cell : cellAt (heldIn s′ (heldSize * f) .x) (heldIn s′ (heldSize * f) .y)
       ≡ cond (leb d t) (cellAt (getD ms (firstCell room n (t - d) + a) 0) (getD vs (firstCell room n (t - d) + a) 0)) absent
   pub others : (g : ℕ) → (g ≡ f → ⊥) → heldIn s′ (heldSize * g) ≡ heldIn s (heldSize * g)
+
+-- row f's words after a look of its view, with view period w, at flow c
+pub record Sighted (room n c w f t : ℕ) (ms vs s s′ : List ℕ) : Type 0 where
+  pub words : heldIn s′ (heldSize * f)
+      ≡ lookFor w t (cellAt (getD ms (firstCell room n (t - heldIn s (heldSize * f) .y) + c) 0) (getD vs (firstCell room n (t - heldIn s (heldSize * f) .y) + c) 0))
+      (heldIn s (heldSize * f))
+  pub others : (g : ℕ) → (g ≡ f → ⊥) → heldIn s′ (heldSize * g) ≡ heldIn s (heldSize * g)
+
+-- the same for a row that looks back, by its kind and fields
+pub record Backward (room n kind p q r f t : ℕ) (ms vs s s′ : List ℕ) : Type 0 where
+  pub fetched : kind ≡ 10 → Fetched room n p q f t ms vs s s′
+  pub sighted : (kind ≡ 10 → ⊥) → Sighted room n q r f t ms vs s s′
+
+-- Views look no further back than there is room: c begins at most so many ticks before a. And that, at every tick of a run.
+pub record Near (room : ℕ) (rows : List Row) (past : Ticks) : Type 0 where
+  pub lag : (f : ℕ) (u : Bool) (a c w s r : ℕ) → f < length rows → rowAt rows f ≡ view u a c w → first (history past a) ≡ some s → first (history past c) ≡ some r
+      → s ≤ r + room
+
+pub record Nearby (room : ℕ) (rows : List Row) (log : List ℕ) : Type 0 where
+  pub near : (t : ℕ) (past : Ticks) → t < 2 ^ 24 → run rows log t ≡ done past → Near room rows past
 
 -- cells were written from a place on, and nothing else
 pub record WroteAt (first : ℕ) (written : List Cell) (ms vs ms′ vs′ : List ℕ) : Type 0 where

@@ -91,7 +91,7 @@ returns c =
       cell =
           rw (le-leb (args .d) (args .t) (then1 .if1 .taken), ← after-first-cell .first-cell .ensures)
           (ap (λ (w : Held). cellAt (w .x) (w .y)) (stored-two (args .state .now) (heldSize * args .f) _ _ (omega arith)));
-      others = λ g n. stored-two-other (args .state .now) (args .f) g _ _ n;
+      others = λ g n. stored-two-other (args .state .now) (args .f) g 1 _ _ (omega arith) n;
     }
 
 same-length-2 : tie.Need-same-length-2

@@ -41,7 +41,7 @@ returns c =
     let s = a .state .now in
     record {
       carried = stored-two s (heldSize * a .f) _ _ (omega arith) ∙ ap (λ (w : ℕ). held w (a .j) (getD s (heldSize * a .f + 2) 0)) (c .first-word .ensures);
-      others = λ g n. stored-two-other s (a .f) g _ _ n;
+      others = λ g n. stored-two-other s (a .f) g 1 _ _ (omega arith) n;
     }
 
 pub start-row-spec : {M : Type 1} → statement M
