@@ -11,9 +11,9 @@ use Rattle.checker.proofs.ClockLaws.{plain-empty}
 use Rattle.semantics.specs.Cells.{Cell, absent, present, mark, History, cellOn, onGrid}
 use Rattle.semantics.specs.Operators.{is, clashes, combined, registered, truthOf, sampled, neither, alone, merged}
 use Rattle.semantics.specs.Runs.{Tick, Ticks, cellIn, history}
-use Rattle.semantics.proofs.Traces.{history-length}
+use Rattle.semantics.proofs.Traces.{history-length, tick-now}
 use Rattle.calendar.specs.Calendar.{readAt}
-use Rattle.calendar.proofs.Flows.{Makes, cond-mark, cell-now}
+use Rattle.calendar.proofs.Flows.{Makes, cond-mark}
 
 -- a condition of truth u, read from its flow's cell
 abbrev pub holds : Bool → Cell → Bool
@@ -65,7 +65,7 @@ module _ (clk : ℕ → Clock) where
   pub due-direct : (k : Clock) (c : ℕ) (u : Bool) (now : Tick) (past : Ticks) → due clk (under k c u 0) now past ≡ (due clk k now past && holds u (cellIn now c))
   due-direct k c u now past =
       due-under k c u 0 now past
-      ∙ ap (λ (x : Cell). due clk k now past && holds u x) (cell-now (cellIn now c) (history past c) (length past) (sym (history-length past c)))
+      ∙ ap (λ (x : Cell). due clk k now past && holds u x) (tick-now (cellIn now c) (history past c) (length past) (sym (history-length past c)))
 
   -- the flows after its conditions do not matter to a clock
   hold-append : (p : ℕ) (now more : Tick) (past : Ticks) (cs : List Condition) → Below (length now) cs

@@ -11,7 +11,7 @@ use lib.ListN.{length}
 use lib.Dec.{eqb}
 use borrow.Author.Tests.{eqb-true, eqb-false, eq-eqb, ne-eqb, lt-ltb, le-ltb}
 use Rattle.table.proofs.Tests.{and-left, and-right, and-both, same-test, Tried, passed, failed, try}
-use Rattle.semantics.specs.Cells.{Cell, absent, present, mark, History, back, cellOn, count, Presence, latest, onGrid}
+use Rattle.semantics.specs.Cells.{Cell, absent, present, mark, History, back, count, Presence, latest, onGrid}
 use Rattle.semantics.specs.Operators.{Step, is, clashes, copied, exactly, spaced, fasterOf, slowerOf, laterOf, tailOf, evenly}
 use Rattle.semantics.specs.Operators.{headFits, headOf}
 use Rattle.calendar.proofs.Grid.{On, on-of, of-on, off-grid, next, at-first, at-second}
@@ -62,16 +62,6 @@ count-on n p h pos g o = go (seen n p h pos g)
 pub cond-mark : (b : Bool) (c : Cell) → mark (cond b c absent) ≡ (b && mark c)
 cond-mark true c = refl
 cond-mark false c = refl
-
--- the cell of a tick so far, counted from the latest back; and this tick's own
-pub cell-back : (h : History) (u i : ℕ) → u + suc i ≡ length h → cellOn h u ≡ back h i
-unfolding cellOn
-cell-back [] u i e = absurd (omega arith)
-cell-back (c ∷ h) u zero e = rw (eq-eqb u (length h) (omega arith))
-cell-back (c ∷ h) u (suc i) e = rw (ne-eqb u (length h) (λ (q : u ≡ length h). omega arith)) (cell-back h u i (omega arith))
-
-pub cell-now : (c : Cell) (h : History) (u : ℕ) → u ≡ length h → cellOn (c ∷ h) u ≡ c
-cell-now c h u e = cell-back (c ∷ h) u 0 (omega arith)
 
 -- a cell i ticks back is present exactly where its tick is on the progression
 pub record Back (n p : ℕ) (h : History) (i : ℕ) : Type 0 where

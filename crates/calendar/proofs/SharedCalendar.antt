@@ -23,14 +23,14 @@ use Rattle.table.proofs.Tables.{AllFit, Made, Table, table-made}
 use Rattle.checker.specs.Clocks.{Clock}
 use Rattle.checker.specs.Rules.{clockAt, sourceFits, clocksOf}
 use Rattle.checker.specs.Answers.{clockSize, clocksWords, checking, checkAnswer}
-use Rattle.checker.proofs.CheckLaws.{Clocked, AllSane, all-sane}
+use Rattle.checker.proofs.CheckLaws.{Clocked, Ruled, clocks-ruled, AllSane, all-sane}
 use Rattle.semantics.specs.Cells.{value}
 use Rattle.semantics.specs.Runs.{Ticks, inputs, Ran, done, clashed, run, cells, Regular as Wide}
 use Rattle.semantics.specs.Answers.{maxTicks, running, ranAnswer, markByte}
 use Rattle.calendar.specs.Calendar.{Accepts, Asked, Ends, OnCalendar, Samples, Free, Judged, judgingTicks, SharedCalendar}
 use Rattle.semantics.proofs.Traces.{cells-length}
 use Rattle.calendar.proofs.Accepted.{Runs, runs}
-use Rattle.calendar.proofs.Unclashed.{rows-fit, Found, clocks-found}
+use Rattle.calendar.proofs.Unclashed.{rows-fit}
 use Rattle.calendar.proofs.Judged.{conditional, FreeRow, AllFree, refused-clashes}
 use Rattle.calendar.proofs.Shown.{AtTick, at-tick, written, due-shown}
 
@@ -54,7 +54,7 @@ accepted m words room e =
     let c = unless-good (leb (clockSize * m) room) noRoom 0 (clocksOf (b .0)) (a .0) (b .2) in
     let fit : AllFit (length (b .0)) 0 (b .0) = rows-fit m words (b .0) (b .1) in
     let size : length (b .0) ≡ m = table-made m words (b .0) (b .1) .size in
-    let f : Found (b .0) (a .0) = clocks-found (b .0) (a .0) fit (c .1) in
+    let f : Ruled (b .0) (a .0) = clocks-ruled (length (b .0)) (b .0) (a .0) fit (c .1) in
     record {
       rows = b .0;
       clocks = a .0;

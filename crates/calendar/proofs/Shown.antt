@@ -20,10 +20,9 @@ use Rattle.checker.proofs.WordLaws.{word-at, condition-at, view-at}
 use Rattle.semantics.specs.Cells.{Cell, absent, present, mark, value, cellOn, onGrid}
 use Rattle.semantics.specs.Runs.{Tick, Ticks, cellIn, history, cells, Regular as Wide}
 use Rattle.semantics.specs.Answers.{markByte}
-use Rattle.semantics.proofs.Traces.{history-length, cells-length, cells-at}
+use Rattle.semantics.proofs.Traces.{history-length, cells-length, cells-at, tick-back, tick-now}
 use Rattle.calendar.specs.Calendar.{clockWord, readAt, readingTick, cellAt, TrueAt, FalseAt, ConditionAt, Due}
 use Rattle.calendar.proofs.Grid.{On, on-of, of-on}
-use Rattle.calendar.proofs.Flows.{cell-back, cell-now}
 use Rattle.calendar.proofs.Dues.{holds, cellThen, readFrom, allHold, due, due-is}
 use Rattle.calendar.proofs.Views.{read-by}
 use Rattle.calendar.proofs.Keeping.{Keeps}
@@ -32,7 +31,7 @@ use Rattle.calendar.proofs.Keeping.{Keeps}
 trace-on : (m f : ℕ) → f < m → (past : Ticks) → Wide m past → (u : ℕ) → u < length past → getD (cells past) (u * m + f) absent ≡ cellOn (history past f) u
 trace-on m f l past w u x =
     let i : ℕ = length past - suc u in
-    cells-at m f l past w u i (omega arith) ∙ sym (cell-back (history past f) u i (omega (arith, history-length past f)))
+    cells-at m f l past w u i (omega arith) ∙ sym (tick-back (history past f) u i (omega (arith, history-length past f)))
 
 -- tick t of the ticks: its cells and those before it stand in the trace, and each flow keeps its clock there
 pub record AtTick (m : ℕ) (past : Ticks) (t : ℕ) : Type 0 where
@@ -206,7 +205,7 @@ module _ (m : ℕ) (marks values : List ℕ) (t : ℕ) (now : Tick) (before : Ti
           (read-shown clk (k .phase) by (readingTick out f i t) c low (every-at (BegunBy clk (k .phase)) (k .conditions) i x (sane .begun)) (read-is i (c .flow) x low))
 
       this : cellAt m marks t f ≡ markByte (cellIn now f)
-      this = s .mark-at t f (omega arith) l ∙ ap markByte (cell-now (cellIn now f) (history before f) t (sym size ∙ sym (history-length before f)))
+      this = s .mark-at t f (omega arith) l ∙ ap markByte (tick-now (cellIn now f) (history before f) t (sym size ∙ sym (history-length before f)))
 
       to : cellAt m marks t f ≡ 1 → Due m marks values t out f
       to x =

@@ -6,18 +6,16 @@ use mathlib.Core.Bool.{Bool, true}
 use mathlib.Core.List.{List}
 use mathlib.Core.Option.{some}
 use lib.ListN.{length}
-use Rattle.table.specs.Answers.{Result, good}
+use Rattle.table.specs.Answers.{good}
 use Rattle.table.specs.Rows.{Row, tail, view}
 use Rattle.table.specs.Plain.{tableOf}
 use Rattle.table.specs.Tables.{Fits, rowAt}
 use Rattle.table.proofs.Lists.{Each, each-get}
-use Rattle.table.proofs.Registers.{Passes}
 use Rattle.table.proofs.Tables.{AllFit, Table, table-made}
-use Rattle.table.proofs.Tests.{good-inj, not-good}
 use Rattle.checker.specs.Clocks.{Clock, plain}
-use Rattle.checker.specs.Rules.{maxDerived, clockOf, clockAt, sourceFits, clocksOf}
+use Rattle.checker.specs.Rules.{maxDerived, clockOf, clockAt, clocksOf}
 use Rattle.checker.proofs.RuleLaws.{Rule, by-view, rule-of}
-use Rattle.checker.proofs.CheckLaws.{Clocked, all-sane, Checked, fine, bad-row, bad-source, checked}
+use Rattle.checker.proofs.CheckLaws.{Ruled, clocks-ruled, all-sane}
 use Rattle.semantics.specs.Cells.{first}
 use Rattle.semantics.specs.Runs.{Ticks, history, done, run, Regular}
 use Rattle.calendar.proofs.Views.{begins-at}
@@ -30,21 +28,9 @@ rows-fit m words rows e =
     let t : Table m words rows = table-made m words rows e in
     subst (λ (i : ℕ). AllFit i 0 rows) (sym (t .size)) (t .fits)
 
--- clocks that the check finds: one a flow, as the rules give them, and each register's source fits
-abbrev pub Found : List Row → List Clock → Type 0
-Found rows ks = (length ks ≡ length rows) × Clocked (clockAt ks) 0 rows × Each (Passes (sourceFits ks)) 0 rows
-
-pub clocks-found : (rows : List Row) (ks : List Clock) → AllFit (length rows) 0 rows → clocksOf rows ≡ good ks → Found rows ks
-clocks-found rows ks w e = go (clocksOf rows) e (checked (length rows) rows w)
-  where
-    go : (c : Result (List Clock)) → c ≡ good ks → Checked rows c → Found rows ks
-    go c x (fine js s k y) = subst (Found rows) (good-inj x) (s, k, y)
-    go c x (bad-row js why g front r back y k z) = not-good x
-    go c x (bad-source js g front r back k y z) = not-good x
-
 module _ (m : ℕ) (words : List ℕ) (rows : List Row) (ks : List Clock) (q : tableOf m words ≡ good rows) (e : clocksOf rows ≡ good ks) (log : List ℕ) (t : ℕ) where
-  found : Found rows ks
-  found = clocks-found rows ks (rows-fit m words rows q) e
+  found : Ruled rows ks
+  found = clocks-ruled (length rows) rows ks (rows-fit m words rows q) e
 
   ran : Runs rows log (clockAt ks) t
   ran = runs rows ks (rows-fit m words rows q) (found .1) (found .2) log t

@@ -14,8 +14,9 @@ use Rattle.table.proofs.Tests.{Tried, passed, failed, try}
 use Rattle.semantics.specs.Cells.{Cell, absent, present, mark, History, cellOn, firstOr, first}
 use Rattle.semantics.specs.Operators.{truthOf, lookedAt, governed, viewed}
 use Rattle.calendar.specs.Calendar.{readAt}
+use Rattle.semantics.proofs.Traces.{tick-back}
 use Rattle.calendar.proofs.Grid.{On, on-of, at-first, before-first}
-use Rattle.calendar.proofs.Flows.{Makes, cond-mark, Regular, cell-back, on-back}
+use Rattle.calendar.proofs.Flows.{Makes, cond-mark, Regular, on-back}
 use Rattle.calendar.proofs.Dues.{holds, made}
 
 -- the first presence of a flow on a progression is at its phase
@@ -86,6 +87,6 @@ view-law n p (present x) h g m q c k r s u w pos e l =
     let z : v ≤ length h = read-by w p q (length h) (omega (arith, o .eq)) (λ y. l) in
     let i : v + suc (length k - v) ≡ suc (length k) = omega arith in
     let there : mark (cellOn (c ∷ k) v) ≡ true =
-    ap mark (cell-back (c ∷ k) v (length k - v) i) ∙ on-back m q (c ∷ k) (length k - v) r record { tick = v; place = i; on = read-on w p q (length h) pos m e } in
+    ap mark (tick-back (c ∷ k) v (length k - v) i) ∙ on-back m q (c ∷ k) (length k - v) r record { tick = v; place = i; on = read-on w p q (length h) pos m e } in
     rw (first-on n p (present x ∷ h) g (omega (arith, o .eq)), first-on m q (c ∷ k) r (omega (arith, o .eq)), viewed-at w p q (length h) pos)
     (governed-law u x (cellOn (c ∷ k) v) there)

@@ -10,7 +10,7 @@ use lib.ListN.{length, length-append, List·getD-append}
 use lib.Seq.{getD-append-seam}
 use Rattle.table.specs.Tables.{Fits}
 use Rattle.table.specs.Answers.{Refusal, Result, good, refused, then, clocksDiffer}
-use Rattle.table.specs.Rows.{Row, input, constant, combine, register, faster, slower, later, head, tail, sample, merge, unrated, view, onRegister, badRegister, maxField}
+use Rattle.table.specs.Rows.{Row, input, constant, combine, register, faster, slower, later, head, tail, sample, merge, unrated, view, onRegister, badRegister}
 use Rattle.table.proofs.Tests.{not-good, good-inj}
 use Rattle.table.proofs.Lists.{Each, below-suc}
 use Rattle.table.proofs.Registers.{Passes, Registers, all-pass, one-fails, registers}
@@ -120,6 +120,18 @@ checked m rows w = go (clocksFrom [] rows) (rows-view m [] rows w)
     go c (all ks x s k) = sources-view rows ks _ (s ∙ omega arith) k (registers (sourceFits ks) 0 rows)
     go c (first ks why g front r back y x s k z) = bad-row ks why g front r back y k (subst (λ (i : ℕ). clockOf (clockAt ks) i r ≡ refused why g) (s ∙ omega arith) z)
 
+-- so an accepted table has one clock a flow, as the rules give them, and the source of each register fits
+abbrev pub Ruled : List Row → List Clock → Type 0
+Ruled rows ks = (length ks ≡ length rows) × Clocked (clockAt ks) 0 rows × Each (Passes (sourceFits ks)) 0 rows
+
+pub clocks-ruled : (m : ℕ) (rows : List Row) (ks : List Clock) → AllFit m 0 rows → clocksOf rows ≡ good ks → Ruled rows ks
+clocks-ruled m rows ks w e = go (clocksOf rows) (checked m rows w) e
+  where
+    go : (r : Result (List Clock)) → Checked rows r → r ≡ good ks → Ruled rows ks
+    go r (fine js s k x) e = subst (Ruled rows) (good-inj e) (s, k, x)
+    go r (bad-row js why g front r′ back y k z) e = not-good e
+    go r (bad-source js g front r′ back k y z) e = not-good e
+
 pub below-le : (f g : ℕ) (cs : List Condition) → f ≤ g → Below f cs → Below g cs
 below-le f g [] l b = tt
 below-le f g (c ∷ cs) l b = (omega (arith, b .0), below-le f g cs l (b .1))
@@ -213,10 +225,4 @@ module _ (clk : ℕ → Clock) (m : ℕ) where
 
 -- what an accepted table's clocks are: one a flow, and sane
 pub sane-clocks : (m : ℕ) (rows : List Row) (ks : List Clock) → AllFit m 0 rows → clocksOf rows ≡ good ks → (length ks ≡ length rows) × AllSane (clockAt ks) (length rows)
-sane-clocks m rows ks w e = go (clocksOf rows) (checked m rows w) e
-  where
-    go : (r : Result (List Clock)) → Checked rows r → r ≡ good ks → (length ks ≡ length rows) × AllSane (clockAt ks) (length rows)
-    go r (fine js s k x) e =
-        subst (λ (l : List Clock). (length l ≡ length rows) × AllSane (clockAt l) (length rows)) (good-inj e) (s, all-sane (clockAt js) m rows w k)
-    go r (bad-row js why g front r′ back y k z) e = not-good e
-    go r (bad-source js g front r′ back k y z) e = not-good e
+sane-clocks m rows ks w e = let r = clocks-ruled m rows ks w e in (r .0, all-sane (clockAt ks) m rows w (r .1))

@@ -13,21 +13,12 @@ use Rattle.table.specs.Bits.{bit}
 use Rattle.table.proofs.Tests.{Tried, passed, failed, try}
 use Rattle.semantics.specs.Cells.{Cell, absent, present, mark, History, back, cellOn, firstOr, first}
 use Rattle.semantics.specs.Operators.{Step, is, clashes, truthOf, lookedAt, seen, governed, viewed}
-use Rattle.semantics.proofs.Traces.{on-back}
+use Rattle.semantics.proofs.Traces.{tick-back, tick-now, tick-before}
 use Rattle.runner.specs.Private.Carried.{Held, held, status, viewNext, viewPass, viewStep, lookFor}
 use Rattle.runner.specs.Private.Ready.{Views, waiting, ready, seeing, Looked}
 
 never-is : {c : Cell} {A : Type 0} → clashes ≡ is c → A
 never-is e = absurd (let z : _≡_ {A = ℕ} 0 1 = cc in omega arith)
-
--- the cell of this tick, and of an earlier one
-on-now : (c : Cell) (h : History) (u : ℕ) → u ≡ length h → cellOn (c ∷ h) u ≡ c
-unfolding cellOn
-on-now c h u e = rw (eq-eqb u (length h) e)
-
-on-before : (c : Cell) (h : History) (u : ℕ) → u < length h → cellOn (c ∷ h) u ≡ cellOn h u
-unfolding cellOn
-on-before c h u l = rw (ne-eqb u (length h) (λ (e : u ≡ length h). omega arith))
 
 -- a first presence stays the first
 first-more : (c : Cell) (h : History) (s : ℕ) → first h ≡ some s → first (c ∷ h) ≡ some s
@@ -80,10 +71,10 @@ module _ (w : ℕ) (pos : 0 < w) (ha hc : History) (same : length ha ≡ length 
   governs x absent (waiting a b p q) f = rw (eq-eqb (h .x) 0 p, eq-eqb (h .z) 0 q, first-now x ha a, first-not hc b)
   governs x (present v) (waiting a b p q) f =
       rw (eq-eqb (h .x) 0 p, eq-eqb (h .z) 0 q, first-now x ha a, first-now v hc b)
-      (ap status (sym (on-now (present v) hc _ (looked w (length ha) (length hc) 0 (length ha) pos (omega arith) (omega arith) ∙ omega arith))))
+      (ap status (sym (tick-now (present v) hc _ (looked w (length ha) (length hc) 0 (length ha) pos (omega arith) (omega arith) ∙ omega arith))))
   governs x c (ready r a b p q n z) f =
       rw (eq-eqb (h .x) 0 p, ne-eqb (h .z) 0 (λ (e : h .z ≡ 0). omega arith), first-now x ha a, first-more c hc r b)
-      (z ∙ ap status (sym (on-before c hc r (first-low hc r b))
+      (z ∙ ap status (sym (tick-before c hc r (first-low hc r b))
       ∙ ap (cellOn (c ∷ hc)) (sym (looked w (length ha) r 0 (length ha) pos (omega arith) (omega arith) ∙ omega arith))))
   governs x c (seeing s r j a b d p l m i z) f = go (try (eqb (length ha) (h .x)))
     where
@@ -95,11 +86,11 @@ module _ (w : ℕ) (pos : 0 < w) (ha hc : History) (same : length ha ≡ length 
           let t : length ha ≡ h .x = eqb-true _ _ e in
           let y : h .y ≡ 0 = f (omega arith) t in
           rw (nz, e, first-more (present x) ha s a, first-more c hc r b)
-          (ap status (sym (on-now c hc _ (looked w s r (suc j) (length ha) pos (omega arith) (omega arith) ∙ omega arith))))
+          (ap status (sym (tick-now c hc _ (looked w s r (suc j) (length ha) pos (omega arith) (omega arith) ∙ omega arith))))
       go (failed e) =
           let t : (length ha ≡ h .x → ⊥) = eqb-false _ _ e in
           rw (nz, e, first-more (present x) ha s a, first-more c hc r b)
-          (z ∙ ap status (sym (on-before c hc (r + w * j) i) ∙ ap (cellOn (c ∷ hc)) (sym (looked w s r j (length ha) pos l (omega arith)))))
+          (z ∙ ap status (sym (tick-before c hc (r + w * j) i) ∙ ap (cellOn (c ∷ hc)) (sym (looked w s r j (length ha) pos l (omega arith)))))
 
   pub view-steps : (u : Bool) (a c : Cell) → Views w ha hc h → Looked (length ha) h
       → viewStep u a (viewNext w (length ha) (mark a) (status c) h) ≡ viewed u w a ha c hc
@@ -130,29 +121,29 @@ module _ (w : ℕ) (pos : 0 < w) (ha hc : History) (same : length ha ≡ length 
           let q : h .y ≡ 0 = f (omega arith) t in
           rw (nz, e)
           (seeing s r (suc j) (first-more a ha s x) (first-more c hc r y) d (omega arith) (omega arith) (omega arith) (omega arith)
-          (ap status (sym (on-now c hc (r + w * suc j) (omega arith)))))
+          (ap status (sym (tick-now c hc (r + w * suc j) (omega arith)))))
       go (failed e) =
           let t : (length ha ≡ h .x → ⊥) = eqb-false _ _ e in
           rw (nz, e)
           (seeing s r j (first-more a ha s x) (first-more c hc r y) d p (omega arith) (omega arith) (omega arith)
-          (z ∙ ap status (sym (on-before c hc (r + w * j) i))))
+          (z ∙ ap status (sym (tick-before c hc (r + w * j) i))))
 
   pub view-follows : (u : Bool) (a c cell : Cell) → Views w ha hc h → Looked (length ha) h → viewStep u a (viewNext w (length ha) (mark a) (status c) h) ≡ is cell
       → Views w (a ∷ ha) (c ∷ hc) (viewNext w (length ha) (mark a) (status c) h)
   view-follows u absent absent cell (waiting a b p q) f e = rw (eq-eqb (h .x) 0 p, eq-eqb (h .z) 0 q) (waiting (first-not ha a) (first-not hc b) p refl)
   view-follows u absent (present v) cell (waiting a b p q) f e =
       rw (eq-eqb (h .x) 0 p, eq-eqb (h .z) 0 q)
-      (ready (length hc) (first-not ha a) (first-now v hc b) p same (omega arith) (ap status (sym (on-now (present v) hc (length hc) refl))))
+      (ready (length hc) (first-not ha a) (first-now v hc b) p same (omega arith) (ap status (sym (tick-now (present v) hc (length hc) refl))))
   view-follows u (present x) absent cell (waiting a b p q) f e = never-is (rw (eq-eqb (h .x) 0 p, eq-eqb (h .z) 0 q) at e)
   view-follows u (present x) (present v) cell (waiting a b p q) f e =
       rw (eq-eqb (h .x) 0 p, eq-eqb (h .z) 0 q)
-      (begins x (length hc) (length ha) (present v) (status (present v)) a (first-now v hc b) same (ap status (sym (on-now (present v) hc (length hc) refl))))
+      (begins x (length hc) (length ha) (present v) (status (present v)) a (first-now v hc b) same (ap status (sym (tick-now (present v) hc (length hc) refl))))
   view-follows u absent c cell (ready r a b p q n z) f e =
       rw (eq-eqb (h .x) 0 p, ne-eqb (h .z) 0 (λ (k : h .z ≡ 0). omega arith))
-      (ready r (first-not ha a) (first-more c hc r b) p q n (z ∙ ap status (sym (on-before c hc r (first-low hc r b)))))
+      (ready r (first-not ha a) (first-more c hc r b) p q n (z ∙ ap status (sym (tick-before c hc r (first-low hc r b)))))
   view-follows u (present x) c cell (ready r a b p q n z) f e =
       rw (eq-eqb (h .x) 0 p, ne-eqb (h .z) 0 (λ (k : h .z ≡ 0). omega arith))
-      (begins x r (h .y) c (h .z) a (first-more c hc r b) q (z ∙ ap status (sym (on-before c hc r (first-low hc r b)))))
+      (begins x r (h .y) c (h .z) a (first-more c hc r b) q (z ∙ ap status (sym (tick-before c hc r (first-low hc r b)))))
   view-follows u absent c cell (seeing s r j a b d p l m i z) f e = goes-on absent c s r j a b d p l m i z f
   view-follows u (present x) c cell (seeing s r j a b d p l m i z) f e = goes-on (present x) c s r j a b d p l m i z f
 
@@ -177,7 +168,7 @@ module _ (w : ℕ) (pos : 0 < w) (ha hc : History) (same : length ha ≡ length 
           let t : length ha ≡ h .x = eqb-true _ _ e in
           let y : (h .y ≡ 0 → ⊥) = eqb-false _ _ n in
           rw (e, n, k) (
-            seeing s r (suc j) a b d (omega arith) (omega arith) (omega arith) (omega arith) (ap status (sym (on-back hc (r + w * suc j) (h .y - 1) (omega arith)))),
+            seeing s r (suc j) a b d (omega arith) (omega arith) (omega arith) (omega arith) (ap status (sym (tick-back hc (r + w * suc j) (h .y - 1) (omega arith)))),
             λ x t′. absurd (omega arith),
           )
 

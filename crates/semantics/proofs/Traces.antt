@@ -7,7 +7,7 @@ use mathlib.Core.List.{List, [], _∷_, _++_}
 use lib.ListN.{length, getD, length-append, length-map, List·getD-append}
 use lib.Seq.{getD-append-add}
 use borrow.Author.Tests.{eq-eqb, ne-eqb}
-use Rattle.semantics.specs.Cells.{History, absent, back, cellOn}
+use Rattle.semantics.specs.Cells.{Cell, absent, History, back, cellOn}
 use Rattle.table.specs.Rows.{Row}
 use Rattle.semantics.specs.Runs.{Tick, Ticks, cellIn, history, TickEnd, filled, stopped, tickOf, Ran, done, clashed, onTick, onRun, run, cells, Regular}
 
@@ -36,11 +36,19 @@ cells-at n a l (now ∷ past) r i (suc k) e =
     ∙ cells-at n a l past (r .1) i k (omega arith)
 
 -- the cell of a tick, counted from the latest
-pub on-back : (h : History) (u i : ℕ) → u + suc i ≡ length h → cellOn h u ≡ back h i
+pub tick-back : (h : History) (u i : ℕ) → u + suc i ≡ length h → cellOn h u ≡ back h i
 unfolding cellOn
-on-back [] u i e = absurd (omega arith)
-on-back (c ∷ h) u zero e = rw (eq-eqb u (length h) (omega arith))
-on-back (c ∷ h) u (suc i) e = rw (ne-eqb u (length h) (λ (q : u ≡ length h). omega arith)) (on-back h u i (omega arith))
+tick-back [] u i e = absurd (omega arith)
+tick-back (c ∷ h) u zero e = rw (eq-eqb u (length h) (omega arith))
+tick-back (c ∷ h) u (suc i) e = rw (ne-eqb u (length h) (λ (q : u ≡ length h). omega arith)) (tick-back h u i (omega arith))
+
+-- of the latest, and of one before it
+pub tick-now : (c : Cell) (h : History) (u : ℕ) → u ≡ length h → cellOn (c ∷ h) u ≡ c
+tick-now c h u e = tick-back (c ∷ h) u 0 (omega arith)
+
+pub tick-before : (c : Cell) (h : History) (u : ℕ) → u < length h → cellOn (c ∷ h) u ≡ cellOn h u
+unfolding cellOn
+tick-before c h u l = rw (ne-eqb u (length h) (λ (e : u ≡ length h). omega arith))
 
 -- a run to its end has its ticks
 pub run-length : (rows : List Row) (log : List ℕ) (t : ℕ) (past : Ticks) → run rows log t ≡ done past → length past ≡ t
