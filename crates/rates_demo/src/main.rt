@@ -69,11 +69,21 @@ fn beside() {
     shown(b"an operand by the other\n", 4, &words);
 }
 
+// A view joins its result with what it governs, and with nothing else.
+fn seen() {
+    let words = [0, 10, 0, 0, 16, 0, 0, 0, 17, 1, 0, 30, 2, 0, 1, 0];
+    shown(b"a view is kept\n", 4, &words);
+    let words = [0, 10, 0, 0, 16, 0, 0, 0, 18, 0, 1, 30];
+    shown(b"its condition is not joined\n", 3, &words);
+    let words = [0, 10, 0, 0, 16, 0, 0, 0, 17, 1, 0, 15, 2, 0, 1, 0];
+    shown(b"a view period that does not fit\n", 4, &words);
+}
+
 // Refusals of the draft, and of flows that no chain joins to a rated one.
 fn refusals() {
     let words = [0, 6, 0, 0, 16, 0, 0, 0, 16, 0, 0, 0];
     shown(b"a word too few\n", 3, &words[..11]);
-    shown(b"no such kind\n", 2, &[16, 0, 0, 0, 17, 0, 0, 0]);
+    shown(b"no such kind\n", 2, &[16, 0, 0, 0, 19, 0, 0, 0]);
     shown(b"a field where there is none\n", 1, &[16, 1, 0, 0]);
     shown(b"joined to nothing rated\n", 3, &words);
     shown(b"none of them rated\n", 2, &[16, 0, 0, 0, 9, 0, 2, 0]);
@@ -110,6 +120,7 @@ fn main() {
     slowed();
     upward();
     beside();
+    seen();
     refusals();
     none();
     rooms();

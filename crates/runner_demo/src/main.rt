@@ -100,6 +100,39 @@ fn below_zero() {
     shown(b"below zero\n", 4, &words, &log, 3, 0, 13);
 }
 
+// A signal (2, 2) governed by a switch (3, 1) that is looked at every 6 ticks, in tick 1 for ticks 2 to 7 and in tick 7 for ticks 8 to 13; and by
+// one that begins after it.
+fn seen() {
+    let words = [0, 3, 1, 0, 0, 2, 2, 0, 18, 1, 0, 6];
+    let log = [
+        9,
+        9,
+        0,
+        9,
+        9,
+        102,
+        9,
+        9,
+        4,
+        104,
+        9,
+        9,
+        9,
+        106,
+        7,
+        9,
+        9,
+        108,
+        9,
+        9,
+        0,
+        110,
+    ];
+    shown(b"seen every 6 ticks\n", 3, &words, &log, 11, 0, 34);
+    let words = [0, 1, 2, 0, 0, 1, 1, 0, 17, 1, 0, 1];
+    shown(b"not begun\n", 3, &words, &log[..6], 3, 0, 10);
+}
+
 // A refusal of the table names its row and leaves all.
 fn unknown_kind() {
     let words = [0, 1, 0, 0, 16, 0, 0, 0];
@@ -112,5 +145,6 @@ fn main() {
     plan_k();
     long_k();
     below_zero();
+    seen();
     unknown_kind();
 }

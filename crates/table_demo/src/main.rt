@@ -90,7 +90,7 @@ fn paper() {
     write(2, &[0, 10, 0, 0, 9, 0, 2, 0], &mut short);
 }
 
-// Packed tables that are refused: the count, bits that end too early, the kind (16 is read, 17 is not), ranges.
+// Packed tables that are refused: the count, bits that end too early, the kind (18 is read, 19 is not), ranges.
 fn read_refused() {
     read_ten(&[]);
     read_ten(&[0, 0]);
@@ -99,9 +99,12 @@ fn read_refused() {
     read_ten(&[2, 0, 5, 0]);
     read_ten(&[2, 0, 5, 0, 0]);
     read_ten(&[1, 128]);
-    read_ten(&[1, 136]);
+    read_ten(&[1, 152]);
     read_ten(&[2, 0, 5, 0, 4, 0]);
+    read_ten(&[2, 0, 5, 0, 4, 192]);
     read_ten(&[2, 0, 5, 0, 4, 64]);
+    read_ten(&[2, 0, 5, 0, 4, 64, 0, 7, 128]);
+    read_ten(&[2, 0, 5, 0, 4, 64, 0, 0, 0]);
     read_ten(&[1, 0, 0, 0, 0]);
     read_ten(&[2, 0, 5, 0, 2, 64, 0]);
 }
@@ -109,6 +112,7 @@ fn read_refused() {
 // Packed tables that are refused: operands and sources, and the filling.
 fn read_misplaced() {
     read_ten(&[1, 16, 0, 0]);
+    read_ten(&[2, 0, 5, 0, 4, 64, 4, 7, 128]);
     read_ten(&[2, 0, 5, 0, 0, 128, 4]);
     read_ten(&[2, 0, 5, 0, 1, 192, 0, 0, 1, 192, 8]);
     read_ten(&[2, 0, 5, 0, 1, 192, 0, 0, 1, 192, 4]);
@@ -124,7 +128,11 @@ fn write_refused() {
     write_nine(2, &[0, 10, 0, 0, 9, 0, 2]);
     write_nine(1, &[16, 0, 0, 0]);
     write_nine(1, &[16, 10, 0, 0]);
-    write_nine(1, &[17, 0, 0, 0]);
+    write_nine(1, &[19, 0, 0, 0]);
+    write_nine(2, &[0, 10, 0, 0, 18, 0, 0, 30]);
+    write_nine(2, &[0, 10, 0, 0, 18, 0, 0, 0]);
+    write_nine(2, &[0, 10, 0, 0, 17, 0, 0, 4096]);
+    write_nine(2, &[0, 10, 0, 0, 17, 0, 1, 30]);
     write_nine(1, &[0, 0, 0, 0]);
     write_nine(1, &[0, 10, 4096, 0]);
     write_nine(1, &[0, 10, 0, 1]);
@@ -222,10 +230,18 @@ fn all_kinds() {
         0,
         0,
         0,
+        17,
+        15,
+        16,
+        4095,
+        18,
+        17,
+        0,
+        1,
     ];
     let mut packed = [7u8; table::LONGEST_TABLE];
-    let mut back = [7u32; 70];
-    there_and_back(17, &rows, &mut packed, &mut back);
+    let mut back = [7u32; 78];
+    there_and_back(19, &rows, &mut packed, &mut back);
 }
 
 fn main() {
