@@ -7,14 +7,15 @@ use mathlib.Core.List.{List, [], _∷_, _++_, map}
 use lib.Dec.{eqb, leb}
 use lib.ListN.{length}
 use borrow.Author.Tests.{eqb-true, eq-eqb}
-use Rattle.table.specs.Answers.{Refusal, Result, good, unless, clocksDiffer, beyondLimits, notPlain}
-use Rattle.table.specs.Rows.{Row, input, constant, combine, register, faster, slower, later, head, tail, sample, merge, unrated}
+use Rattle.table.specs.Answers.{Refusal, Result, good, unless, clocksDiffer, beyondLimits, notPlain, badView}
+use Rattle.table.specs.Rows.{Row, input, constant, combine, register, faster, slower, later, head, tail, sample, merge, unrated, view}
 use Rattle.table.specs.Rows.{Field, operand}
 use Rattle.table.specs.Tables.{RowHas}
 use Rattle.table.proofs.Tests.{same-test}
 use Rattle.checker.specs.Clocks.{Condition, Clock, every, isEmpty, plain, sameConditions, sameClock, under}
-use Rattle.checker.specs.Rules.{maxDerived, maxConditions, withinLimits, limited, clockOf}
-use Rattle.checker.proofs.RuleLaws.{Rule, by-input, by-constant, by-combine, by-register, by-faster, by-slower, by-later, by-head, by-tail, by-sample, by-merge, rule-of}
+use Rattle.checker.specs.Rules.{maxDerived, maxConditions, withinLimits, limited, viewFits, clockOf, Every}
+use Rattle.checker.proofs.RuleLaws.{Rule, by-input, by-constant, by-combine, by-register, by-faster, by-slower, by-later, by-head, by-tail, by-sample, by-merge, by-view, rule-of}
+use Rattle.checker.proofs.CheckLaws.{every-snoc}
 use Rattle.reach.specs.Sets.{Flows}
 use Rattle.least.specs.Parts.{below}
 use Rattle.least.specs.PartChecks.{moveCondition, moveClock, moveResult}
@@ -23,12 +24,10 @@ use Rattle.least.proofs.Renumbering.{renumber}
 
 -- the conditions are on flows of the set
 abbrev pub Inside : Flows → List Condition → Type 0
-Inside s [] = Unit {0}
-Inside s (c ∷ cs) = (s (c .flow) ≡ true) × Inside s cs
+Inside s cs = Every (λ (c : Condition). s (c .flow) ≡ true) cs
 
-inside-snoc : (s : Flows) (cs : List Condition) (c : Condition) → Inside s cs → s (c .flow) ≡ true → Inside s (cs ++ (c ∷ []))
-inside-snoc s [] c h e = (e, tt)
-inside-snoc s (d ∷ cs) c h e = (h .0, inside-snoc s cs c (h .1) e)
+inside-under : (s : Flows) (k : Clock) (c : ℕ) (u : Bool) (w : ℕ) → Inside s (k .conditions) → s c ≡ true → Inside s (under k c u w .conditions)
+inside-under s k c u w h e = every-snoc (λ (d : Condition). s (d .flow) ≡ true) (k .conditions) _ h e
 
 map-snoc : (ρ : ℕ → ℕ) (cs : List Condition) (c : Condition) → map (moveCondition ρ) (cs ++ (c ∷ [])) ≡ map (moveCondition ρ) cs ++ (moveCondition ρ c ∷ [])
 map-snoc ρ [] c = refl
@@ -51,7 +50,7 @@ module _ (s : Flows) where
   same-moved [] (d ∷ ds) h k = refl
   same-moved (c ∷ cs) [] h k = refl
   same-moved (c ∷ cs) (d ∷ ds) h k =
-      ap₂ _&&_ (same-flow (c .flow) (d .flow) (h .0) (k .0)) (ap (λ (b : Bool). Bool·beq (c .truth) (d .truth) && b) (same-moved cs ds (h .1) (k .1)))
+      ap₂ _&&_ (same-flow (c .flow) (d .flow) (h .0) (k .0)) (ap (λ (b : Bool). Bool·beq (c .truth) (d .truth) && (eqb (c .view) (d .view) && b)) (same-moved cs ds (h .1) (k .1)))
 
   pub clock-moved-same : (j k : Clock) → Inside s (j .conditions) → Inside s (k .conditions) → sameClock (moveClock ρ j) (moveClock ρ k) ≡ sameClock j k
   clock-moved-same j k p q =
@@ -68,10 +67,10 @@ module _ (s : Flows) where
   limits-moved k =
       ap (λ (n : ℕ). leb (k .period) maxDerived && (leb (k .phase) maxDerived && leb n maxConditions)) (map-size ρ (k .conditions))
 
-  under-moved : (k : Clock) (c : ℕ) (u : Bool) → moveClock ρ (under k c u) ≡ under (moveClock ρ k) (ρ c) u
-  under-moved k c u =
+  under-moved : (k : Clock) (c : ℕ) (u : Bool) (w : ℕ) → moveClock ρ (under k c u w) ≡ under (moveClock ρ k) (ρ c) u w
+  under-moved k c u w =
       ap (λ (l : List Condition). let j : Clock = record { period = k .period; phase = k .phase; conditions = l } in j)
-      (map-snoc ρ (k .conditions) (record { flow = c; truth = u }))
+      (map-snoc ρ (k .conditions) (record { flow = c; truth = u; view = w }))
 
   unless-moved : (b b′ : Bool) (why : Refusal) (f : ℕ) (r r′ : Result Clock) → b ≡ b′ → r ≡ moveResult ρ r′ → unless b why (ρ f) r ≡ moveResult ρ (unless b′ why f r′)
   unless-moved true true why f r r′ e h = h
@@ -88,19 +87,26 @@ module _ (s : Flows) where
     abbrev Moved : Row → Type 0
     Moved r = clockOf clk′ (ρ f) (renumber ρ r) ≡ moveResult ρ (clockOf clk f r)
 
+    plain-agrees : (a : ℕ) → P operand a → plain (clk′ (ρ a)) ≡ plain (clk a)
+    plain-agrees a l = ap plain (agree a l) ∙ plain-moved (clk a)
+
     -- a rule that asks for a plain clock
     plain-first : (a : ℕ) (r r′ : Result Clock) → P operand a → r ≡ moveResult ρ r′
         → unless (plain (clk′ (ρ a))) notPlain (ρ f) r ≡ moveResult ρ (unless (plain (clk a)) notPlain f r′)
-    plain-first a r r′ l e = unless-moved (plain (clk′ (ρ a))) (plain (clk a)) notPlain f r r′ (ap plain (agree a l) ∙ plain-moved (clk a)) e
+    plain-first a r r′ l e = unless-moved (plain (clk′ (ρ a))) (plain (clk a)) notPlain f r r′ (plain-agrees a l) e
 
     -- two clocks compared
     both : (a b : ℕ) → P operand a → P operand b → sameClock (clk′ (ρ a)) (clk′ (ρ b)) ≡ sameClock (clk a) (clk b)
     both a b p q = ap₂ sameClock (agree a p) (agree b q) ∙ clock-moved-same (clk a) (clk b) (inside a p) (inside b q)
 
-    branch : (a c : ℕ) (u : Bool) → P operand a → P operand c → sameClock (clk′ (ρ a)) (under (clk′ (ρ c)) (ρ c) u) ≡ sameClock (clk a) (under (clk c) c u)
+    -- a condition more
+    under-agrees : (a c : ℕ) (u : Bool) (w : ℕ) → P operand a → under (clk′ (ρ a)) (ρ c) u w ≡ moveClock ρ (under (clk a) c u w)
+    under-agrees a c u w p = ap (λ (k : Clock). under k (ρ c) u w) (agree a p) ∙ sym (under-moved (clk a) c u w)
+
+    branch : (a c : ℕ) (u : Bool) → P operand a → P operand c → sameClock (clk′ (ρ a)) (under (clk′ (ρ c)) (ρ c) u 0) ≡ sameClock (clk a) (under (clk c) c u 0)
     branch a c u p q =
-        ap₂ sameClock (agree a p) (ap (λ (k : Clock). under k (ρ c) u) (agree c q) ∙ sym (under-moved (clk c) c u))
-        ∙ clock-moved-same (clk a) (under (clk c) c u) (inside a p) (inside-snoc s (clk c .conditions) _ (inside c q) (member c q))
+        ap₂ sameClock (agree a p) (under-agrees c c u 0 q)
+        ∙ clock-moved-same (clk a) (under (clk c) c u 0) (inside a p) (inside-under s (clk c) c u 0 (inside c q) (member c q))
 
     pub clock-moved : (r : Row) → RowHas P r → Moved r
     unfolding clockOf
@@ -127,13 +133,17 @@ module _ (s : Flows) where
         plain-first a _ _ (l .0)
         (ap (λ (j : Clock). limited (ρ f) (every (j .period) (j .phase + j .period))) (agree a (l .0)) ∙ limited-moved f (every (clk a .period) (clk a .phase + clk a .period)))
     clock-moved (sample u a c) l =
-        unless-moved (sameClock (clk′ (ρ a)) (clk′ (ρ c))) (sameClock (clk a) (clk c)) clocksDiffer f _ (limited f (under (clk a) c u)) (both a c (l .0) (l .1))
-        (ap (limited (ρ f)) (ap (λ (j : Clock). under j (ρ c) u) (agree a (l .0)) ∙ sym (under-moved (clk a) c u)) ∙ limited-moved f (under (clk a) c u))
+        unless-moved (sameClock (clk′ (ρ a)) (clk′ (ρ c))) (sameClock (clk a) (clk c)) clocksDiffer f _ (limited f (under (clk a) c u 0)) (both a c (l .0) (l .1))
+        (ap (limited (ρ f)) (under-agrees a c u 0 (l .0)) ∙ limited-moved f (under (clk a) c u 0))
     clock-moved (merge c a b) l =
-        unless-moved (sameClock (clk′ (ρ a)) (under (clk′ (ρ c)) (ρ c) true) && sameClock (clk′ (ρ b)) (under (clk′ (ρ c)) (ρ c) false))
-        (sameClock (clk a) (under (clk c) c true) && sameClock (clk b) (under (clk c) c false)) clocksDiffer f _ (good (clk c))
+        unless-moved (sameClock (clk′ (ρ a)) (under (clk′ (ρ c)) (ρ c) true 0) && sameClock (clk′ (ρ b)) (under (clk′ (ρ c)) (ρ c) false 0))
+        (sameClock (clk a) (under (clk c) c true 0) && sameClock (clk b) (under (clk c) c false 0)) clocksDiffer f _ (good (clk c))
         (ap₂ _&&_ (branch a c true (l .1) (l .0)) (branch b c false (l .2) (l .0))) (ap good (agree c (l .0)))
     clock-moved unrated l = refl
+    clock-moved (view u a c w) l =
+        unless-moved (plain (clk′ (ρ a)) && plain (clk′ (ρ c))) (plain (clk a) && plain (clk c)) notPlain f _ _ (ap₂ _&&_ (plain-agrees a (l .0)) (plain-agrees c (l .1)))
+        (unless-moved (viewFits w (clk′ (ρ a)) (clk′ (ρ c))) (viewFits w (clk a) (clk c)) badView f _ (good (under (clk a) c u w)) (ap₂ (viewFits w) (agree a (l .0)) (agree c (l .1)))
+        (ap good (under-agrees a c u w (l .0))))
 
     -- the row's clock has its conditions on flows of the set too
     inside-rule : (r : Row) (k : Clock) → Rule clk r k → RowHas P r → Inside s (k .conditions)
@@ -146,8 +156,9 @@ module _ (s : Flows) where
     inside-rule r k (by-later x y) l = tt
     inside-rule r k (by-head x y) l = tt
     inside-rule r k (by-tail x y) l = tt
-    inside-rule r k (by-sample {a = a} {c = c} x y) l = inside-snoc s (clk a .conditions) _ (inside a (l .0)) (member c (l .1))
+    inside-rule r k (by-sample {a = a} {c = c} x y) l = inside-under s (clk a) c _ 0 (inside a (l .0)) (member c (l .1))
     inside-rule r k (by-merge {c = c} x y) l = inside c (l .0)
+    inside-rule r k (by-view {a = a} {c = c} {w = w} x y v) l = inside-under s (clk a) c _ w (inside a (l .0)) (member c (l .1))
 
     pub inside-clock : (r : Row) (k : Clock) → clockOf clk f r ≡ good k → RowHas P r → Inside s (k .conditions)
     inside-clock r k e l = inside-rule r k (rule-of clk f r k e) l

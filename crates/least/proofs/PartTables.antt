@@ -144,7 +144,7 @@ module _ (m : ℕ) (words : List ℕ) (rows : List Row) (t : Table m words rows)
   conditions-same : (cs : List Condition) → map (moveCondition (below everyFlow)) cs ≡ cs
   conditions-same [] = refl
   conditions-same (c ∷ cs) =
-      ap₂ (λ (i : ℕ) (l : List Condition). let d : Condition = record { flow = i; truth = c .truth } in d ∷ l) (below-every (c .flow)) (conditions-same cs)
+      ap₂ (λ (i : ℕ) (l : List Condition). let d : Condition = record { flow = i; truth = c .truth; view = c .view } in d ∷ l) (below-every (c .flow)) (conditions-same cs)
 
   clock-same : (k : Clock) → moveClock (below everyFlow) k ≡ k
   clock-same k = ap (λ (cs : List Condition). let j : Clock = record { period = k .period; phase = k .phase; conditions = cs } in j) (conditions-same (k .conditions))

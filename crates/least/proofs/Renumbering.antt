@@ -5,7 +5,7 @@ use native.Mathlib.Omega.{arith}
 use mathlib.Core.Bool.{Bool, true}
 use borrow.Author.Tests.{lt-ltb, le-leb}
 use Rattle.table.specs.Answers.{good}
-use Rattle.table.specs.Rows.{Row, input, constant, combine, register, faster, slower, later, head, tail, sample, merge, unrated, onRegister, Field}
+use Rattle.table.specs.Rows.{Row, input, constant, combine, register, faster, slower, later, head, tail, sample, merge, unrated, view, onRegister, Field}
 use Rattle.table.specs.Rows.{operand, source, copies, period, ticks, value, unused, ranged, placed, Kind, kinds, kindAt, Words, each, fieldsOf, rowOf, takes, rowBy}
 use Rattle.table.specs.Tables.{Linked}
 use Rattle.table.specs.Links.{names}
@@ -31,6 +31,7 @@ renumber ρ (tail a) = tail (ρ a)
 renumber ρ (sample u a c) = sample u (ρ a) (ρ c)
 renumber ρ (merge c a b) = merge (ρ c) (ρ a) (ρ b)
 renumber ρ unrated = unrated
+renumber ρ (view u a c w) = view u (ρ a) (ρ c) w
 
 -- a test of its beat and source
 pub renumber-register : (ρ : ℕ → ℕ) (test : ℕ → ℕ → Bool) (r : Row) → onRegister test (renumber ρ r) ≡ onRegister (λ b a. test (ρ b) (ρ a)) r
@@ -46,6 +47,7 @@ renumber-register ρ test (tail a) = refl
 renumber-register ρ test (sample u a c) = refl
 renumber-register ρ test (merge c a b) = refl
 renumber-register ρ test unrated = refl
+renumber-register ρ test (view u a c w) = refl
 
 -- numbers that stay
 pub renumber-same : (ρ : ℕ → ℕ) (r : Row) → ((a : ℕ) → ρ a ≡ a) → renumber ρ r ≡ r
@@ -61,6 +63,7 @@ renumber-same ρ (tail a) e = rw (e a)
 renumber-same ρ (sample u a c) e = rw (e a, e c)
 renumber-same ρ (merge c a b) e = rw (e c, e a, e b)
 renumber-same ρ unrated e = refl
+renumber-same ρ (view u a c w) e = rw (e a, e c)
 
 -- each kind makes of renumbered fields its row renumbered
 module _ (s : Flows) where
@@ -69,7 +72,7 @@ module _ (s : Flows) where
 
   kinds-move : (x y z : ℕ) → Each (Moves x y z) 0 kinds
   unfolding kinds Moves
-  kinds-move x y z = (refl, (refl, (refl, (refl, (refl, (refl, (refl, (refl, (refl, (refl, (refl, (refl, (refl, (refl, (refl, (refl, (refl, tt)))))))))))))))))
+  kinds-move x y z = (refl, (refl, (refl, (refl, (refl, (refl, (refl, (refl, (refl, (refl, (refl, (refl, (refl, (refl, (refl, (refl, (refl, (refl, (refl, tt)))))))))))))))))))
 
   -- a field renumbered is in range, and in its place among the part's flows
   field-ranged : (t : Field) (x : ℕ) → ranged t x ≡ true → ranged t (renumbered s t x) ≡ true

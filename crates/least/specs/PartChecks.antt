@@ -17,7 +17,7 @@ use Rattle.least.specs.Parts.{Part, below, chosen, partCount, partRows, 
 
 -- a clock with the flows of its conditions renumbered
 abbrev pub moveCondition : (ℕ → ℕ) → Condition → Condition
-moveCondition ρ c = record { flow = ρ (c .flow); truth = c .truth }
+moveCondition ρ c = record { flow = ρ (c .flow); truth = c .truth; view = c .view }
 
 abbrev pub moveClock : (ℕ → ℕ) → Clock → Clock
 moveClock ρ k = record { period = k .period; phase = k .phase; conditions = map (moveCondition ρ) (k .conditions) }
