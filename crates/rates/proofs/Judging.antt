@@ -20,7 +20,7 @@ use Rattle.table.proofs.Lists.{Each, each-get}
 use Rattle.table.proofs.Registers.{Passes}
 use Rattle.table.proofs.AnswerLaws.{answer-zero}
 use Rattle.table.proofs.Tables.{Made, row-fits, Table, table-made, TableBy, made-by}
-use Rattle.table.proofs.Linked.{names-inside, words-have, names-have}
+use Rattle.table.proofs.Linked.{names-inside, words-have}
 use Rattle.table.proofs.PlainRows.{per-length, per-entry, joined-row}
 use Rattle.checker.specs.Clocks.{Clock}
 use Rattle.checker.specs.Rules.{clockOf, clockAt, clocksOf, sourceFits}
@@ -29,9 +29,10 @@ use Rattle.checker.proofs.Bounds.{check-number}
 use Rattle.checker.proofs.RuleLaws.{Rule, by-input, by-constant, rule-of}
 use Rattle.checker.proofs.CheckLaws.{Checked, fine, bad-row, bad-source, checked, Clocked, Sane, AllSane, all-sane}
 use Rattle.reach.specs.Reach.{named}
-use Rattle.rates.specs.Joins.{rated}
+use Rattle.rates.specs.Joins.{joinedBy, rated}
 use Rattle.rates.specs.Fillings.{Rate, filledRow, filled, Accepted}
 use Rattle.rates.specs.Private.Spread.{given, rise, fall, rowMade, written}
+use Rattle.rates.proofs.Joining.{joins-named, joins-have}
 use Rattle.rates.proofs.Rising.{rate, Sourced, by-test, rises, falls}
 
 -- ---- rows that name no flow
@@ -56,11 +57,12 @@ named-in-plan m words f d s h =
     ]
 
 -- flows that are joined are flows of the draft
-pub joins-inside : (m : ℕ) (words : List ℕ) (rows : List Row) → draftOf m words ≡ good rows → (f d : ℕ) → named words f d ≡ true → (f < m) × (d < m)
+pub joins-inside : (m : ℕ) (words : List ℕ) (rows : List Row) → draftOf m words ≡ good rows → (f d : ℕ) → joinedBy words f d ≡ true → (f < m) × (d < m)
 joins-inside m words rows e f d h =
     let t : TableBy false m words rows = made-by false m words rows e in
-    let l : f < m = named-in-plan m words f d (t .words-size) h in
-    (l, names-inside m f (rowWords words f) (rowAt rows f) (omega arith) (t .row-at f l) d h)
+    let n : named words f d ≡ true = joins-named (rowWords words f) d h in
+    let l : f < m = named-in-plan m words f d (t .words-size) n in
+    (l, names-inside m f (rowWords words f) (rowAt rows f) (omega arith) (t .row-at f l) d n)
 
 -- ---- an accepted filling
 
@@ -78,16 +80,16 @@ kept-rated : (q : Rate) (w : Words) → rated w ≡ true → filledRow q w ≡ w
 kept-rated q w h = rw (ne-eqb (w .kind) unratedKind (λ e. omega (arith, leb-true (w .kind) 1 h)))
 
 -- and has its rate written
-rule-written : (clk : ℕ → Clock) (f n x y z : ℕ) (k : Clock) → Sane f k → n ≤ 1 → Rule clk (decode n x y z) k
+rule-written : (clk : ℕ → Clock) (f n x y z : ℕ) (k : Clock) → Sane clk f k → n ≤ 1 → Rule clk (decode n x y z) k
     → rate k ≡ written (record { kind = n; one = x; two = y; three = z })
 unfolding kinds
 rule-written clk f zero x y z k s l h = go k s h
   where
-    go : (k : Clock) → Sane f k → Rule clk (input x y) k → rate k ≡ given true x y
+    go : (k : Clock) → Sane clk f k → Rule clk (input x y) k → rate k ≡ given true x y
     go k s by-input = by-test f k true x y s refl refl refl
 rule-written clk f (suc zero) x y z k s l h = go k s h
   where
-    go : (k : Clock) → Sane f k → Rule clk (constant x y z) k → rate k ≡ given true y z
+    go : (k : Clock) → Sane clk f k → Rule clk (constant x y z) k → rate k ≡ given true y z
     go k s by-constant = by-test f k true y z s refl refl refl
 rule-written clk f (suc (suc n)) x y z k s l h = absurd (omega arith)
 
@@ -137,11 +139,11 @@ module _ (m : ℕ) (words : List ℕ) (rates : ℕ → Rate) where
       go rows t c (bad-row ks why g front r back x k y) e = not-good e
       go rows t c (bad-source ks g front r back k x y) e = not-good e
 
--- The rate of a row's result and those of its operands; of a rated row; and of one that was filled in.
+-- The rate of a row's result and those of the flows with which it is joined; of a rated row; and of one that was filled in.
 module _ (m : ℕ) (words : List ℕ) (rates : ℕ → Rate) (j : Judged m words rates) where
-  module _ (f d : ℕ) (l : f < m) (h : named words f d ≡ true) where
+  module _ (f d : ℕ) (l : f < m) (h : joinedBy words f d ≡ true) where
     kept : filledRow (rates f) (rowWords words f) ≡ rowWords words f
-    kept = kept-named (rates f) (rowWords words f) d h
+    kept = kept-named (rates f) (rowWords words f) d (joins-named (rowWords words f) d h)
 
     row : Row
     row = rowMade (rowWords words f)
@@ -161,13 +163,13 @@ module _ (m : ℕ) (words : List ℕ) (rates : ℕ → Rate) (j : Judged m words
     pub up : rate (j .clk f) ≡ rise (rowMade (rowWords words f)) (rate (j .clk d))
     unfolding row
     up =
-        names-have (λ (i : ℕ). rate (j .clk f) ≡ rise row (rate (j .clk i))) m f (rowWords words f) row made
+        joins-have (λ (i : ℕ). rate (j .clk f) ≡ rise row (rate (j .clk i))) m f (rowWords words f) row made
         (rises (j .clk) m f row (j .clk f) ruled sourced (j .sane f l)) d h
 
     pub down : rate (j .clk d) ≡ fall (rowMade (rowWords words f)) (rate (j .clk f))
     unfolding row
     down =
-        names-have (λ (i : ℕ). rate (j .clk i) ≡ fall row (rate (j .clk f))) m f (rowWords words f) row made
+        joins-have (λ (i : ℕ). rate (j .clk i) ≡ fall row (rate (j .clk f))) m f (rowWords words f) row made
         (falls (j .clk) m f row (j .clk f) ruled sourced (row-fits m f (rowWords words f) row made) (λ g x. j .sane g (omega arith))) d h
 
   pub at-unrated : (f : ℕ) → f < m → rowWords words f .kind ≡ unratedKind → rate (j .clk f) ≡ rates f

@@ -1,4 +1,4 @@
--- In an accepted table the rates of a row's result and of its operands, beat and source give each other. Assumes nothing.
+-- In an accepted table the rates of a row's result and of the flows with which the row joins it give each other. Assumes nothing.
 use mathlib.Core.Path.{_≡_, refl, sym, _∙_, ap}
 use Prim.Native.Nat.{ℕ, _+_, _-_, _*_, _/_, _≤_}
 use native.Mathlib.Nat.{mul-div-cancel, mul-comm}
@@ -6,15 +6,16 @@ use native.Mathlib.Omega.{arith}
 use mathlib.Core.Bool.{Bool, true, false, false≢true}
 use lib.Dec.{eqb, leb}
 use borrow.Author.Tests.{eq-eqb, le-leb}
-use Rattle.table.specs.Rows.{Row, input, constant, combine, register, faster, slower, later, head, tail, sample, merge, unrated, onRegister}
-use Rattle.table.specs.Tables.{RowHas, Named, Fits}
+use Rattle.table.specs.Rows.{Row, input, constant, combine, register, faster, slower, later, head, tail, sample, merge, unrated, view, onRegister}
+use Rattle.table.specs.Tables.{Fits}
 use Rattle.checker.specs.Clocks.{Clock, sameClock}
 use Rattle.checker.specs.Rules.{maxDerived}
 use Rattle.checker.proofs.ClockLaws.{same-clock}
-use Rattle.checker.proofs.RuleLaws.{Rule, by-combine, by-register, by-faster, by-slower, by-later, by-head, by-tail, by-sample, by-merge}
+use Rattle.checker.proofs.RuleLaws.{Rule, by-combine, by-register, by-faster, by-slower, by-later, by-head, by-tail, by-sample, by-merge, by-view}
 use Rattle.checker.proofs.CheckLaws.{Sane, AllSane}
 use Rattle.rates.specs.Fillings.{Rate}
 use Rattle.rates.specs.Private.Spread.{given, rise, fall}
+use Rattle.rates.proofs.Joining.{JoinsHave}
 
 abbrev pub rate : Clock → Rate
 rate k = record { period = k .period; phase = k .phase }
@@ -31,7 +32,7 @@ pub given-is : (t : Bool) (n p : ℕ) → t ≡ true → 1 ≤ n → n ≤ maxDe
 given-is t n p e l u v = rw (e, le-leb 1 n l, le-leb n maxDerived u, le-leb p maxDerived v)
 
 -- the rate of a sane clock, by a test that is passed
-pub by-test : (f : ℕ) (k : Clock) (t : Bool) (n p : ℕ) → Sane f k → t ≡ true → k .period ≡ n → k .phase ≡ p → rate k ≡ given t n p
+pub by-test : {clk : ℕ → Clock} (f : ℕ) (k : Clock) (t : Bool) (n p : ℕ) → Sane clk f k → t ≡ true → k .period ≡ n → k .phase ≡ p → rate k ≡ given t n p
 by-test f k t n p s e x y =
     rate-path x y ∙ sym (given-is t n p e (omega (arith, s .positive)) (omega (arith, s .period-fits)) (omega (arith, s .phase-fits)))
 
@@ -40,7 +41,7 @@ no : {A : Type 0} → false ≡ true → A
 no e = absurd (false≢true e)
 
 module _ (clk : ℕ → Clock) (m f : ℕ) where
-  pub rises : (r : Row) (k : Clock) → Rule clk r k → Sourced clk r → Sane f k → RowHas (Named (λ d. rate k ≡ rise r (rate (clk d)))) r
+  pub rises : (r : Row) (k : Clock) → Rule clk r k → Sourced clk r → Sane clk f k → JoinsHave (λ d. rate k ≡ rise r (rate (clk d))) r
   rises (input n p) k h s w = (no, no)
   rises (constant v n p) k h s w = (no, no)
   rises (combine op a b) k (by-combine x) s w = (λ e. refl, λ e. ap rate x)
@@ -53,8 +54,9 @@ module _ (clk : ℕ → Clock) (m f : ℕ) where
   rises (sample u a c) k (by-sample x l) s w = (λ e. refl, λ e. ap rate x)
   rises (merge c a b) k (by-merge x y) s w = (λ e. refl, λ e. sym (ap rate x), λ e. sym (ap rate y))
   rises unrated k h s w = tt
+  rises (view u a c v) k (by-view x y h) s w = refl
 
-  pub falls : (r : Row) (k : Clock) → Rule clk r k → Sourced clk r → Fits m f r → AllSane clk f → RowHas (Named (λ d. rate (clk d) ≡ fall r (rate k))) r
+  pub falls : (r : Row) (k : Clock) → Rule clk r k → Sourced clk r → Fits m f r → AllSane clk f → JoinsHave (λ d. rate (clk d) ≡ fall r (rate k)) r
   falls (input n p) k h s w l = (no, no)
   falls (constant v n p) k h s w l = (no, no)
   falls (combine op a b) k (by-combine x) s w l = (λ e. refl, λ e. ap rate (sym x))
@@ -78,3 +80,4 @@ module _ (clk : ℕ → Clock) (m f : ℕ) where
   falls (sample u a c) k (by-sample x i) s w l = (λ e. refl, λ e. ap rate (sym x))
   falls (merge c a b) k (by-merge x y) s w l = (λ e. refl, λ e. ap rate x, λ e. ap rate y)
   falls unrated k h s w l = tt
+  falls (view u a c v) k (by-view x y h) s w l = refl

@@ -8,8 +8,8 @@ use Rattle.table.specs.Rows.{Row, Words}
 use Rattle.table.specs.Plain.{rowWords, joined, draftOf}
 use Rattle.table.proofs.Tests.{or-left, or-right}
 use Rattle.checker.specs.Answers.{checkNumber}
-use Rattle.reach.specs.Reach.{named, itself, onward}
-use Rattle.rates.specs.Joins.{Chained}
+use Rattle.reach.specs.Reach.{itself, onward}
+use Rattle.rates.specs.Joins.{joinedBy, Chained}
 use Rattle.rates.specs.Fillings.{Rate, Accepted}
 use Rattle.rates.specs.Private.Spread.{rise, fall, rowMade, word, rateOf, wordAt, ratesIn, Known, Derived, of-rated, of-operand, of-result, Settled}
 use Rattle.rates.proofs.Rising.{rate, rate-path}
@@ -21,7 +21,7 @@ pub derived-chained : (m : ℕ) (words : List ℕ) (f x : ℕ) → Derived m wor
 derived-chained m words f x (of-rated l e) = record { from = f; in-plan = l; is-rated = e; chain = itself }
 derived-chained m words f x (of-operand {d = d} {x = y} l h k) =
     let c : Chained m words d = derived-chained m words d y k in
-    record { from = c .from; in-plan = c .in-plan; is-rated = c .is-rated; chain = onward d f (c .chain) (or-right (named words d f) _ h) }
+    record { from = c .from; in-plan = c .in-plan; is-rated = c .is-rated; chain = onward d f (c .chain) (or-right (joinedBy words d f) _ h) }
 derived-chained m words d x (of-result {f = f} {x = y} l h k) =
     let c : Chained m words f = derived-chained m words f y k in
     record { from = c .from; in-plan = c .in-plan; is-rated = c .is-rated; chain = onward f d (c .chain) (or-left _ _ h) }

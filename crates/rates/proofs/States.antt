@@ -10,15 +10,13 @@ use lib.Seq.{getD-set-same, getD-set-other}
 use borrow.Author.Tests.{eqb-true, eqb-false, eq-eqb, ne-eqb}
 use Rattle.table.specs.declared.FlowFields.{FlowFields}
 use Rattle.table.specs.Answers.{good}
-use Rattle.table.specs.Rows.{Row, Kind, kindAt, kindCount, Words}
+use Rattle.table.specs.Rows.{Row, kindCount, Words}
 use Rattle.table.specs.Plain.{rowWords, draftOf}
-use Rattle.table.specs.Links.{isFlow, flowFields}
 use Rattle.table.proofs.Tests.{Tried, passed, failed, try}
 use Rattle.table.proofs.Tables.{made-by}
-use Rattle.table.proofs.Linked.{first-named, second-named, third-named, words-have}
-use Rattle.reach.specs.Reach.{named}
-use Rattle.rates.specs.Joins.{rated}
-use Rattle.rates.specs.Private.Spread.{rowMade, word, wordAt, Known, Derived, of-rated, of-operand, of-result, Spread, unknown, Grown, begun, stepped, added, RowPassed, Starting}
+use Rattle.rates.specs.Joins.{joinedBy, rated}
+use Rattle.rates.specs.Private.Spread.{rowMade, word, wordAt, Known, Derived, of-rated, of-operand, of-result, Spread, joinFields, unknown, Grown, begun, stepped, added, RowPassed, Starting}
+use Rattle.rates.proofs.Joining.{first-joined, second-joined, third-joined, fields-have}
 use Rattle.rates.proofs.Judging.{joins-inside}
 
 unknown-set : (st : List ℕ) (f x : ℕ) → f < length st → wordAt st f ≡ 0 → (x ≡ 0 → ⊥) → unknown (set st f x) + 1 ≡ unknown st
@@ -91,7 +89,7 @@ module _ (m : ℕ) (words : List ℕ) where
     abbrev row : Row
     row = rowMade (rowWords words f)
 
-    taken : named words f a ≡ true → a < length st → Step true f a st (stepped true row f a st) (added true f a st)
+    taken : joinedBy words f a ≡ true → a < length st → Step true f a st (stepped true row f a st) (added true f a st)
     taken h la = go (try (eqb (wordAt st f) 0)) (try (eqb (wordAt st a) 0))
       where
         go : Tried (eqb (wordAt st f) 0) → Tried (eqb (wordAt st a) 0) → Step true f a st (stepped true row f a st) (added true f a st)
@@ -102,12 +100,12 @@ module _ (m : ℕ) (words : List ℕ) where
             rw (x, y) record { grown = grown-set st a _ la (eqb-true _ _ y) (λ z. omega arith) (λ s. of-result l h (s f (eqb-false _ _ x))); ended = λ e o. absurd (omega arith) }
         go (failed x) (failed y) = rw (x, y) record { grown = grown-none st; ended = λ e o. (λ k. eqb-false _ _ y, λ k. eqb-false _ _ x) }
 
-    step : (on : Bool) → (on ≡ true → named words f a ≡ true) → (on ≡ true → a < length st) → Step on f a st (stepped on row f a st) (added on f a st)
+    step : (on : Bool) → (on ≡ true → joinedBy words f a ≡ true) → (on ≡ true → a < length st) → Step on f a st (stepped on row f a st) (added on f a st)
     step true h la = taken (h refl) (la refl)
     step false h la = record { grown = grown-none st; ended = λ e o. absurd (false≢true o) }
 
     -- by what it came to
-    step-of : (on : Bool) (st′ : List ℕ) (n : ℕ) → (on ≡ true → named words f a ≡ true) → (on ≡ true → a < length st) → n ≡ added on f a st
+    step-of : (on : Bool) (st′ : List ℕ) (n : ℕ) → (on ≡ true → joinedBy words f a ≡ true) → (on ≡ true → a < length st) → n ≡ added on f a st
         → st′ ≡ stepped on row f a st → Step on f a st st′ n
     step-of on st′ n h la p q = rw (p, q) (step on h la)
 
@@ -116,18 +114,17 @@ module _ (m : ℕ) (words : List ℕ) where
     abbrev w : Words
     w = rowWords words f
 
-    abbrev k : Kind
-    k = kindAt (w .kind)
+    abbrev on : FlowFields
+    on = joinFields (w .kind)
 
-    linked : (st s1 s2 s3 : List ℕ) (n1 n2 n3 : ℕ) → Step (isFlow (k .one)) f (w .one) st s1 n1 → Step (isFlow (k .two)) f (w .two) s1 s2 n2
-        → Step (isFlow (k .three)) f (w .three) s2 s3 n3 → RowPassed m words f st s3 (n1 + n2 + n3)
+    linked : (st s1 s2 s3 : List ℕ) (n1 n2 n3 : ℕ) → Step (on .one) f (w .one) st s1 n1 → Step (on .two) f (w .two) s1 s2 n2
+        → Step (on .three) f (w .three) s2 s3 n3 → RowPassed m words f st s3 (n1 + n2 + n3)
     linked st s1 s2 s3 n1 n2 n3 a b c = record {
       grown = grown-then st s2 s3 (n1 + n2) n3 (grown-then st s1 s2 n1 n2 (a .grown) (b .grown)) (c .grown);
-      ended = λ e. words-have (Even st f) w (
-        a .ended (omega arith),
-        λ o. subst (λ (s : List ℕ). Even s f (w .two)) (a .grown .still (omega arith)) (b .ended (omega arith) o),
-        λ o. subst (λ (s : List ℕ). Even s f (w .three)) (b .grown .still (omega arith) ∙ a .grown .still (omega arith)) (c .ended (omega arith) o),
-      );
+      ended = λ e.
+          fields-have w (Even st f) (a .ended (omega arith))
+          (λ o. subst (λ (s : List ℕ). Even s f (w .two)) (a .grown .still (omega arith)) (b .ended (omega arith) o))
+          (λ o. subst (λ (s : List ℕ). Even s f (w .three)) (b .grown .still (omega arith) ∙ a .grown .still (omega arith)) (c .ended (omega arith) o));
     }
 
     -- one more row has its word
@@ -152,7 +149,7 @@ module _ (m : ℕ) (words : List ℕ) where
             let ne : g ≡ f → ⊥ = eqb-false g f q in
             s .started g (omega arith) e (sym (other st f (begun w) lf g ne) ∙ z)
 
--- ---- the steps of a row of a draft, by its words and the fields of its kind that hold flows
+-- ---- the steps of a row of a draft, by its words and the fields of its kind that join
 
 -- three steps one after the other
 pub record Three (f : ℕ) (w : Words) (on : FlowFields) (st s1 s2 s3 : List ℕ) (n1 n2 n3 : ℕ) : Type 0 where
@@ -170,27 +167,27 @@ pub record Inside (w : Words) (on : FlowFields) (n : ℕ) : Type 0 where
   pub three : on .three ≡ true → w .three < n
 
 module _ (m : ℕ) (words : List ℕ) (rows : List Row) (draft : draftOf m words ≡ good rows) (f : ℕ) (l : f < m) where
-  inside-row : (n : ℕ) → m ≤ n → Inside (rowWords words f) (flowFields (rowWords words f .kind)) n
-  inside-row n h = record { one = λ o. at _ (first-named (rowWords words f) o); two = λ o. at _ (second-named (rowWords words f) o); three = λ o. at _ (third-named (rowWords words f) o) }
+  inside-row : (n : ℕ) → m ≤ n → Inside (rowWords words f) (joinFields (rowWords words f .kind)) n
+  inside-row n h = record { one = λ o. at _ (first-joined (rowWords words f) o); two = λ o. at _ (second-joined (rowWords words f) o); three = λ o. at _ (third-joined (rowWords words f) o) }
     where
-      at : (x : ℕ) → named words f x ≡ true → x < n
+      at : (x : ℕ) → joinedBy words f x ≡ true → x < n
       at x e = let i = joins-inside m words rows draft f x e .1 in omega (arith, i)
 
-  linked-row : (st s1 s2 s3 : List ℕ) (n1 n2 n3 : ℕ) → m ≤ length st → Three f (rowWords words f) (flowFields (rowWords words f .kind)) st s1 s2 s3 n1 n2 n3
+  linked-row : (st s1 s2 s3 : List ℕ) (n1 n2 n3 : ℕ) → m ≤ length st → Three f (rowWords words f) (joinFields (rowWords words f .kind)) st s1 s2 s3 n1 n2 n3
       → RowPassed m words f st s3 (n1 + n2 + n3)
   linked-row st s1 s2 s3 n1 n2 n3 h t =
       let w : Words = rowWords words f in
-      let a = step-of m words f (w .one) st l (omega arith) _ s1 n1 (first-named w) (inside-row (length st) h .one) (t .first-new) (t .first) in
+      let a = step-of m words f (w .one) st l (omega arith) _ s1 n1 (first-joined w) (inside-row (length st) h .one) (t .first-new) (t .first) in
       let h1 : m ≤ length s1 = omega (arith, a .grown .size) in
-      let b = step-of m words f (w .two) s1 l (omega arith) _ s2 n2 (second-named w) (inside-row (length s1) h1 .two) (t .second-new) (t .second) in
+      let b = step-of m words f (w .two) s1 l (omega arith) _ s2 n2 (second-joined w) (inside-row (length s1) h1 .two) (t .second-new) (t .second) in
       let h2 : m ≤ length s2 = omega (arith, b .grown .size) in
       linked m words f st s1 s2 s3 n1 n2 n3 a b
-      (step-of m words f (w .three) s2 l (omega arith) _ s3 n3 (third-named w) (inside-row (length s2) h2 .three) (t .third-new) (t .third))
+      (step-of m words f (w .three) s2 l (omega arith) _ s3 n3 (third-joined w) (inside-row (length s2) h2 .three) (t .third-new) (t .third))
 
   -- as the code has them
-  module _ (w : Words) (on : FlowFields) (is : w ≡ rowWords words f) (told : on ≡ flowFields (w .kind)) where
-    fields : on ≡ flowFields (rowWords words f .kind)
-    fields = told ∙ ap (λ (v : Words). flowFields (v .kind)) is
+  module _ (w : Words) (on : FlowFields) (is : w ≡ rowWords words f) (told : on ≡ joinFields (w .kind)) where
+    fields : on ≡ joinFields (rowWords words f .kind)
+    fields = told ∙ ap (λ (v : Words). joinFields (v .kind)) is
 
     pub known-row : w .kind < kindCount
     known-row = rw is (made-by false m words rows draft .row-at f l .known)

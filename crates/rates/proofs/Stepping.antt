@@ -24,7 +24,7 @@ Stays q x y z i k = Other i → (rise (k .make x y z) q ≡ q) × (fall (k .make
 kinds-stay : (q : Rate) (x y z : ℕ) → Each (Stays q x y z) 0 kinds
 unfolding kinds Stays
 kinds-stay q x y z =
-    (same, (same, (same, (same, (same, (same, (same, (same, (no 8 refl, (no 9 refl, (no 10 refl, (no 11 refl, (no 12 refl, (same, (same, (same, (same, tt)))))))))))))))))
+    (same, (same, (same, (same, (same, (same, (same, (same, (no 8 refl, (no 9 refl, (no 10 refl, (no 11 refl, (no 12 refl, (same, (same, (same, (same, (same, (same, tt)))))))))))))))))))
   where
     same : {A : Type 0} → A → (q ≡ q) × (q ≡ q)
     same h = (refl, refl)

@@ -10,21 +10,21 @@ use Rattle.table.specs.Rows.{Row, unratedKind}
 use Rattle.table.specs.Plain.{rowWords, draftOf}
 use Rattle.table.proofs.Tests.{Tried, passed, failed, try, one-of}
 use Rattle.table.proofs.PlainRows.{per-same}
-use Rattle.reach.specs.Reach.{named, Leads, itself, onward}
-use Rattle.rates.specs.Joins.{joins, Chained, Joined}
+use Rattle.reach.specs.Reach.{Leads, itself, onward}
+use Rattle.rates.specs.Joins.{joinedBy, joins, Chained, Joined}
 use Rattle.rates.specs.Fillings.{Rate, filledRow, filled, Accepted}
 use Rattle.rates.specs.Private.Spread.{rise, fall, rowMade}
 use Rattle.rates.proofs.Rising.{rate}
 use Rattle.rates.proofs.Judging.{joins-inside, Judged, judged, up, down, at-rated, at-unrated}
 
--- What holds of a rated flow, and of a result with each flow that its row names, holds along a chain.
+-- What holds of a rated flow, and of a result with each flow with which its row joins it, holds along a chain.
 module _ (m : ℕ) (words : List ℕ) (rows : List Row) (draft : draftOf m words ≡ good rows) (P : ℕ → Type 0)
-    (up-step : (f d : ℕ) → f < m → named words f d ≡ true → P d → P f) (down-step : (f d : ℕ) → f < m → named words f d ≡ true → P f → P d) where
+    (up-step : (f d : ℕ) → f < m → joinedBy words f d ≡ true → P d → P f) (down-step : (f d : ℕ) → f < m → joinedBy words f d ≡ true → P f → P d) where
   along : (g f : ℕ) → P g → Leads (joins words) g f → P f
   along g f p itself = p
   along g f p (onward d h c e) =
       let x : P d = along g d p c in
-      one-of (named words d f) (named words f d)
+      one-of (joinedBy words d f) (joinedBy words f d)
       (λ a. down-step d f (joins-inside m words rows draft d f a .0) a x) (λ a. up-step f d (joins-inside m words rows draft f d a .0) a x) e
 
   pub on-chain : ((f : ℕ) → f < m → (c : Chained m words f) → P (c .from)) → (f : ℕ) → f < m → Chained m words f → P f

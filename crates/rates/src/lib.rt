@@ -7,6 +7,8 @@ use steps::fill_row;
 use steps::rise;
 use table::Answer;
 use table::CLOCKS_DIFFER;
+use table::FIRST_VIEW;
+use table::FlowFields;
 use table::MAX_FLOWS;
 use table::NO_ROOM;
 use table::ROW_SIZE;
@@ -24,7 +26,7 @@ ghost use Rattle.table.specs.Rows.{kindCount, maxFlows, rowSize};
 ghost use Rattle.table.specs.Plain.{wordsOf, joined, draftOf, rowsIn};
 ghost use Rattle.checker.specs.Answers.{checkNumber};
 ghost use Rattle.rates.specs.Fillings.{filled, Filled};
-ghost use Rattle.rates.specs.Private.Spread.{rowMade, stepped, added, ratesIn, RowPassed, Passed, Starting, Settled, Lowest};
+ghost use Rattle.rates.specs.Private.Spread.{rowMade, joinFields, stepped, added, ratesIn, RowPassed, Passed, Starting, Settled, Lowest};
 
 // The words of the most flows.
 const WORDS: usize = ROW_SIZE * (MAX_FLOWS as usize);
@@ -54,13 +56,28 @@ fn join(rates: &mut [u64], r: Record, f: u32, on: bool, a: u32) -> u32
     0
 }
 
-// The steps between the result of row f and each flow that the row names.
+// The fields of a kind that hold the flows with which a row joins its result: of a view the first only.
+fn join_fields(kind: u32) -> FlowFields
+    ensures { λ r. ⌜ r ≡ joinFields kind ⌝ }
+{
+    let flows = table::flow_fields(kind);
+    if kind < FIRST_VIEW {
+        return flows;
+    }
+    FlowFields {
+        one: flows.one,
+        two: false,
+        three: false,
+    }
+}
+
+// The steps between the result of row f and each flow with which the row joins it.
 fn link(n: u32, words: &[u32], f: u32, rates: &mut [u64]) -> u32
     requires { ⌜ (draftOf n (now words) ≡ good (rowsIn (draftOf n (now words)))) × (length (now rates) ≡ maxFlows) × (f < n) ⌝ }
     ensures { λ k. ⌜ RowPassed n (now (words .entry)) f (now (rates .entry)) (now (rates .exit)) k × (k ≤ 3) ⌝ }
 {
     let r = record_at(words, f);
-    let flows = table::flow_fields(r.kind);
+    let flows = join_fields(r.kind);
     let a = join(rates, r, f, flows.one, r.one);
     let b = join(rates, r, f, flows.two, r.two);
     let c = join(rates, r, f, flows.three, r.three);

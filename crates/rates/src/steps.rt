@@ -78,7 +78,7 @@ fn divides(k: u64, n: u64) -> bool
     k * quotient(n, k) == n
 }
 
-// From the rate of an operand, beat or source of a row to that of its result.
+// From the rate of a flow with which a row joins its result to that of the result.
 pub(crate) fn rise(r: Record, x: u64) -> u64
     requires { ⌜ (r .kind < kindCount) × (0 < x) ⌝ }
     ensures { λ y. ⌜ y ≡ word (rise (rowMade (wordsOf r)) (rateOf x)) ⌝ }

@@ -14,15 +14,15 @@ use Rattle.rates.proofs.link.Tie as tie
 record-at-requires : tie.Need-record-at-requires
 record-at-requires c κs = search needs
 
-flow-fields-requires : tie.Need-flow-fields-requires
-flow-fields-requires c κs = search needs
+join-fields-requires : tie.Need-join-fields-requires
+join-fields-requires c κs = search needs
 
--- the flows that the row names have words
-bounds : (c : tie.After-flow-fields) → (
+-- the flows with which the row joins its result have words
+bounds : (c : tie.After-join-fields) → (
     let after-record-at = c .before in
     let start = after-record-at .before .before .before in
     (after-record-at .record-at .result .kind < kindCount) × (start .args .n ≤ maxFlows)
-    × Inside (wordsOf (after-record-at .record-at .result)) (c .flow-fields .result) maxFlows)
+    × Inside (wordsOf (after-record-at .record-at .result)) (c .join-fields .result) maxFlows)
 bounds c =
     let after-record-at = c .before in
     let start = after-record-at .before .before .before in
@@ -31,9 +31,9 @@ bounds c =
     let rows = rowsIn (draftOf (a .n) ws) in
     let r = after-record-at .record-at in
     let few : a .n ≤ maxFlows = made-by false (a .n) ws rows (start .pre .0) .few in (
-      known-row (a .n) ws rows (start .pre .0) (a .f) (start .pre .2) (wordsOf (r .result)) (c .flow-fields .result) (r .ensures) (c .flow-fields .ensures),
+      known-row (a .n) ws rows (start .pre .0) (a .f) (start .pre .2) (wordsOf (r .result)) (c .join-fields .result) (r .ensures) (c .join-fields .ensures),
       few,
-      inside (a .n) ws rows (start .pre .0) (a .f) (start .pre .2) (wordsOf (r .result)) (c .flow-fields .result) (r .ensures) (c .flow-fields .ensures) maxFlows few,
+      inside (a .n) ws rows (start .pre .0) (a .f) (start .pre .2) (wordsOf (r .result)) (c .join-fields .result) (r .ensures) (c .join-fields .ensures) maxFlows few,
     )
 
 join-requires : tie.Need-join-requires
@@ -45,18 +45,18 @@ join-requires c κs =
 join-requires-2 : tie.Need-join-requires-2
 join-requires-2 c κs =
     let after-join = c .before .before .before in
-    let after-flow-fields = after-join .before .before in
-    let b = bounds after-flow-fields in
-    let p = after-flow-fields .before .before .before .before .pre in
+    let after-join-fields = after-join .before .before in
+    let b = bounds after-join-fields in
+    let p = after-join-fields .before .before .before .before .pre in
     (b .0, omega (arith, b .1, p, after-join .join .kept), λ o. let i = b .2 .two o in omega (arith, i, p .1, after-join .join .kept))
 
 join-requires-3 : tie.Need-join-requires-3
 join-requires-3 c κs =
     let after-join2 = c .before .before .before in
     let after-join = after-join2 .before .before .before .before in
-    let after-flow-fields = after-join .before .before in
-    let b = bounds after-flow-fields in
-    let p = after-flow-fields .before .before .before .before .pre in (
+    let after-join-fields = after-join .before .before in
+    let b = bounds after-join-fields in
+    let p = after-join-fields .before .before .before .before .pre in (
       b .0,
       omega (arith, b .1, p, after-join .join .kept, after-join2 .join2 .kept),
       λ o. let i = b .2 .three o in omega (arith, i, p .1, after-join .join .kept, after-join2 .join2 .kept),
@@ -76,8 +76,8 @@ returns c =
     let after-join3 = c .before .before in
     let after-join2 = after-join3 .before .before .before .before in
     let after-join = after-join2 .before .before .before .before in
-    let after-flow-fields = after-join .before .before in
-    let after-record-at = after-flow-fields .before in
+    let after-join-fields = after-join .before .before in
+    let after-record-at = after-join-fields .before in
     let start = after-record-at .before .before .before in
     let a = start .args in
     let ws = now (a .words) in
@@ -85,9 +85,9 @@ returns c =
     let one = after-join .join in
     let two = after-join2 .join2 in
     let three = after-join3 .join3 in (
-      linking (a .n) ws (rowsIn (draftOf (a .n) ws)) (start .pre .0) (a .f) (start .pre .2) (wordsOf (r .result)) (after-flow-fields .flow-fields .result) (r .ensures)
-          (after-flow-fields .flow-fields .ensures) (now (a .rates)) (one .last .0) (two .last .0) (three .last .0) (one .result) (two .result) (three .result)
-          (omega (arith, bounds after-flow-fields .1, start .pre .1))
+      linking (a .n) ws (rowsIn (draftOf (a .n) ws)) (start .pre .0) (a .f) (start .pre .2) (wordsOf (r .result)) (after-join-fields .join-fields .result) (r .ensures)
+          (after-join-fields .join-fields .ensures) (now (a .rates)) (one .last .0) (two .last .0) (three .last .0) (one .result) (two .result) (three .result)
+          (omega (arith, bounds after-join-fields .1, start .pre .1))
           (record {
             first = one .ensures .1;
             first-new = one .ensures .0 .0;
@@ -104,7 +104,7 @@ link-spec =
     tie.close
     (tie.spec
     record-at-requires
-    flow-fields-requires
+    join-fields-requires
     join-requires
     join-requires-2
     join-requires-3

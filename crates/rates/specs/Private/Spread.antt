@@ -1,15 +1,16 @@
 -- How rates spread along rows, and the words in which the code keeps them.
 use mathlib.Core.Path.{_≡_}
 use Prim.Native.Nat.{ℕ, _+_, _-_, _*_, _/_, _%_, _≤_, _<_}
-use mathlib.Core.Bool.{Bool, true, cond, _&&_}
+use mathlib.Core.Bool.{Bool, true, false, cond, _&&_}
 use mathlib.Core.List.{List, [], _∷_}
 use lib.Dec.{eqb, leb}
 use lib.ListN.{length, getD, set}
-use Rattle.table.specs.Rows.{Row, input, constant, combine, register, faster, slower, later, head, tail, sample, merge, unrated, decode, Words}
+use Rattle.table.specs.declared.FlowFields.{FlowFields}
+use Rattle.table.specs.Rows.{Row, input, constant, combine, register, faster, slower, later, head, tail, sample, merge, unrated, view, decode, Words, firstView}
 use Rattle.table.specs.Plain.{rowWords}
+use Rattle.table.specs.Links.{flowFields}
 use Rattle.checker.specs.Rules.{maxDerived}
-use Rattle.reach.specs.Reach.{named}
-use Rattle.rates.specs.Joins.{rated}
+use Rattle.rates.specs.Joins.{joinedBy, rated}
 use Rattle.rates.specs.Fillings.{Rate}
 
 -- a rate that no flow has
@@ -20,7 +21,7 @@ noRate = record { period = 0; phase = 0 }
 abbrev pub given : Bool → ℕ → ℕ → Rate
 given test n p = cond (test && (leb 1 n && (leb n maxDerived && leb p maxDerived))) (record { period = n; phase = p }) noRate
 
--- from the rate of an operand, beat or source to that of the row's result
+-- from the rate of a flow with which a row joins its result to that of the result
 abbrev pub rise : Row → Rate → Rate
 rise (input n p) q = q
 rise (constant v n p) q = q
@@ -34,6 +35,7 @@ rise (tail a) q = given true (q .period) (q .phase + q .period)
 rise (sample u a c) q = q
 rise (merge c a b) q = q
 rise unrated q = q
+rise (view u a c w) q = q
 
 -- and back: a result's period that k does not divide has no operand, as has a phase that would be below 0
 abbrev pub fall : Row → Rate → Rate
@@ -49,6 +51,7 @@ fall (tail a) q = given (leb (q .period) (q .phase)) (q .period) (q .phase - q .
 fall (sample u a c) q = q
 fall (merge c a b) q = q
 fall unrated q = q
+fall (view u a c w) q = q
 
 -- the row that four words make
 abbrev pub rowMade : Words → Row
@@ -82,10 +85,10 @@ Known st f = wordAt st f ≡ 0 → ⊥
 pub data Derived (m : ℕ) (words : List ℕ) : ℕ → ℕ → Type 0 where
   of-rated : {f : ℕ} → f < m → rated (rowWords words f) ≡ true → Derived m words f (word (written (rowWords words f)))
   of-operand :
-      {f d x : ℕ} → f < m → named words f d ≡ true → Derived m words d x
+      {f d x : ℕ} → f < m → joinedBy words f d ≡ true → Derived m words d x
       → Derived m words f (word (rise (rowMade (rowWords words f)) (rateOf x)))
   of-result :
-      {f d x : ℕ} → f < m → named words f d ≡ true → Derived m words f x
+      {f d x : ℕ} → f < m → joinedBy words f d ≡ true → Derived m words f x
       → Derived m words d (word (fall (rowMade (rowWords words f)) (rateOf x)))
 
 -- every word that is there was derived
@@ -98,10 +101,14 @@ Started n words st = (f : ℕ) → f < n → rated (rowWords words f) ≡ true �
 
 -- in row f nothing is left to spread
 abbrev pub ClosedAt : List ℕ → List ℕ → ℕ → Type 0
-ClosedAt words st f = (d : ℕ) → named words f d ≡ true → (Known st f → Known st d) × (Known st d → Known st f)
+ClosedAt words st f = (d : ℕ) → joinedBy words f d ≡ true → (Known st f → Known st d) × (Known st d → Known st f)
 
 abbrev pub Closed : ℕ → List ℕ → List ℕ → Type 0
 Closed m words st = (f : ℕ) → f < m → ClosedAt words st f
+
+-- the fields of a kind that hold the flows with which a row joins its result: all that hold flows, of a view the first only
+abbrev pub joinFields : ℕ → FlowFields
+joinFields n = cond (leb firstView n) (record { one = flowFields n .one; two = false; three = false }) (flowFields n)
 
 -- how many flows have no word
 abbrev pub unknown : List ℕ → ℕ
