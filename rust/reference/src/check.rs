@@ -1,17 +1,17 @@
-//! The check: the clock of each flow, in seven words.
+//! The check: the clock of each flow, in eleven words.
 
-use crate::clock::{clock, Clock};
+use crate::clock::{clock, Clock, Condition};
 use crate::rows::{table, Row};
 use crate::{answer, refuse, refuse_at, success, Answer, Refused};
 
-/// Gives each flow of a plain table its clock, seven words a flow. The count of the answer is that of the flows.
+/// Gives each flow of a plain table its clock, eleven words a flow. The count of the answer is that of the flows.
 pub fn check(plan_count: u32, words: &[u32], clocks: &mut [u32]) -> Answer {
     answer(table(plan_count, words).and_then(|rows| {
-        if clocks.len() < 7 * rows.len() {
+        if clocks.len() < 11 * rows.len() {
             return refuse(10);
         }
         for (place, clock) in clocks_of(&rows)?.iter().enumerate() {
-            clocks[7 * place..7 * place + 7].copy_from_slice(&clock_words(clock));
+            clocks[11 * place..11 * place + 11].copy_from_slice(&clock_words(clock));
         }
         Ok(success(rows.len()))
     }))
@@ -36,11 +36,14 @@ pub fn clocks_of(rows: &[Row]) -> Refused<Vec<Clock>> {
     Ok(clocks)
 }
 
-/// Period, phase, how many conditions, four words 2 × flow + 1 for true or 2 × flow for false, unused 0.
-fn clock_words(clock: &Clock) -> [u32; 7] {
-    let mut words = [clock.period, clock.phase, clock.conditions.len() as u32, 0, 0, 0, 0];
-    for (word, &(flow, truth)) in words[3..].iter_mut().zip(&clock.conditions) {
-        *word = 2 * flow as u32 + u32::from(truth);
+/// Period, phase, how many conditions, four words 2 × flow + 1 for true or 2 × flow for false, unused 0, and the four
+/// view periods last.
+fn clock_words(clock: &Clock) -> [u32; 11] {
+    let mut words = [0; 11];
+    words[..3].copy_from_slice(&[clock.period, clock.phase, clock.conditions.len() as u32]);
+    for (place, &Condition { flow, truth, view }) in clock.conditions.iter().enumerate() {
+        words[3 + place] = 2 * flow as u32 + u32::from(truth);
+        words[7 + place] = view;
     }
     words
 }

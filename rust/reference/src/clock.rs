@@ -2,8 +2,13 @@
 
 use crate::rows::Row;
 
-/// A condition: a flow and a truth.
-pub type Condition = (usize, bool);
+/// A condition: a flow, a truth and a view period, 0 when sampled directly.
+#[derive(Clone, Copy, Debug, PartialEq, Eq)]
+pub struct Condition {
+    pub flow: usize,
+    pub truth: bool,
+    pub view: u32,
+}
 
 /// A period, a phase and 0 to 4 conditions in order of sampling.
 #[derive(Clone, Debug, PartialEq, Eq)]
@@ -19,6 +24,7 @@ type Wrong = u32;
 const DIFFER: Wrong = 21;
 const BEYOND: Wrong = 22;
 const NOT_PLAIN: Wrong = 23;
+const BAD_VIEW: Wrong = 40;
 
 /// The clock without conditions.
 fn plain(period: u32, phase: u32) -> Clock {
@@ -31,10 +37,10 @@ impl Clock {
         self.conditions.is_empty()
     }
 
-    /// This clock with one last condition, however many it has.
+    /// This clock with one last condition that is sampled directly, however many it has.
     fn plus(&self, flow: usize, truth: bool) -> Clock {
         let mut clock = self.clone();
-        clock.conditions.push((flow, truth));
+        clock.conditions.push(Condition { flow, truth, view: 0 });
         clock
     }
 }
@@ -47,7 +53,7 @@ fn within_limits(clock: Clock) -> Result<Clock, Wrong> {
     Ok(clock)
 }
 
-/// Kinds 8 to 12 need a plain clock.
+/// Kinds 8 to 12, and both operands of kinds 17 and 18, need a plain clock.
 fn need_plain(clock: &Clock) -> Result<(), Wrong> {
     if clock.is_plain() {
         Ok(())
@@ -83,6 +89,8 @@ pub fn clock(row: &Row, clocks: &[Clock]) -> Result<Clock, Wrong> {
         Row::When { a, c } => sampled(&clocks[a], &clocks[c], c, true),
         Row::WhenNot { a, c } => sampled(&clocks[a], &clocks[c], c, false),
         Row::Merge { c, a, b } => merge(&clocks[c], &clocks[a], &clocks[b], c),
+        Row::WhenSeen { a, c, w } => seen(&clocks[a], &clocks[c], Condition { flow: c, truth: true, view: w }),
+        Row::WhenNotSeen { a, c, w } => seen(&clocks[a], &clocks[c], Condition { flow: c, truth: false, view: w }),
     }
 }
 
@@ -135,4 +143,17 @@ fn merge(clock_of_c: &Clock, a: &Clock, b: &Clock, c: usize) -> Result<Clock, Wr
     need(*a == clock_of_c.plus(c, true))?;
     need(*b == clock_of_c.plus(c, false))?;
     Ok(clock_of_c.clone())
+}
+
+/// Both clocks are plain, w is a multiple of both periods, and c's phase is at most a's. The result has a's clock under
+/// that one condition.
+fn seen(a: &Clock, c: &Clock, condition: Condition) -> Result<Clock, Wrong> {
+    need_plain(a)?;
+    need_plain(c)?;
+    let w = condition.view;
+    let is_multiple_of_both = w.is_multiple_of(a.period) && w.is_multiple_of(c.period);
+    if !is_multiple_of_both || c.phase > a.phase {
+        return Err(BAD_VIEW);
+    }
+    Ok(Clock { conditions: vec![condition], ..plain(a.period, a.phase) })
 }

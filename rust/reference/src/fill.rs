@@ -1,7 +1,7 @@
 //! Inputs with no rate written: the filling that the check accepts, looked for among all fillings.
 
 use crate::check::clocks_of;
-use crate::rows::{needed, row, table, test_table, Row, UNRATED};
+use crate::rows::{needed, row, table, test_table, Known, Row, UNRATED};
 use crate::{answer, refuse, refuse_at, success, Answer, Refused};
 
 /// A period and a phase.
@@ -55,13 +55,13 @@ pub fn fill_rates_within(limits: Limits, plan_count: u32, words: &[u32], filled:
 ///
 /// If the table is refused.
 pub fn accepted_fillings(limits: Limits, words: &[u32]) -> Vec<Vec<u32>> {
-    test_table(words.len() as u32 / 4, words, UNRATED).expect("a table");
+    test_table(words.len() as u32 / 4, words, Known::All).expect("a table");
     accepted(words, &vec![limits.rates(); words.len() / 4])
 }
 
 /// Row refusals, 39, 21 and 10, or the accepted filling in the output; `rates` are those to try for each flow.
 fn fill(plan_count: u32, words: &[u32], filled: &mut [u32], rates: impl FnOnce() -> Vec<Vec<Rate>>) -> Refused<Answer> {
-    test_table(plan_count, words, UNRATED)?;
+    test_table(plan_count, words, Known::All)?;
     if let Some(flow) = joined(words).iter().position(|is_joined| !is_joined) {
         return refuse_at(39, flow);
     }
@@ -75,14 +75,19 @@ fn fill(plan_count: u32, words: &[u32], filled: &mut [u32], rates: impl FnOnce()
     Ok(success(table.len() / 4))
 }
 
-/// Which flows a chain joins to a rated input or constant. Two flows are joined when they stand in one row, a result
-/// with its operands, beat and source.
+/// The flows that a row joins with its result: its operands, beat and source, but when-seen and when-not-seen a only.
+fn joins(row: &[u32]) -> impl Iterator<Item = usize> + '_ {
+    let a_only = matches!(row[0], 17 | 18);
+    needed(row).take(if a_only { 1 } else { 3 })
+}
+
+/// Which flows a chain joins to a rated input or constant.
 fn joined(words: &[u32]) -> Vec<bool> {
     let mut joined: Vec<bool> = words.chunks(4).map(|row| written(row).is_some()).collect();
     // A chain has at most as many steps as there are flows.
     for _ in 0..joined.len() {
         for (result, row) in words.chunks(4).enumerate() {
-            for other in needed(row) {
+            for other in joins(row) {
                 let either = joined[result] || joined[other];
                 (joined[result], joined[other]) = (either, either);
             }
@@ -118,14 +123,14 @@ fn accepted(words: &[u32], rates: &[Vec<Rate>]) -> Vec<Vec<u32>> {
 /// For each flow all rates that it may have in an accepted filling, every flow being joined to a rated one.
 ///
 /// An accepted filling gives each flow a clock within the limits, and so a rate; a rated row's is the one that is
-/// written. Conditions aside, a row's rule gives the result's rate from that of any of its operands, its beat or its
-/// source. So a flow that stands in one row with another whose rates are known has a rate to which the rule leads from
-/// one of these, or one from which it leads to one of these. The latter are found by trying every rate.
+/// written. Conditions aside, a row's rule gives the result's rate from that of any flow that the row joins with it. So a
+/// flow that a row joins with another whose rates are known has a rate to which the rule leads from one of these, or one
+/// from which it leads to one of these. The latter are found by trying every rate.
 fn possible(words: &[u32]) -> Vec<Vec<Rate>> {
     let mut rates: Vec<Option<Vec<Rate>>> = words.chunks(4).map(|row| written(row).map(|rate| vec![rate])).collect();
     while rates.contains(&None) {
         for (result, words) in words.chunks(4).enumerate() {
-            for other in needed(words) {
+            for other in joins(words) {
                 match (&rates[result], &rates[other]) {
                     (None, Some(known)) => rates[result] = Some(led_to(&row(words), known)),
                     (Some(known), None) => rates[other] = Some(leading_to(&row(words), known)),
@@ -137,13 +142,13 @@ fn possible(words: &[u32]) -> Vec<Vec<Rate>> {
     rates.into_iter().flatten().collect()
 }
 
-/// The rates of a row's result, those of an operand, beat or source being known.
+/// The rates of a row's result, those of a flow that the row joins with it being known.
 fn led_to(row: &Row, known: &[Rate]) -> Vec<Rate> {
     let result = |&(n, p): &Rate| Some((result_period(row, n)?, result_phase(row, n, p)?));
     known.iter().filter_map(result).filter(|&rate| WRITTEN.have(rate)).collect()
 }
 
-/// The rates of an operand, beat or source, those of the row's result being known.
+/// The rates of a flow that a row joins with its result, those of the result being known.
 fn leading_to(row: &Row, known: &[Rate]) -> Vec<Rate> {
     let mut rates = Vec::new();
     for &(period, phase) in known {
@@ -154,7 +159,7 @@ fn leading_to(row: &Row, known: &[Rate]) -> Vec<Rate> {
     rates
 }
 
-/// The period that a row's rule gives its result where an operand, beat or source has the period n, if it gives one.
+/// The period that a row's rule gives its result where a flow joined with it has the period n, if it gives one.
 fn result_period(row: &Row, n: u32) -> Option<u32> {
     match *row {
         Row::Faster { k, gap, .. } => (n == k * gap).then_some(gap),
@@ -163,7 +168,7 @@ fn result_period(row: &Row, n: u32) -> Option<u32> {
     }
 }
 
-/// The phase that a row's rule gives its result where an operand, beat or source has the rate (n, p), if it gives one.
+/// The phase that a row's rule gives its result where a flow joined with it has the rate (n, p), if it gives one.
 fn result_phase(row: &Row, n: u32, p: u32) -> Option<u32> {
     match *row {
         Row::Later { d, .. } => Some(p + d),

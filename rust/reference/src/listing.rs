@@ -1,7 +1,7 @@
 //! The listing of a packed table: its clocks, or the one line of its refusal.
 
 use crate::check::clocks_of;
-use crate::clock::Clock;
+use crate::clock::{Clock, Condition};
 use crate::packed::unpack;
 use crate::rows::table;
 use crate::{answer, refuse, success, Answer, Refused, LISTING_MAX};
@@ -36,10 +36,21 @@ fn accepted(clocks: &[Clock]) -> String {
     lines
 }
 
-/// The letter `c`, the flow, and `+` for true or `-` for false; several follow each other without spaces.
+/// The conditions of a clock; several follow each other without spaces.
 fn conditions(clock: &Clock) -> String {
     if clock.conditions.is_empty() {
         return "-".to_string();
     }
-    clock.conditions.iter().map(|&(flow, truth)| format!("c{flow}{}", if truth { '+' } else { '-' })).collect()
+    clock.conditions.iter().map(condition).collect()
+}
+
+/// The letter `c`, the flow, and `+` for true or `-` for false, with `@w` appended where w isn't 0.
+fn condition(condition: &Condition) -> String {
+    let Condition { flow, truth, view: w } = *condition;
+    let sign = if truth { '+' } else { '-' };
+    if w == 0 {
+        format!("c{flow}{sign}")
+    } else {
+        format!("c{flow}{sign}@{w}")
+    }
 }

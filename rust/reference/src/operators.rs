@@ -35,6 +35,11 @@ impl History {
         (0..t).filter(move |&earlier| self.present(a, earlier))
     }
 
+    /// The tick of a flow's first presence, if it has begun by tick t, t included.
+    fn first_presence(&self, a: usize, t: usize) -> Option<usize> {
+        (0..=t).find(|&tick| self.present(a, tick))
+    }
+
     /// The tick of a flow's latest earlier presence.
     fn latest_earlier_presence(&self, a: usize, t: usize) -> Option<usize> {
         self.earlier_presences(a, t).next_back()
@@ -61,6 +66,8 @@ pub fn work_out(row: &Row, t: usize, logged: u32, history: &History) -> Result<C
         Row::When { a, c } => sampled(history.cell(a, t), history.cell(c, t), |c| c != 0),
         Row::WhenNot { a, c } => sampled(history.cell(a, t), history.cell(c, t), |c| c == 0),
         Row::Merge { c, a, b } => merge(history.cell(c, t), history.cell(a, t), history.cell(b, t)),
+        Row::WhenSeen { a, c, w } => seen(history, a, c, w as usize, |c| c != 0, t),
+        Row::WhenNotSeen { a, c, w } => seen(history, a, c, w as usize, |c| c == 0, t),
     }
 }
 
@@ -180,4 +187,24 @@ fn merge(c: Cell, a: Cell, b: Cell) -> Result<Cell, Clash> {
         (Some(0), None, Some(b)) => Ok(Some(b)),
         _ => Err(Clash),
     }
+}
+
+/// At tick t with a present, let t1 be the latest tick not past t that lies zero or more times w after a's first tick;
+/// the condition is c's value at t1 minus a's first tick plus c's first tick. That tick past t, c absent at it, or c not
+/// yet begun is a clash. Present when the condition is as wanted, with a's value.
+fn seen(history: &History, a: usize, c: usize, w: usize, wanted: fn(u32) -> bool, t: usize) -> Result<Cell, Clash> {
+    let Some(value) = history.cell(a, t) else { return Ok(None) };
+    let first_of_a = history.first_presence(a, t).expect("a is present at t");
+    let Some(first_of_c) = history.first_presence(c, t) else { return Err(Clash) };
+    let shifted = latest_view(first_of_a, w, t) - first_of_a + first_of_c;
+    if shifted > t {
+        return Err(Clash);
+    }
+    let Some(condition) = history.cell(c, shifted) else { return Err(Clash) };
+    Ok(wanted(condition).then_some(value))
+}
+
+/// The latest tick not past t that lies zero or more times w after a first tick, which is not past t.
+fn latest_view(first: usize, w: usize, t: usize) -> usize {
+    (first..=t).rev().find(|tick| (tick - first).is_multiple_of(w)).expect("the first lies zero times w after itself")
 }

@@ -1,7 +1,7 @@
 //! The packed table: reading it into plain words, and writing it from them.
 
 use crate::bits::{bytes, put, Bits};
-use crate::rows::{fields, test_count, test_fields, test_kind, test_table, UNRATED};
+use crate::rows::{fields, test_count, test_fields, test_kind, test_table, Known};
 use crate::{answer, refuse, refuse_at, success, Answer, Refused};
 
 /// Reads a packed table into plain words, four a flow. The count of the answer is that of the flows.
@@ -17,7 +17,7 @@ pub fn read(packed: &[u8], words: &mut [u32]) -> Answer {
 
 /// Writes plain words as a packed table. The count of the answer is that of the bytes.
 pub fn write(plan_count: u32, words: &[u32], packed: &mut [u8]) -> Answer {
-    answer(test_table(plan_count, words, UNRATED).and_then(|()| {
+    answer(test_table(plan_count, words, Known::All).and_then(|()| {
         let bytes = pack(plan_count, words);
         if packed.len() < bytes.len() {
             return refuse(10);
@@ -47,7 +47,7 @@ pub fn unpack(packed: &[u8]) -> Refused<Vec<u32>> {
 /// The four words of one packed row: its kind, then its fields, unused words 0.
 fn unpack_row(bits: &mut Bits, flow: usize) -> Refused<[u32; 4]> {
     let Some(kind) = bits.field(5) else { return refuse_at(12, flow) };
-    test_kind(flow, kind, UNRATED)?;
+    test_kind(flow, kind, Known::All)?;
     let mut words = [kind, 0, 0, 0];
     for (word, field) in words[1..].iter_mut().zip(fields(kind)) {
         let Some(number) = bits.field(field.width()) else { return refuse_at(12, flow) };

@@ -2,7 +2,7 @@
 
 use crate::{refuse, refuse_at, Refused};
 
-/// One row of a table that is checked or run, so of kinds 0 to 15. `a`, `b`, `c`, `beat` and `source` are flow numbers.
+/// One row of a table that is checked or run, so of any kind but 16. `a`, `b`, `c`, `beat` and `source` are flow numbers.
 #[derive(Clone, Copy, Debug)]
 pub enum Row {
     Input { period: u32, phase: u32 },
@@ -21,6 +21,8 @@ pub enum Row {
     When { a: usize, c: usize },
     WhenNot { a: usize, c: usize },
     Merge { c: usize, a: usize, b: usize },
+    WhenSeen { a: usize, c: usize, w: u32 },
+    WhenNotSeen { a: usize, c: usize, w: u32 },
 }
 
 /// What a field of a row is.
@@ -34,27 +36,28 @@ pub enum Field {
     Phase,
     D,
     S,
+    View,
     Value,
 }
 
 use Field::*;
 
 impl Field {
-    /// Flow numbers and k take 6 bits; period, phase, gap, d and s take 12; values take 32.
+    /// Flow numbers and k take 6 bits; period, phase, gap, d, s and a view period take 12; values take 32.
     pub fn width(self) -> u32 {
         match self {
             Operand | Source | K => 6,
-            Period | Gap | Phase | D | S => 12,
+            Period | Gap | Phase | D | S | View => 12,
             Value => 32,
         }
     }
 
-    /// Period and g: 1 to 4095. Phase, d, s: 0 to 4095. k: 1 to 63. Values: any 32-bit number.
+    /// Period, g and a view period: 1 to 4095. Phase, d, s: 0 to 4095. k: 1 to 63. Values: any 32-bit number.
     fn in_range(self, word: u32) -> bool {
         match self {
             Operand | Source => word <= 63,
             K => (1..=63).contains(&word),
-            Period | Gap => (1..=4095).contains(&word),
+            Period | Gap | View => (1..=4095).contains(&word),
             Phase | D | S => word <= 4095,
             Value => true,
         }
@@ -81,16 +84,24 @@ pub fn fields(kind: u32) -> &'static [Field] {
         13 | 14 => &[Operand, Operand],
         15 => &[Operand, Operand, Operand],
         16 => &[],
+        17 | 18 => &[Operand, Operand, View],
         _ => unreachable!("the kind was tested"),
     }
 }
 
-/// The last kind that reading and writing know, the input without fields; check and run know those before it.
+/// The kind of the input without fields.
 pub const UNRATED: u32 = 16;
 
-/// Number 13: kind above the last that is known.
-pub fn test_kind(flow: usize, kind: u32, last: u32) -> Refused<()> {
-    if kind > last {
+/// The kinds that a call knows: 0 to 18, and only those that read, write or fill a table the input without fields.
+#[derive(Clone, Copy, Debug, PartialEq, Eq)]
+pub enum Known {
+    All,
+    AllButUnrated,
+}
+
+/// Number 13: a kind above 18, or the input without fields where it is not known.
+pub fn test_kind(flow: usize, kind: u32, known: Known) -> Refused<()> {
+    if kind > 18 || kind == UNRATED && known == Known::AllButUnrated {
         return refuse_at(13, flow);
     }
     Ok(())
@@ -116,7 +127,7 @@ pub fn test_fields(flow: usize, count: usize, words: &[u32]) -> Refused<()> {
     Ok(())
 }
 
-/// The row of four words that passed every test, of kinds 0 to 15.
+/// The row of four words that passed every test, of any kind but 16.
 pub fn row(words: &[u32]) -> Row {
     let (x, y, z) = (words[1], words[2], words[3]);
     let (flow_x, flow_y, flow_z) = (x as usize, y as usize, z as usize);
@@ -137,6 +148,8 @@ pub fn row(words: &[u32]) -> Row {
         13 => Row::When { a: flow_x, c: flow_y },
         14 => Row::WhenNot { a: flow_x, c: flow_y },
         15 => Row::Merge { c: flow_x, a: flow_y, b: flow_z },
+        17 => Row::WhenSeen { a: flow_x, c: flow_y, w: z },
+        18 => Row::WhenNotSeen { a: flow_x, c: flow_y, w: z },
         _ => unreachable!("the kind was tested"),
     }
 }
@@ -149,14 +162,14 @@ pub fn test_count(count: u32) -> Refused<usize> {
     Ok(count as usize)
 }
 
-/// The refusals of a count and plain words, in the paper's order, kinds being known up to a last one.
-pub fn test_table(plan_count: u32, words: &[u32], last: u32) -> Refused<()> {
+/// The refusals of a count and plain words, in the paper's order.
+pub fn test_table(plan_count: u32, words: &[u32], known: Known) -> Refused<()> {
     let count = test_count(plan_count)?;
     if words.len() != 4 * count {
         return refuse(11);
     }
     for (flow, words) in words.chunks(4).enumerate() {
-        test_kind(flow, words[0], last)?;
+        test_kind(flow, words[0], known)?;
         test_fields(flow, count, words)?;
     }
     Ok(())
@@ -164,7 +177,7 @@ pub fn test_table(plan_count: u32, words: &[u32], last: u32) -> Refused<()> {
 
 /// The table that a count and plain words stand for where it is checked or run: without kind 16.
 pub fn table(plan_count: u32, words: &[u32]) -> Refused<Vec<Row>> {
-    test_table(plan_count, words, UNRATED - 1)?;
+    test_table(plan_count, words, Known::AllButUnrated)?;
     Ok(words.chunks(4).map(row).collect())
 }
 
