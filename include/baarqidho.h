@@ -17,9 +17,14 @@
  *   13, 14    when, when-not                        a, c
  *   15        merge                                 c, a, b
  *   16        input without a rate                  none
+ *   17, 18    when-seen, when-not-seen              a, c, view period w
  *
  * Kind 16 is an input whose period and phase are not written. Reading and writing take it, and baarqidho_fill_rates
  * makes an input of kind 0 of it; every other call refuses it with 13, the listing in its text.
+ *
+ * Kinds 17 and 18 have the values of a where c is not zero (17) or zero (18), as kinds 13 and 14 have, but c need not
+ * be at a's pace: it is looked at every w ticks, 1 to 4095, and what was seen counts for w ticks of a. baarqidho_check
+ * says what it asks of a, c and w, and baarqidho_run at which tick c is looked at.
  *
  * A value is any 32-bit word. Less and larger read it as a signed number, in two's complement: less is 1 where a is
  * below b, else 0, and larger is the greater of the two. Add and subtract are modulo 2 to the 32, for signed numbers and
@@ -51,14 +56,14 @@ extern "C" {
 
 /* The words of a row in plain form, of a clock, and of a flow's tally. */
 #define BAARQIDHO_ROW_WORDS 4
-#define BAARQIDHO_CLOCK_WORDS 7
+#define BAARQIDHO_CLOCK_WORDS 11
 #define BAARQIDHO_TALLY_WORDS 2
 
 /* The bytes of the longest packed table. */
 #define BAARQIDHO_PACKED_MAX 489
 
 /* The bytes that a text buffer needs before any listing is made. */
-#define BAARQIDHO_LISTING_MAX 1926
+#define BAARQIDHO_LISTING_MAX 2246
 
 /* The bytes of a load page's line, its line feed too, and of the longest page. */
 #define BAARQIDHO_PAGE_LINE 26
@@ -70,13 +75,13 @@ enum baarqidho_number {
     BAARQIDHO_OUTPUT_TOO_SHORT = 10,   /* the output has fewer cells than needed */
     BAARQIDHO_BAD_COUNT = 11,          /* count not 1 to 64, or plain words not 4 a flow */
     BAARQIDHO_ENDS_TOO_EARLY = 12,     /* packed bits end too early; the row in flow */
-    BAARQIDHO_UNKNOWN_KIND = 13,       /* kind above 16, or 16 where rates have to be written; the row in flow */
+    BAARQIDHO_UNKNOWN_KIND = 13,       /* kind above 18, or 16 where rates have to be written; the row in flow */
     BAARQIDHO_FIELD_OUT_OF_RANGE = 14, /* field outside its range, or unused word not 0; the row in flow */
     BAARQIDHO_BAD_OPERAND = 15,        /* operand not a lower flow, or source not in the table; the row in flow */
     BAARQIDHO_NOT_THE_END = 16,        /* filling bit not 0, or a further byte */
     BAARQIDHO_CLOCKS_DIFFER = 21,      /* clocks not as the rules need; names the flow, 0 where rates are filled in */
     BAARQIDHO_BEYOND_LIMITS = 22,      /* derived period or phase above 4095, or a fifth condition; names the flow */
-    BAARQIDHO_NOT_PLAIN = 23,          /* kinds 8 to 12 over a clock with conditions; names the flow */
+    BAARQIDHO_NOT_PLAIN = 23,          /* kinds 8 to 12, 17 and 18 over a clock with conditions; names the flow */
     BAARQIDHO_TOO_MANY_TICKS = 31,     /* more than 65,535 ticks, or 4,194,303 in a long run */
     BAARQIDHO_BAD_LOG_LENGTH = 32,     /* log length not ticks x inputs */
     BAARQIDHO_TRACE_TOO_SHORT = 33,    /* mark or value trace below ticks x flows */
@@ -85,7 +90,8 @@ enum baarqidho_number {
     BAARQIDHO_BAD_TIMES_LENGTH = 36,   /* worst times not one a flow */
     BAARQIDHO_PAGE_TOO_SHORT = 37,     /* page below 26 x (flows + 1) bytes */
     BAARQIDHO_NOT_DIFFERING = 38,      /* the check does not answer the plan with 21 */
-    BAARQIDHO_UNJOINED = 39            /* no chain joins the flow to a rated one; names the lowest such flow */
+    BAARQIDHO_UNJOINED = 39,           /* no chain joins the flow to a rated one; names the lowest such flow */
+    BAARQIDHO_BAD_VIEW = 40            /* w no multiple of both periods, or c's phase above a's; names the flow */
 };
 
 /*
@@ -95,7 +101,7 @@ enum baarqidho_number {
  * Refusals, in this order, each of which leaves all of `words` as it was:
  *   12  no bytes at all (flow 0)
  *   11  the count byte is not 1 to 64
- *   row by row, the row in flow: 12 the bits end within the kind, 13 the kind is above 16, 12 they end within the
+ *   row by row, the row in flow: 12 the bits end within the kind, 13 the kind is above 18, 12 they end within the
  *       fields, 14 a field is outside its range, 15 an operand is not a lower flow or a source not in the table
  *   16  a filling bit is not 0, or a further byte follows
  *   10  `words` has fewer than 4 words a flow
@@ -110,7 +116,7 @@ uint32_t baarqidho_read(const uint8_t *packed, size_t packed_len,
  * Success: count is the number of bytes; exactly those are written, later ones are left as they were.
  * Refusals, in this order, each of which leaves all of `packed` as it was:
  *   11  plan_count is not 1 to 64, or words_len is not 4 x plan_count
- *   row by row, the row in flow: 13 the kind is above 16, 14 a field is outside its range or an unused word is not 0,
+ *   row by row, the row in flow: 13 the kind is above 18, 14 a field is outside its range or an unused word is not 0,
  *       15 an operand is not a lower flow or a source not in the table
  *   10  `packed` has fewer bytes than the table needs (BAARQIDHO_PACKED_MAX is enough for every table)
  */
@@ -119,15 +125,20 @@ uint32_t baarqidho_write(uint32_t plan_count, const uint32_t *words, size_t word
                          uint32_t *flow, uint32_t *tick, uint32_t *count);
 
 /*
- * Gives each flow its clock in seven words: period, phase, how many conditions, and four words 2 x flow + 1 for true
- * or 2 x flow for false in order of sampling, unused ones 0.
+ * Gives each flow its clock in eleven words:
+ *   0        period
+ *   1        phase
+ *   2        how many conditions
+ *   3 to 6   the conditions in order of sampling, each 2 x flow + 1 for true or 2 x flow for false, unused ones 0
+ *   7 to 10  the view period of each condition in the same order, 0 where it is sampled directly, unused ones 0
  *
- * Success: count is the number of flows; exactly 7 x count words are written, later ones are left as they were.
+ * Success: count is the number of flows; exactly 11 x count words are written, later ones are left as they were.
  * Refusals, in this order, each of which leaves all of `clocks` as it was:
  *   11, then row by row 13, 14, 15, as in baarqidho_write, but 13 for kind 16 too
- *   10  `clocks` has fewer than 7 words a flow
- *   row by row, the flow named: 23 kinds 8 to 12 over a clock with conditions, 21 the clocks are not as the rules
- *       need, 22 a derived period or phase above 4095 or a fifth condition
+ *   10  `clocks` has fewer than 11 words a flow
+ *   row by row, the flow named: 23 kinds 8 to 12 over a clock with conditions, kinds 17 and 18 where a or c has one,
+ *       21 the clocks are not as the rules need, 22 a derived period or phase above 4095 or a fifth condition, 40 kinds
+ *       17 and 18 where w is not a multiple of both periods or c's phase is above a's
  *   21  a register whose source has another clock than its beat, lowest register first, the register named
  */
 uint32_t baarqidho_check(uint32_t plan_count, const uint32_t *words, size_t words_len,
@@ -137,6 +148,11 @@ uint32_t baarqidho_check(uint32_t plan_count, const uint32_t *words, size_t word
 /*
  * Runs a table over a log. The log has, for each tick from 0, one word per input row in row order. The trace has one
  * cell per tick and flow, tick after tick: a mark (1 present, 0 absent) and a value, 0 where absent.
+ *
+ * Kinds 17 and 18 are absent where a is. Where a is present, at tick t, let a's first presence be at tick s and c's at
+ * tick r. Then c's value at tick r + w x ((t - s) / w) decides, the quotient without its fraction: the row has a's
+ * value if it is not zero (17) or zero (18), else it is absent. It is a clash if c has had no presence by tick t, if
+ * the tick that decides is past t, or if c is absent at it.
  *
  * Success: count is `ticks`; exactly ticks x plan_count cells are written in each trace, later ones are left as they
  * were. Refusals, in this order:
@@ -165,7 +181,7 @@ uint32_t baarqidho_run(uint32_t plan_count, const uint32_t *words, size_t words_
  * its other places, and all cells and words behind the window and the tallies, are left as they were. Every flow's
  * tally is written, 0 and 0 after no ticks. Refusals, in this order:
  *   11, then row by row 13, 14, 15, as in baarqidho_check
- *   row by row 23, 21, 22, then 21 of a register's source, as in baarqidho_check
+ *   row by row 23, 21, 22, 40, then 21 of a register's source, as in baarqidho_check
  *   31  more than 4,194,303 ticks
  *   32  log_len is not ticks x the number of input rows
  *   35  marks_len or values_len is below BAARQIDHO_WINDOW_TICKS x plan_count, however few the ticks, or tallies_len is
@@ -183,7 +199,9 @@ uint32_t baarqidho_long_run(uint32_t plan_count, const uint32_t *words, size_t w
 
 /*
  * Lists a packed table as text: a line `ok COUNT` and for each flow a line `FLOW PERIOD PHASE CONDITIONS`, or the one
- * line `no NUMBER FLOW` of a refusal, of reading or of the check. Every line ends in a line feed; no zero byte follows.
+ * line `no NUMBER FLOW` of a refusal, of reading or of the check. CONDITIONS is `-` where there are none; a condition
+ * is `c`, its flow, `+` for true or `-` for false, and, if it has a view period, `@` and that, as in `c1+@30c2-`. Every
+ * line ends in a line feed; no zero byte follows.
  *
  * In both cases the number is 0 and count is the length of the text; exactly that many bytes are written, later ones
  * are left as they were. Refusal:
@@ -204,7 +222,7 @@ uint32_t baarqidho_listing(const uint8_t *packed, size_t packed_len,
  * Success: count is the length of the page, BAARQIDHO_PAGE_LINE x (plan_count + 1); exactly that many bytes are
  * written, later ones are left as they were. Refusals, in this order, each of which leaves all of `page` as it was:
  *   11, then row by row 13, 14, 15, as in baarqidho_check
- *   row by row 23, 21, 22, then 21 of a register's source, as in baarqidho_check
+ *   row by row 23, 21, 22, 40, then 21 of a register's source, as in baarqidho_check
  *   36  times_len is not plan_count
  *   37  `page` has fewer bytes than the page needs (BAARQIDHO_PAGE_MAX is enough for every table)
  */
@@ -222,7 +240,7 @@ uint32_t baarqidho_load_page(uint32_t plan_count, const uint32_t *words, size_t 
  * Success: count is the number of the part's flows; its rows are written in plain form, exactly 4 x count words, later
  * ones are left as they were. Refusals, in this order, each of which leaves all of `part` as it was:
  *   11, then row by row 13, 14, 15, as in baarqidho_check
- *   38  the check answers the plan with 0, 22 or 23, even if it would answer a part of it with 21
+ *   38  the check answers the plan with 0, 22, 23 or 40, even if it would answer a part of it with 21
  *   10  `part` has fewer than 4 words for each flow of the least part (words_len words are enough)
  */
 uint32_t baarqidho_least_part(uint32_t plan_count, const uint32_t *words, size_t words_len,
@@ -244,14 +262,14 @@ uint32_t baarqidho_least_flows(uint32_t plan_count, const uint32_t *words, size_
 
 /*
  * Fills in period and phase of each input without a rate. Two flows are joined when they stand in one row, a result
- * with its operands, beat and source; a flow is rated when it is an input of kind 0 or a constant. Where a chain joins
- * each flow to a rated one, the check accepts at most one filling with periods 1 to 4095 and phases 0 to 4095. A plan
- * without kind 16 has one filling, itself.
+ * with its operands, beat and source; kinds 17 and 18 join their result with a only. A flow is rated when it is an
+ * input of kind 0 or a constant. Where a chain joins each flow to a rated one, the check accepts at most one filling
+ * with periods 1 to 4095 and phases 0 to 4095. A plan without kind 16 has one filling, itself.
  *
  * Success: count is the number of flows; the plan with each row of kind 16 as an input of kind 0 is written in plain
  * form, exactly 4 x count words, later ones are left as they were. The check accepts it. Refusals, in this order, each
  * of which leaves all of `filled` as it was:
- *   11, then row by row 13, 14, 15, as in baarqidho_write: 13 is for kinds above 16
+ *   11, then row by row 13, 14, 15, as in baarqidho_write: 13 is for kinds above 18
  *   39  no chain joins a flow to a rated one, even if the check accepts some filling; the lowest such flow is named
  *   21  the check accepts no filling, whatever it answers them with; flow is 0
  *   10  `filled` has fewer than 4 words a flow (words_len words are enough)

@@ -56,6 +56,7 @@ impl Answer {
             37 => Refusal::PageTooShort,
             38 => Refusal::NotDiffering,
             39 => Refusal::Unjoined { flow },
+            40 => Refusal::BadView { flow },
             _ => Refusal::Other { number },
         })
     }
@@ -75,7 +76,7 @@ pub enum Refusal {
         /// The row in which they end.
         row: u32,
     },
-    /// 13: a kind above 16, or 16 ([`Row::Unrated`](crate::Row::Unrated)) where rates have to be written.
+    /// 13: a kind above 18, or 16 ([`Row::Unrated`](crate::Row::Unrated)) where rates have to be written.
     UnknownKind {
         /// The row of that kind.
         row: u32,
@@ -102,7 +103,8 @@ pub enum Refusal {
         /// The flow that would have that clock.
         flow: u32,
     },
-    /// 23: faster, slower, later, head or tail over a clock with conditions.
+    /// 23: faster, slower, later, head or tail over a clock with conditions, or when-seen or when-not-seen where `a` or
+    /// `c` has one.
     NotPlain {
         /// The flow of that kind.
         flow: u32,
@@ -132,6 +134,12 @@ pub enum Refusal {
     /// 39: no chain joins a flow to an input or constant that has a rate, so that none can be filled in.
     Unjoined {
         /// The lowest such flow.
+        flow: u32,
+    },
+    /// 40: a view period that is not a multiple of both periods, or a phase of `c` above that of `a`, of when-seen or
+    /// when-not-seen.
+    BadView {
+        /// The flow of that kind.
         flow: u32,
     },
     /// A number that the interface does not name.
@@ -164,6 +172,7 @@ impl Refusal {
             Refusal::PageTooShort => 37,
             Refusal::NotDiffering => 38,
             Refusal::Unjoined { .. } => 39,
+            Refusal::BadView { .. } => 40,
             Refusal::Other { number } => number,
         }
     }
@@ -174,13 +183,13 @@ impl Refusal {
             Refusal::OutputTooShort => "the output has fewer cells than needed",
             Refusal::BadCount => "the count is not 1 to 64, or the words are not four a flow",
             Refusal::EndsTooEarly { .. } => "the packed bits end too early",
-            Refusal::UnknownKind { .. } => "the kind is above 16, or 16 where rates have to be written",
+            Refusal::UnknownKind { .. } => "the kind is above 18, or 16 where rates have to be written",
             Refusal::FieldOutOfRange { .. } => "a field is outside its range, or an unused word is not 0",
             Refusal::BadOperand { .. } => "an operand is not a lower flow, or a source is not in the table",
             Refusal::NotTheEnd => "a filling bit is not 0, or a further byte follows",
             Refusal::ClocksDiffer { .. } => "the clocks are not as the rules need",
             Refusal::BeyondLimits { .. } => "a period or phase above 4095, or a fifth condition",
-            Refusal::NotPlain { .. } => "this kind needs a clock without conditions",
+            Refusal::NotPlain { .. } => "this kind needs clocks without conditions",
             Refusal::TooManyTicks => "more than 65,535 ticks, or 4,194,303 in a long run",
             Refusal::BadLogLength => "the log has not one word per tick and input",
             Refusal::TraceTooShort => "a trace has less than one cell per tick and flow",
@@ -190,6 +199,7 @@ impl Refusal {
             Refusal::PageTooShort => "the page has less than a line for each flow and the total",
             Refusal::NotDiffering => "the check does not answer the plan with 21",
             Refusal::Unjoined { .. } => "no chain joins it to an input or constant that has a rate",
+            Refusal::BadView { .. } => "the view period is not a multiple of both periods, or c begins after a",
             Refusal::Other { .. } => "a number that the interface does not name",
         }
     }
@@ -205,7 +215,8 @@ impl Display for Refusal {
             Refusal::ClocksDiffer { flow }
             | Refusal::BeyondLimits { flow }
             | Refusal::NotPlain { flow }
-            | Refusal::Unjoined { flow } => write!(f, "flow {flow}: ")?,
+            | Refusal::Unjoined { flow }
+            | Refusal::BadView { flow } => write!(f, "flow {flow}: ")?,
             Refusal::Clash { tick, flow } => write!(f, "tick {tick}, flow {flow}: ")?,
             _ => {}
         }

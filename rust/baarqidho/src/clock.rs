@@ -2,26 +2,37 @@
 
 use std::fmt::{self, Display, Formatter};
 
-/// A condition of a clock. It is displayed as a listing has it: `c3+` for true, `c3-` for false.
+use crate::MAX_CONDITIONS;
+
+/// A condition of a clock. It is displayed as a listing has it: `c3+` for true, `c3-` for false, and with its view
+/// period, if it has one, `c3+@30`.
 #[derive(Clone, Copy, Debug, PartialEq, Eq, Hash)]
 #[non_exhaustive]
 pub struct Condition {
-    /// The flow that has to be present.
+    /// The flow whose values decide.
     pub flow: u32,
     /// Whether its value has to be non-zero, or zero.
     pub truth: bool,
+    /// The view period of [`Row::WhenSeen`](crate::Row::WhenSeen) and [`Row::WhenNotSeen`](crate::Row::WhenNotSeen), or
+    /// 0 where the flow is sampled directly, at the tick itself. For tick t of a clock with phase p, a view w reads the
+    /// flow, whose phase is q, at tick q + w × ((t - p) / w), the quotient without its fraction.
+    pub view: u32,
 }
 
 impl Condition {
-    /// The condition of a word: twice the flow, and 1 more for true.
-    fn new(word: u32) -> Self {
-        Condition { flow: word / 2, truth: word % 2 == 1 }
+    /// The condition of two words: twice the flow, and 1 more for true; and the view period.
+    fn new(word: u32, view: u32) -> Self {
+        Condition { flow: word / 2, truth: word % 2 == 1, view }
     }
 }
 
 impl Display for Condition {
     fn fmt(&self, f: &mut Formatter) -> fmt::Result {
-        write!(f, "c{}{}", self.flow, if self.truth { '+' } else { '-' })
+        write!(f, "c{}{}", self.flow, if self.truth { '+' } else { '-' })?;
+        match self.view {
+            0 => Ok(()),
+            view => write!(f, "@{view}"),
+        }
     }
 }
 
@@ -34,6 +45,11 @@ impl Display for Condition {
 /// let clocks = plan.clocks()?;
 /// assert_eq!((clocks[0].to_string(), clocks[1].to_string()), ("4 0 -".into(), "4 0 c0+".into()));
 /// assert_eq!((clocks[1].conditions[0].flow, clocks[1].conditions[0].truth), (0, true));
+///
+/// // A signal and a mode switch that is looked at every 30 ticks.
+/// let (signal, switch) = (Row::Input { period: 10, phase: 5 }, Row::Input { period: 15, phase: 0 });
+/// let clocks = Plan::from_rows([signal, switch, Row::WhenSeen { a: 0, c: 1, w: 30 }]).clocks()?;
+/// assert_eq!((clocks[2].to_string(), clocks[2].conditions[0].view), ("10 5 c1+@30".into(), 30));
 /// # Ok::<(), baarqidho::Refusal>(())
 /// ```
 #[derive(Clone, Debug, PartialEq, Eq, Hash)]
@@ -43,15 +59,17 @@ pub struct Clock {
     pub period: u32,
     /// The first tick, conditions aside.
     pub phase: u32,
-    /// Its conditions in order of sampling, [`MAX_CONDITIONS`](crate::MAX_CONDITIONS) at most.
+    /// Its conditions in order of sampling, [`MAX_CONDITIONS`] at most.
     pub conditions: Vec<Condition>,
 }
 
 impl Clock {
     /// The clock of [`CLOCK_WORDS`](crate::CLOCK_WORDS) words.
     pub(crate) fn new(words: &[u32]) -> Self {
-        let conditions = words[3..].iter().take(words[2] as usize);
-        Clock { period: words[0], phase: words[1], conditions: conditions.copied().map(Condition::new).collect() }
+        let (conditions, views) = words[3..].split_at(MAX_CONDITIONS);
+        let conditions = conditions.iter().zip(views).take(words[2] as usize);
+        let conditions = conditions.map(|(&word, &view)| Condition::new(word, view)).collect();
+        Clock { period: words[0], phase: words[1], conditions }
     }
 }
 

@@ -182,16 +182,20 @@ pub fn write(plan_count: u32, words: &[u32], packed: &mut [u8]) -> Answer {
 }
 
 /// Gives each flow of a plain table its clock, in [`CLOCK_WORDS`](crate::CLOCK_WORDS) words: period, phase, how many
-/// conditions, and for each of these `2 * flow + 1` for true or `2 * flow` for false, unused words 0.
+/// conditions, for each of these `2 * flow + 1` for true or `2 * flow` for false, and from word 7 on the view period of
+/// each, 0 where it is sampled directly. Unused words are 0.
 ///
 /// Success gives the count of flows and writes exactly their words. Refusals, none of which touches `clocks`: 11, 13,
-/// 14, 15, 10 where `clocks` is too short, 23, 21 and 22.
+/// 14, 15, 10 where `clocks` is too short, 23, 21, 22 and 40.
 ///
 /// ```
-/// let mut clocks = [9; 15];
-/// let answer = baarqidho::check(2, &[0, 4, 0, 0, 13, 0, 0, 0], &mut clocks);
-/// assert_eq!((answer.number, answer.count), (0, 2));
-/// assert_eq!(clocks, [4, 0, 0, 0, 0, 0, 0, 4, 0, 1, 1, 0, 0, 0, 9]);
+/// // A reading, when it is not zero, and when it was zero as seen every 8 ticks.
+/// let mut clocks = [9; 34];
+/// let answer = baarqidho::check(3, &[0, 4, 0, 0, 13, 0, 0, 0, 18, 0, 0, 8], &mut clocks);
+/// assert_eq!((answer.number, answer.count), (0, 3));
+/// assert_eq!(clocks[..11], [4, 0, 0, 0, 0, 0, 0, 0, 0, 0, 0]);
+/// assert_eq!(clocks[11..22], [4, 0, 1, 1, 0, 0, 0, 0, 0, 0, 0]);
+/// assert_eq!(clocks[22..], [4, 0, 1, 0, 0, 0, 0, 8, 0, 0, 0, 9]);
 /// ```
 pub fn check(plan_count: u32, words: &[u32], clocks: &mut [u32]) -> Answer {
     answer(|flow, tick, count| {
@@ -255,7 +259,7 @@ pub fn run(plan_count: u32, words: &[u32], log: &[u32], ticks: u32, marks: &mut 
 /// flow are kept: how many values it had, and its last one, 0 if it had none.
 ///
 /// Success gives the count of ticks, and writes the tallies and the cells of the window that the ticks reach. Refusals
-/// that touch nothing: 11, 13, 14, 15, those of the check (23, 21 and 22), 31, 32, and 35 where marks, values or
+/// that touch nothing: 11, 13, 14, 15, those of the check (23, 21, 22 and 40), 31, 32, and 35 where marks, values or
 /// tallies are too short, however few the ticks. A clash, 34, names tick and flow: each cell of the window is the last
 /// one worked out for its place, if any, and the tallies are those of the cells worked out by then.
 ///
@@ -331,7 +335,7 @@ pub fn listing(packed: &[u8], text: &mut [u8]) -> Answer {
 /// period, to the nearest whole, the half going up.
 ///
 /// Success gives the count of bytes and writes exactly those. Refusals, none of which touches `page`: 11, 13, 14, 15,
-/// those of the check (23, 21 and 22), 36 where `times` is not one a flow, and 37 where `page` is too short.
+/// those of the check (23, 21, 22 and 40), 36 where `times` is not one a flow, and 37 where `page` is too short.
 /// [`PAGE_MAX`](crate::PAGE_MAX) bytes are enough for every table.
 ///
 /// ```
@@ -432,8 +436,9 @@ pub fn least_flows(plan_count: u32, words: &[u32], flows: &mut [u32]) -> Answer 
 
 /// Fills in period and phase of each input without a rate, kind 16, and gives the whole table in plain words,
 /// [`ROW_WORDS`](crate::ROW_WORDS) a flow. Two flows are joined when they stand in one row, a result with its operands,
-/// beat and source. Where a chain joins each flow to an input or constant that has a rate, the check accepts at most
-/// one filling with periods 1 to 4095 and phases 0 to 4095: that is the one.
+/// beat and source; kinds 17 and 18 join their result with `a` only. Where a chain joins each flow to an input or
+/// constant that has a rate, the check accepts at most one filling with periods 1 to 4095 and phases 0 to 4095: that is
+/// the one.
 ///
 /// Success gives the count of flows and writes exactly their words. Refusals, none of which touches `filled`: 11, 13,
 /// 14, 15, 39 with the lowest flow that no chain joins to one with a rate, 21 with flow 0 where the check accepts no

@@ -62,8 +62,8 @@ pub const ROW_WORDS: usize = 4;
 /// The most conditions a clock has.
 pub const MAX_CONDITIONS: usize = 4;
 
-/// The words of a clock: period, phase, how many conditions, and the conditions.
-pub const CLOCK_WORDS: usize = 3 + MAX_CONDITIONS;
+/// The words of a clock: period, phase, how many conditions, the conditions, and their view periods.
+pub const CLOCK_WORDS: usize = 3 + 2 * MAX_CONDITIONS;
 
 /// The most ticks of a run.
 pub const MAX_TICKS: u32 = 65_535;

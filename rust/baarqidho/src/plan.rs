@@ -87,7 +87,7 @@ impl Plan {
     ///
     /// # Errors
     ///
-    /// The refusal of [`check()`], if it does not accept the plan: 11, 13, 14, 15, 21, 22 or 23.
+    /// The refusal of [`check()`], if it does not accept the plan: 11, 13, 14, 15, 21, 22, 23 or 40.
     pub fn clocks(&self) -> Result<Vec<Clock>, Refusal> {
         let mut words = [0; CLOCK_WORDS * MAX_FLOWS];
         let flows = check(self.count(), &self.words, &mut words).result()?;
@@ -144,8 +144,8 @@ impl Plan {
     ///
     /// # Errors
     ///
-    /// The refusal of [`long_run()`]: 11, 13, 14, 15, 21, 22, 23, 31 or 32. A plan that the check accepts has no clash;
-    /// should the library answer one all the same, it is [`Refusal::Clash`].
+    /// The refusal of [`long_run()`]: 11, 13, 14, 15, 21, 22, 23, 40, 31 or 32. A plan that the check accepts has no
+    /// clash; should the library answer one all the same, it is [`Refusal::Clash`].
     pub fn long_run(&self, log: &[u32], ticks: u32) -> Result<LongRun, Refusal> {
         // Nothing is lent to a run that is refused for its ticks or its count.
         let fits = ticks <= MAX_LONG_TICKS && self.flows() <= MAX_FLOWS;
@@ -185,7 +185,7 @@ impl Plan {
     ///
     /// # Errors
     ///
-    /// The refusal of [`load_page()`]: 11, 13, 14, 15, 21, 22, 23 or 36.
+    /// The refusal of [`load_page()`]: 11, 13, 14, 15, 21, 22, 23, 40 or 36.
     pub fn load_page(&self, times: &[u16]) -> Result<String, Refusal> {
         let mut page = vec![0; PAGE_MAX];
         let bytes = load_page(self.count(), &self.words, times, &mut page).result()?;
@@ -227,8 +227,9 @@ impl Plan {
 
     /// Fills in period and phase of each [`Row::Unrated`]: the plan comes back with a [`Row::Input`] in its place, and
     /// the check accepts it. Two flows are joined when they stand in one row, a result with its operands, beat and
-    /// source. Where a chain joins each flow to an input or constant that has a rate, the check accepts at most one
-    /// filling with periods 1 to 4095 and phases 0 to 4095.
+    /// source; [`Row::WhenSeen`] and [`Row::WhenNotSeen`] join their result with `a` only. Where a chain joins each
+    /// flow to an input or constant that has a rate, the check accepts at most one filling with periods 1 to 4095 and
+    /// phases 0 to 4095.
     ///
     /// ```
     /// use baarqidho::{Plan, Refusal, Row};

@@ -43,6 +43,9 @@ macro_rules! field {
     (tick) => {
         "The tick of the value that is put before, 0 to 4095."
     };
+    (w) => {
+        "The view period: the ticks from one look at c to the next, 1 to 4095."
+    };
 }
 
 /// Makes [`Row`] and both of its conversions from the one table of kinds.
@@ -70,6 +73,28 @@ macro_rules! rows {
         /// let plan = Plan::from_rows([torque, limit, Row::Less { a: 0, b: 1 }, Row::Larger { a: 0, b: 1 }]);
         /// let trace = plan.run(&[], 1)?;
         /// assert_eq!((trace.value(0, 2), trace.value(0, 3)), (Some(1), Some(0)));
+        /// # Ok::<(), baarqidho::RunError>(())
+        /// ```
+        ///
+        /// [`Row::When`] and [`Row::WhenNot`] need a condition at every tick of the flow that it governs.
+        /// [`Row::WhenSeen`] and [`Row::WhenNotSeen`] look at it at a slower pace: a mode switch that is read every 15
+        /// ticks governs a signal that is read every 10. From its first tick on it is looked at every 30 ticks, and
+        /// what was seen counts for 30 ticks of the signal, from the signal's first tick on. The view period is a
+        /// multiple of both periods, and the switch begins no later than the signal.
+        ///
+        /// ```
+        /// use baarqidho::{Plan, Row};
+        ///
+        /// let (signal, switch) = (Row::Input { period: 10, phase: 0 }, Row::Input { period: 15, phase: 0 });
+        /// let plan = Plan::from_rows([signal, switch, Row::WhenSeen { a: 0, c: 1, w: 30 }]);
+        /// assert_eq!(plan.clocks()?[2].to_string(), "10 0 c1+@30");
+        ///
+        /// // The switch is on at first, off from tick 15 on, and on again from tick 45 on; it is seen at 0, 30 and 60.
+        /// let is_on = |tick| u32::from(tick < 15 || tick >= 45);
+        /// let log: Vec<u32> = (0..71).flat_map(|tick| [100 + tick, is_on(tick)]).collect();
+        /// let trace = plan.run(&log, 71)?;
+        /// let governed: Vec<u32> = (0..71).filter_map(|tick| trace.value(tick, 2)).collect();
+        /// assert_eq!(governed, [100, 110, 120, 160, 170]);
         /// # Ok::<(), baarqidho::RunError>(())
         /// ```
         #[derive(Clone, Copy, Debug, PartialEq, Eq, Hash)]
@@ -101,7 +126,7 @@ macro_rules! rows {
                 }
             }
 
-            /// The row of words in plain form, or nothing where they are none: the kind is above 16, or an unused
+            /// The row of words in plain form, or nothing where they are none: the kind is above 18, or an unused
             /// word is not 0.
             ///
             /// ```
@@ -109,7 +134,7 @@ macro_rules! rows {
             ///
             /// assert_eq!(Row::from_words([12, 3, 0, 0]), Some(Row::Tail { a: 3 }));
             /// assert_eq!(Row::from_words([12, 3, 0, 1]), None);
-            /// assert_eq!(Row::from_words([17, 0, 0, 0]), None);
+            /// assert_eq!(Row::from_words([19, 0, 0, 0]), None);
             /// ```
             pub fn from_words(words: [u32; ROW_WORDS]) -> Option<Self> {
                 let mut fields = words.into_iter().skip(1);
@@ -142,6 +167,8 @@ rows! {
     15 => Merge { c, a, b }, "The value of a where c is not zero, of b where c is zero.";
     16 => Unrated,
         "An input whose period and phase are not written: see [`Plan::fill_rates`](crate::Plan::fill_rates).";
+    17 => WhenSeen { a, c, w }, "The values where c, looked at every w ticks, is not zero.";
+    18 => WhenNotSeen { a, c, w }, "The values where c, looked at every w ticks, is zero.";
 }
 
 /// The words of a row, filled up with zeros.
