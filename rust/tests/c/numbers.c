@@ -1,78 +1,8 @@
 /*
  * Reaches every number of the header by its name through a real call, and every limit. Parts of answers, lengths and
- * contents are chosen to differ from each other, so that none can stand for another; buffers are filled before each
- * call, and what a call has to leave as it was is looked at too.
+ * contents are chosen to differ from each other, so that none can stand for another. `views.c` has number 40.
  */
-#include <stdio.h>
-#include <string.h>
-
-#include "baarqidho.h"
-
-#define LENGTH(array) (sizeof(array) / sizeof((array)[0]))
-#define FILLING 0xA5
-
-/* What the calls write into; each uses one of the first two, or both, and the long run all three. */
-static uint8_t bytes[BAARQIDHO_MAX_TICKS + 1];
-static uint32_t words[BAARQIDHO_MAX_TICKS + 1];
-static uint32_t tallies[BAARQIDHO_MAX_FLOWS];
-
-/* The answer of the last call, and what it was. */
-static uint32_t number, flow, tick, count;
-static const char *call;
-static int is_wrong;
-
-static void begin(const char *name)
-{
-    call = name;
-    number = flow = tick = count = 99;
-    memset(bytes, FILLING, sizeof bytes);
-    memset(words, FILLING, sizeof words);
-    memset(tallies, FILLING, sizeof tallies);
-}
-
-static void same(const char *part, uint32_t found, uint32_t expected)
-{
-    if (found != expected) {
-        fprintf(stderr, "%s: %s is %lu, expected %lu\n", call, part, (unsigned long)found, (unsigned long)expected);
-        is_wrong = 1;
-    }
-}
-
-static void answers(uint32_t of_number, uint32_t of_flow, uint32_t of_tick, uint32_t of_count)
-{
-    same("number", number, of_number);
-    same("flow", flow, of_flow);
-    same("tick", tick, of_tick);
-    same("count", count, of_count);
-}
-
-/* A buffer has exactly these words, and is as it was behind them. */
-static void has(const char *part, const uint32_t *buffer, size_t len, const uint32_t *of_words, size_t words_len)
-{
-    uint32_t filling;
-    size_t place;
-
-    memset(&filling, FILLING, sizeof filling);
-    for (place = 0; place < len; place++)
-        same(part, buffer[place], place < words_len ? of_words[place] : filling);
-}
-
-/* The buffers have exactly these bytes and words, and are as they were behind them. */
-static void wrote(const uint8_t *of_bytes, size_t bytes_len, const uint32_t *of_words, size_t words_len)
-{
-    size_t place;
-
-    for (place = 0; place < LENGTH(bytes); place++)
-        same("a byte", bytes[place], place < bytes_len ? of_bytes[place] : FILLING);
-    has("a word", words, LENGTH(words), of_words, words_len);
-}
-
-static void refuses(uint32_t of_number, uint32_t of_flow)
-{
-    answers(of_number, of_flow, 0, 0);
-    wrote(NULL, 0, NULL, 0);
-    has("a tally", tallies, LENGTH(tallies), NULL, 0);
-}
+#include "answers.h"
 
 /* Input (10, 0), and slower 2 of it. */
 static const uint8_t packed_plan[] = {0x02, 0x00, 0x05, 0x00, 0x02, 0x40, 0x08};
@@ -81,12 +11,6 @@ static const uint32_t plan[] = {0, 10, 0, 0, 9, 0, 2, 0};
 /* Two inputs without a rate. */
 static const uint8_t packed_open[] = {0x02, 0x84, 0x00};
 static const uint32_t open_plan[] = {16, 0, 0, 0, 16, 0, 0, 0};
-
-static void reads(const char *name, const uint8_t *packed, size_t packed_len, size_t words_len)
-{
-    begin(name);
-    number = baarqidho_read(packed, packed_len, words, words_len, &flow, &tick, &count);
-}
 
 /* A read of the plan's bytes with another one at a place. */
 static void reads_with(const char *name, size_t place, uint8_t byte)
@@ -112,7 +36,7 @@ static void all_of_read(void)
     reads("read, kind 16", packed_open, sizeof packed_open, LENGTH(words));
     answers(BAARQIDHO_OK, 0, 0, 2);
     wrote(NULL, 0, open_plan, LENGTH(open_plan));
-    reads_with("read, kind 17", 4, 0x04);
+    reads_with("read, kind 21", 4, 0x05);
     refuses(BAARQIDHO_UNKNOWN_KIND, 1);
     reads_with("read, k 0", 6, 0x00);
     refuses(BAARQIDHO_FIELD_OUT_OF_RANGE, 1);
@@ -120,12 +44,6 @@ static void all_of_read(void)
     refuses(BAARQIDHO_BAD_OPERAND, 1);
     reads_with("read, filling 1", 6, 0x09);
     refuses(BAARQIDHO_NOT_THE_END, 0);
-}
-
-static void writes(const char *name, uint32_t plan_count, const uint32_t *of, size_t words_len, size_t packed_len)
-{
-    begin(name);
-    number = baarqidho_write(plan_count, of, words_len, bytes, packed_len, &flow, &tick, &count);
 }
 
 static void all_of_write(void)
@@ -153,13 +71,6 @@ static void all_of_write(void)
     answers(BAARQIDHO_OK, 0, 0, BAARQIDHO_PACKED_MAX);
 }
 
-static void checks(const char *name, const uint32_t *of, size_t words_len, size_t clocks_len)
-{
-    begin(name);
-    number = baarqidho_check((uint32_t)(words_len / BAARQIDHO_ROW_WORDS), of, words_len, words, clocks_len,
-                             &flow, &tick, &count);
-}
-
 /* Inputs (10, 0) and (20, 0), and their sum. */
 static const uint32_t differing[] = {0, 10, 0, 0, 0, 20, 0, 0, 2, 0, 1, 0};
 
@@ -171,8 +82,8 @@ static const uint32_t beyond[] = {0, 1, 0, 0, 0, 66, 0, 0, 0, 1, 0, 0, 9, 1, 63,
 
 static void all_of_check(void)
 {
-    static const uint32_t clocks[] = {4, 1, 0, 0, 0, 0, 0, 4, 1, 0, 0, 0, 0, 0,
-                                      4, 1, 1, 3, 0, 0, 0, 4, 1, 2, 3, 4, 0, 0};
+    static const uint32_t clocks[] = {4, 1, 0, 0, 0, 0, 0, 0, 0, 0, 0, 4, 1, 0, 0, 0, 0, 0, 0, 0, 0, 0,
+                                      4, 1, 1, 3, 0, 0, 0, 0, 0, 0, 0, 4, 1, 2, 3, 4, 0, 0, 0, 0, 0, 0};
 
     checks("check", sampled, 4 * BAARQIDHO_ROW_WORDS, 4 * BAARQIDHO_CLOCK_WORDS);
     answers(BAARQIDHO_OK, 0, 0, 4);
@@ -187,14 +98,6 @@ static void all_of_check(void)
     refuses(BAARQIDHO_BEYOND_LIMITS, 3);
     checks("check, tail of a sampled flow", sampled, LENGTH(sampled), LENGTH(words));
     refuses(BAARQIDHO_NOT_PLAIN, 4);
-}
-
-static void runs(const char *name, const uint32_t *of, size_t words_len, const uint32_t *log, size_t log_len,
-                 uint32_t ticks, size_t marks_len, size_t values_len)
-{
-    begin(name);
-    number = baarqidho_run((uint32_t)(words_len / BAARQIDHO_ROW_WORDS), of, words_len, log, log_len, ticks,
-                           bytes, marks_len, words, values_len, &flow, &tick, &count);
 }
 
 static void all_of_run(void)
@@ -236,16 +139,6 @@ static void all_of_run(void)
 
 /* The constant 1, a register of the sum, and the sum of both: tick t has 1, t and t + 1. */
 static const uint32_t counting[] = {1, 1, 1, 0, 7, 0, 0, 2, 2, 0, 1, 0};
-
-static void runs_long(const char *name, const uint32_t *of, size_t words_len, size_t log_len, uint32_t ticks,
-                      size_t marks_len, size_t values_len, size_t tallies_len)
-{
-    static const uint32_t log[] = {71, 72};
-
-    begin(name);
-    number = baarqidho_long_run((uint32_t)(words_len / BAARQIDHO_ROW_WORDS), of, words_len, log, log_len, ticks,
-                                bytes, marks_len, words, values_len, tallies, tallies_len, &flow, &tick, &count);
-}
 
 #define CELLS (3 * BAARQIDHO_WINDOW_TICKS)
 #define TALLIES (3 * BAARQIDHO_TALLY_WORDS)
@@ -305,12 +198,6 @@ static void all_of_long_run(void)
     refuses(BAARQIDHO_NOT_PLAIN, 4);
 }
 
-static void lists(const char *name, const uint8_t *packed, size_t packed_len, size_t text_len)
-{
-    begin(name);
-    number = baarqidho_listing(packed, packed_len, bytes, text_len, &flow, &tick, &count);
-}
-
 static void all_of_listing(void)
 {
     static const char text[] = "ok 2\n0 10 0 -\n1 20 0 -\n";
@@ -328,14 +215,6 @@ static void all_of_listing(void)
     wrote((const uint8_t *)unrated, sizeof unrated - 1, NULL, 0);
     lists("listing into too little", packed_plan, sizeof packed_plan, BAARQIDHO_LISTING_MAX - 1);
     refuses(BAARQIDHO_OUTPUT_TOO_SHORT, 0);
-}
-
-static void pages(const char *name, const uint32_t *of, size_t words_len, const uint16_t *times, size_t times_len,
-                  size_t page_len)
-{
-    begin(name);
-    number = baarqidho_load_page((uint32_t)(words_len / BAARQIDHO_ROW_WORDS), of, words_len, times, times_len,
-                                 bytes, page_len, &flow, &tick, &count);
 }
 
 static void all_of_load_page(void)
@@ -396,28 +275,6 @@ static void all_of_load_page(void)
         same("the total", bytes[BAARQIDHO_MAX_FLOWS * BAARQIDHO_PAGE_LINE + row], (uint8_t)total[row]);
 }
 
-static void takes_least(const char *name, int of_flows, uint32_t plan_count, const uint32_t *of, size_t words_len,
-                        size_t len)
-{
-    begin(name);
-    if (of_flows)
-        number = baarqidho_least_flows(plan_count, of, words_len, words, len, &flow, &tick, &count);
-    else
-        number = baarqidho_least_part(plan_count, of, words_len, words, len, &flow, &tick, &count);
-}
-
-/* The least part, and then its flows, are refused alike. */
-static void refuses_least(const char *name, const uint32_t *of, size_t words_len, size_t len, uint32_t of_number,
-                          uint32_t of_flow)
-{
-    int of_flows;
-
-    for (of_flows = 0; of_flows < 2; of_flows++) {
-        takes_least(name, of_flows, (uint32_t)(words_len / BAARQIDHO_ROW_WORDS), of, words_len, len);
-        refuses(of_number, of_flow);
-    }
-}
-
 static void all_of_least(void)
 {
     /* Inputs (6, 0), (7, 1) and (4, 2), a register, the sum of the last two inputs, and faster 2 gap 3 of the first. */
@@ -464,8 +321,8 @@ static void all_of_least(void)
     wrote(NULL, 0, chain, LENGTH(chain));
     chain[row] = 16;
     refuses_least("least part, kind 16", chain, LENGTH(chain), 0, BAARQIDHO_UNKNOWN_KIND, BAARQIDHO_MAX_FLOWS - 1);
-    chain[row] = 17;
-    refuses_least("least part, kind 17", chain, LENGTH(chain), 0, BAARQIDHO_UNKNOWN_KIND, BAARQIDHO_MAX_FLOWS - 1);
+    chain[row] = 19;
+    refuses_least("least part, kind 19", chain, LENGTH(chain), 0, BAARQIDHO_UNKNOWN_KIND, BAARQIDHO_MAX_FLOWS - 1);
     chain[row] = 12;
     refuses_least("least part, unused word", chain, LENGTH(chain), 0, BAARQIDHO_FIELD_OUT_OF_RANGE,
                   BAARQIDHO_MAX_FLOWS - 1);
@@ -473,12 +330,6 @@ static void all_of_least(void)
     chain[row + 1]++;
     refuses_least("least part, operand itself", chain, LENGTH(chain), 0, BAARQIDHO_BAD_OPERAND,
                   BAARQIDHO_MAX_FLOWS - 1);
-}
-
-static void fills(const char *name, uint32_t plan_count, const uint32_t *of, size_t words_len, size_t filled_len)
-{
-    begin(name);
-    number = baarqidho_fill_rates(plan_count, of, words_len, words, filled_len, &flow, &tick, &count);
 }
 
 static void all_of_fill_rates(void)
@@ -519,8 +370,8 @@ static void all_of_fill_rates(void)
     fills("fill rates, period 12 / 5", 7, other, LENGTH(other), LENGTH(words));
     refuses(BAARQIDHO_CLOCKS_DIFFER, 0);
     row = 4 * BAARQIDHO_ROW_WORDS;
-    other[row] = 17;
-    fills("fill rates, kind 17", 7, other, LENGTH(other), LENGTH(words));
+    other[row] = 19;
+    fills("fill rates, kind 19", 7, other, LENGTH(other), LENGTH(words));
     refuses(BAARQIDHO_UNKNOWN_KIND, 4);
     other[row] = 16;
     other[row + 3] = 1;

@@ -4,6 +4,7 @@ use std::io::Write;
 use std::path::Path;
 use std::process::Command;
 
+use baarqidho::{Answer, Refusal};
 use tests::implementation::LIBRARY;
 use tests::rng::Rng;
 use tests::rounds;
@@ -32,6 +33,23 @@ fn constants_agree() {
     assert_eq!(constant("BAARQIDHO_ROW_WORDS"), baarqidho::ROW_WORDS);
     assert_eq!(constant("BAARQIDHO_CLOCK_WORDS"), baarqidho::CLOCK_WORDS);
     assert_eq!(constant("BAARQIDHO_TALLY_WORDS"), baarqidho::TALLY_WORDS);
+}
+
+/// The numbers that have a refusal of their own in Rust.
+pub fn refusals() -> Vec<u32> {
+    let is_other = |number| matches!(Answer { number, ..Answer::default() }.result(), Err(Refusal::Other { .. }));
+    (1..100).filter(|&number| !is_other(number)).collect()
+}
+
+/// The header names success and the same refusals.
+#[test]
+fn numbers_agree() {
+    let header = header();
+    let (_, after) = header.split_once("enum baarqidho_number {").expect("the numbers are there");
+    let (numbers, _) = after.split_once('}').expect("the numbers end");
+    let number = |rest: &str| rest.split([',', ' ']).next().expect("a number").parse().expect("a number");
+    let numbers: Vec<u32> = numbers.split(" = ").skip(1).map(number).collect();
+    assert_eq!(numbers, [vec![0], refusals()].concat());
 }
 
 /// A length follows its slice, and flow, tick and count come last: also where no answer can tell two of them apart, as
@@ -68,6 +86,7 @@ fn the_example_lists_the_paper_plan() {
 #[test]
 fn numbers_from_c() {
     printed(&compiled(&C99, "rust/tests/c/numbers.c"));
+    printed(&compiled(&C99, "rust/tests/c/views.c"));
 }
 
 /// The same as C++, where there is a compiler for it.
@@ -78,7 +97,9 @@ fn numbers_from_cpp() {
         std::io::stderr().write_all(text).expect("standard error takes the line");
         return;
     }
-    printed(&compiled(&["c++", "-x", "c++", "-std=c++11"], "rust/tests/c/numbers.c"));
+    let compiler = ["c++", "-x", "c++", "-std=c++11"];
+    printed(&compiled(&compiler, "rust/tests/c/numbers.c"));
+    printed(&compiled(&compiler, "rust/tests/c/views.c"));
 }
 
 /// All ten calls on random plans, faults and damaged bytes: C has every part and every cell that Rust has.
