@@ -8,6 +8,8 @@ use tests::implementation::{Parts, ALL, QUICK};
 use tests::rng::Rng;
 use tests::{Plan, LISTING_MAX};
 
+mod views;
+
 /// A long run without ticks, log or buffers: refused by 35 where nothing else is wrong.
 fn without_buffers(plan: &Plan) -> Outcome {
     long_run(&ALL, plan, &[], 0, Lengths::default())
@@ -22,7 +24,7 @@ fn without_times(plan: &Plan) -> Outcome {
 /// room where the answer is 21; filling in rates, of which none is missing, by 21, or for its room.
 fn checked(rows: &[[u32; 4]]) -> Parts {
     let plan = Plan::of(rows);
-    let parts = check(&ALL, &plan, 7 * rows.len()).parts;
+    let parts = check(&ALL, &plan, 11 * rows.len()).parts;
     for (outcome, number) in [(without_buffers(&plan), 35), (without_times(&plan), 36)] {
         assert_eq!(outcome.parts, if parts.0 == 0 { (number, 0, 0, 0) } else { parts }, "{rows:?}");
     }
@@ -85,7 +87,7 @@ fn ranges_of_fields() {
     let value = (&[0, u32::MAX][..], &[][..]);
     let flow = (&[0][..], &[64, 65, u32::MAX][..]);
     let unused = (&[0][..], &[1, u32::MAX][..]);
-    let rows: [([u32; 4], [_; 3]); 16] = [
+    let rows: [([u32; 4], [_; 3]); 18] = [
         ([0, 1, 0, 0], [period, phase, unused]),
         ([1, 0, 1, 0], [value, period, phase]),
         ([2, 0, 0, 0], [flow, flow, unused]),
@@ -102,6 +104,8 @@ fn ranges_of_fields() {
         ([13, 0, 0, 0], [flow, flow, unused]),
         ([14, 0, 0, 0], [flow, flow, unused]),
         ([15, 0, 0, 0], [flow, flow, flow]),
+        ([17, 0, 0, 1], [flow, flow, period]),
+        ([18, 0, 0, 1], [flow, flow, period]),
     ];
     for (row, fields) in rows {
         for (place, (fitting, outside)) in fields.into_iter().enumerate() {
@@ -117,8 +121,8 @@ fn ranges_of_fields() {
             }
         }
     }
-    refused(&[[17, 0, 0, 0]], 13, 0);
-    refused(&[base, [17, 0, 0, 0]], 13, 1);
+    refused(&[[19, 0, 0, 0]], 13, 0);
+    refused(&[base, [19, 0, 0, 1]], 13, 1);
     refused(&[base, [u32::MAX, 1, 1, 1]], 13, 1);
 }
 
@@ -151,7 +155,7 @@ fn inputs_without_a_rate() {
         refused_by_write(&plan, 14, 1);
     }
     // Other causes before it, and behind it.
-    for (wrong, number) in [([9, 0, 64, 0], 14), ([12, 3, 0, 0], 15), ([7, 0, 0, 6], 15), ([17, 0, 0, 0], 13)] {
+    for (wrong, number) in [([9, 0, 64, 0], 14), ([12, 3, 0, 0], 15), ([7, 0, 0, 6], 15), ([19, 0, 0, 0], 13)] {
         refused(&[base, base, base, wrong, base, open], number, 3);
         let plan = Plan::of(&[base, base, open, wrong, base, base]);
         refused_by_check(&plan, 13, 2);
@@ -186,7 +190,7 @@ fn operands_and_sources() {
     refused(&[base, [7, 0, 0, 63], base], 15, 1);
     // A field outside its range comes before an operand that is not lower, a lower row before both.
     refused(&[base, [8, 1, 0, 1]], 14, 1);
-    refused(&[base, [2, 1, 0, 0], [17, 0, 0, 0]], 15, 1);
+    refused(&[base, [2, 1, 0, 0], [19, 0, 0, 0]], 15, 1);
 }
 
 #[test]
@@ -246,6 +250,11 @@ fn five_conditions() {
         rows[5] = row;
         assert_eq!(checked(&rows), (23, 5, 0, 0));
     }
+    // So do views, whichever operand has conditions, and whatever w is.
+    for row in [[17, 4, 0, 4], [18, 4, 0, 3], [17, 0, 1, 4], [18, 0, 1, 3], [17, 2, 3, 1]] {
+        rows[5] = row;
+        assert_eq!(checked(&rows), (23, 5, 0, 0));
+    }
 }
 
 /// Conditions in another order are another clock.
@@ -275,7 +284,7 @@ fn sources_after_all_rows() {
 #[test]
 fn outputs_one_short_exact_and_one_long() {
     let plan = Plan::of(&[[0, 1, 0, 0], [1, 7, 2, 3], [9, 0, 2, 0]]);
-    for (len, number) in [(20, 10), (21, 0), (22, 0), (0, 10)] {
+    for (len, number) in [(32, 10), (33, 0), (34, 0), (0, 10), (21, 10)] {
         assert_eq!(check(&ALL, &plan, len).parts, (number, 0, 0, if number == 0 { 3 } else { 0 }));
     }
     // 8 + 29 + 61 + 17 bits.
@@ -290,7 +299,9 @@ fn outputs_one_short_exact_and_one_long() {
     let wrong = Plan::of(&[[0, 1, 0, 0], [2, 0, 1, 0]]);
     assert_eq!(check(&ALL, &wrong, 0).parts, (15, 1, 0, 0));
     let differ = Plan::of(&[[0, 1, 0, 0], [0, 2, 0, 0], [2, 0, 1, 0]]);
-    assert_eq!(check(&ALL, &differ, 20).parts, (10, 0, 0, 0));
+    assert_eq!(check(&ALL, &differ, 32).parts, (10, 0, 0, 0));
+    let bad_view = Plan::of(&[[0, 1, 0, 0], [0, 2, 0, 0], [17, 0, 1, 1]]);
+    assert_eq!((check(&ALL, &bad_view, 32).parts, check(&ALL, &bad_view, 33).parts), ((10, 0, 0, 0), (40, 2, 0, 0)));
     assert_eq!(read(&ALL, &[packed, vec![0]].concat(), 0).parts, (16, 0, 0, 0));
 }
 
@@ -358,14 +369,20 @@ fn the_longest_forms() {
     assert_eq!(outcome.parts, (0, 0, 0, 489));
     assert_eq!(write(&ALL, &Plan::of(&rows), 488).parts, (10, 0, 0, 0));
     let mut rows = vec![[0, 4095, 4095, 0]; 11];
-    rows.extend((10..14).map(|flow| [13, flow, flow, 0]));
+    rows.push([17, 10, 10, 4095]);
+    rows.extend((11..14).map(|flow| [13, flow, flow, 0]));
     rows.extend([[2, 14, 14, 0]; 49]);
     let written = write(&ALL, &Plan::of(&rows), 489);
     let packed = &written.bytes[..written.parts.3 as usize];
-    // A line `ok 64`, 10 inputs below 10 and one above, lines of 1 to 4 conditions, and 49 more of 4.
-    let length = 6 + 10 * 14 + 15 + (18 + 22 + 26 + 30) + 49 * 30;
-    assert_eq!(listing(&ALL, packed, LISTING_MAX).parts, (0, 0, 0, length));
+    // A line `ok 64`, 10 inputs below 10 and one above, lines of 1 to 4 conditions, and 49 more of 4: the first condition
+    // of each has a view period.
+    let length = 6 + 10 * 14 + 15 + (23 + 27 + 31 + 35) + 49 * 35;
+    let outcome = listing(&ALL, packed, LISTING_MAX);
+    assert_eq!(outcome.parts, (0, 0, 0, length));
+    let last = b"63 4095 4095 c10+@4095c11+c12+c13+\n";
+    assert_eq!((last.len(), &outcome.bytes[length as usize - 35..length as usize]), (35, &last[..]));
     assert_eq!(listing(&ALL, packed, LISTING_MAX + 1).parts, (0, 0, 0, length));
     assert_eq!(listing(&ALL, packed, LISTING_MAX - 1).parts, (10, 0, 0, 0));
     assert_eq!(listing(&ALL, &[], LISTING_MAX - 1).parts, (10, 0, 0, 0));
+    assert_eq!(LISTING_MAX, 2_246);
 }

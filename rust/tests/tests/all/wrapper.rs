@@ -13,6 +13,8 @@ use tests::rounds;
 
 use crate::short::faulty;
 
+mod views;
+
 /// I's plan: two inputs, sampled and merged again.
 fn merged() -> Plan {
     Plan::new([0, 4, 0, 0, 0, 4, 0, 0, 13, 0, 1, 0, 14, 0, 1, 0, 15, 1, 2, 3])
@@ -25,6 +27,7 @@ fn clocks_with_conditions() {
     assert_eq!((parts(2), parts(3), parts(4)), ((4, 0, 1), (4, 0, 1), (4, 0, 0)));
     let condition = |flow: usize| (clocks[flow].conditions[0].flow, clocks[flow].conditions[0].truth);
     assert_eq!((condition(2), condition(3)), ((1, true), (1, false)));
+    assert_eq!([2, 3].map(|flow: usize| clocks[flow].conditions[0].view), [0, 0]);
 }
 
 /// Clocks are displayed as the listing has them, whatever their conditions.
@@ -60,6 +63,8 @@ fn rows_and_words() {
         (Row::WhenNot { a: 1, c: 2 }, [14, 1, 2, 0]),
         (Row::Merge { c: 1, a: 2, b: 3 }, [15, 1, 2, 3]),
         (Row::Unrated, [16, 0, 0, 0]),
+        (Row::WhenSeen { a: 1, c: 2, w: 3 }, [17, 1, 2, 3]),
+        (Row::WhenNotSeen { a: 1, c: 2, w: 3 }, [18, 1, 2, 3]),
     ];
     for (row, words) in rows {
         assert_eq!(row.words(), words);
@@ -71,7 +76,7 @@ fn rows_and_words() {
             assert_eq!(Row::from_words(words), None, "{words:?}");
         }
     }
-    assert_eq!(Row::from_words([17, 0, 0, 0]), None);
+    assert_eq!(Row::from_words([19, 0, 0, 0]), None);
     let plan: Plan = rows.iter().map(|(row, _)| *row).collect();
     assert_eq!(plan.words(), rows.map(|(_, words)| words).concat());
     assert_eq!(plan.rows().collect::<Option<Vec<Row>>>(), Some(rows.map(|(row, _)| row).to_vec()));
@@ -369,7 +374,7 @@ fn errors_of_filling() {
     assert_eq!(Plan::new([0; 4 * 65]).fill_rates(), Err(Refusal::BadCount));
     assert_eq!(Plan::new([]).fill_rates(), Err(Refusal::BadCount));
     assert_eq!(Plan::new([16, 0, 0]).fill_rates(), Err(Refusal::BadCount));
-    assert_eq!(Plan::new([[0, 1, 0, 0], [17, 0, 0, 0]].concat()).fill_rates(), Err(Refusal::UnknownKind { row: 1 }));
+    assert_eq!(Plan::new([[0, 1, 0, 0], [19, 0, 0, 0]].concat()).fill_rates(), Err(Refusal::UnknownKind { row: 1 }));
     assert_eq!(
         Plan::new([[0, 1, 0, 0], [16, 0, 0, 1]].concat()).fill_rates(),
         Err(Refusal::FieldOutOfRange { row: 1 })
@@ -379,7 +384,7 @@ fn errors_of_filling() {
     assert_eq!(short.result(), Err(Refusal::OutputTooShort));
     let text = "flow 3: no chain joins it to an input or constant that has a rate (39)";
     assert_eq!(Refusal::Unjoined { flow: 3 }.to_string(), text);
-    let text = "row 2: the kind is above 16, or 16 where rates have to be written (13)";
+    let text = "row 2: the kind is above 18, or 16 where rates have to be written (13)";
     assert_eq!(Refusal::UnknownKind { row: 2 }.to_string(), text);
 }
 
@@ -424,7 +429,7 @@ fn errors_of_a_run() {
 #[test]
 fn numbers_and_refusals() {
     let mut meanings = Vec::new();
-    for number in (10..=16).chain(21..=23).chain(31..=39) {
+    for number in (10..=16).chain(21..=23).chain(31..=40) {
         let refusal = Answer { number, flow: 3, tick: 5, count: 0 }.result().expect_err("a refusal");
         assert_eq!(refusal.number(), number);
         assert!(!matches!(refusal, Refusal::Other { .. }));
