@@ -3,6 +3,8 @@
 use baarqidho::{list, Plan, Refusal};
 use tests::root;
 
+use crate::header::refusals;
+
 /// The README's blocks between fences, in order, each with its language.
 fn blocks() -> Vec<(String, String)> {
     let text = std::fs::read_to_string(root().join("README.md")).expect("the README is there");
@@ -49,7 +51,17 @@ fn listings() {
             commands += 1;
         }
     }
-    assert_eq!(commands, 3);
+    assert_eq!(commands, 4);
+}
+
+/// The table of refusals has each number once, in order.
+#[test]
+fn table_of_refusals() {
+    let readme = include_str!("../../../../README.md");
+    let (_, after) = readme.split_once("\n## Refusals\n").expect("the table is there");
+    let (table, _) = after.split_once("\n## ").expect("another section follows");
+    let numbers: Vec<u32> = table.lines().filter_map(|line| line.split('|').nth(1)?.trim().parse().ok()).collect();
+    assert_eq!(numbers, refusals());
 }
 
 /// Rows, plain words, bits and packed bytes are one plan.
