@@ -280,7 +280,7 @@ fn views_and_other_rows() {
     accepts(&[&rows[..2], &[[14, 0, 0, 0], [15, 0, 1, 2]]].concat(), 1, 0);
     refuses(&last([15, 0, 2, 5]), 21, 6);
     refuses(&last([15, 0, 1, 5]), 21, 6);
-    // A view has a condition, so that neither it nor kinds 8 to 12 stand over it.
+    // The result has a condition, so that neither kinds 8 to 12 nor another view stand over it.
     for row in [[8, 2, 1, 1], [9, 2, 1, 0], [10, 2, 0, 0], [11, 2, 0, 0], [12, 2, 0, 0], [17, 2, 0, 1], [18, 0, 2, 1]] {
         refuses(&last(row), 23, 6);
     }

@@ -66,6 +66,17 @@ fn errors() {
     assert_eq!(bad.to_string(), text);
 }
 
+/// A part has, with a view, both of its operands.
+#[test]
+fn least_parts() {
+    let governed = governed();
+    let rows = governed.rows().flatten().take(4).chain([Row::Slower { a: 0, k: 2 }, Row::Add { a: 0, b: 3 }]);
+    let least = Plan::from_rows(rows).least_part().expect("clocks that differ");
+    assert_eq!(least.flows(), [0, 1, 3, 5]);
+    let seen = Row::WhenNotSeen { a: 0, c: 1, w: 4080 };
+    assert_eq!(least.plan().rows().flatten().skip(2).collect::<Vec<_>>(), [seen, Row::Add { a: 0, b: 2 }]);
+}
+
 /// A view joins its result with the signal, and not with the switch.
 #[test]
 fn filled_plans() {
