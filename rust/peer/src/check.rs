@@ -6,19 +6,21 @@ use crate::{Answer, LIMIT, MOST_FLOWS};
 /// The most conditions a clock has.
 const MOST_CONDITIONS: usize = 4;
 
-/// A period, a phase, and the conditions as 2 × flow + truth, unused ones 0.
+/// A period, a phase, and the conditions as 2 × flow + truth, unused ones 0. The first alone can be viewed, since views
+/// are of plain clocks: its view period, 0 if it is sampled directly.
 #[derive(Clone, Copy, Default, PartialEq, Eq)]
 pub struct Clock {
     pub period: u32,
     pub phase: u32,
     depth: u8,
     conditions: [u8; MOST_CONDITIONS],
+    view: u16,
 }
 
 impl Clock {
     #[inline]
     fn plain(period: u32, phase: u32) -> Self {
-        Clock { period, phase, depth: 0, conditions: [0; MOST_CONDITIONS] }
+        Clock { period, phase, depth: 0, conditions: [0; MOST_CONDITIONS], view: 0 }
     }
 
     /// With one more condition, or nothing if it would be the fifth.
@@ -29,24 +31,36 @@ impl Clock {
         Some(self)
     }
 
+    /// A plain clock under one condition that is viewed.
+    #[inline]
+    fn seen(self, flow: u32, truth: bool, view: u32) -> Self {
+        Clock { depth: 1, conditions: [2 * flow as u8 + u8::from(truth), 0, 0, 0], view: view as u16, ..self }
+    }
+
     /// The conditions it has.
     pub fn conditions(&self) -> &[u8] {
         &self.conditions[..usize::from(self.depth)]
     }
 
-    fn words(&self) -> [u32; 7] {
+    /// The view periods of its conditions.
+    pub fn views(&self) -> [u32; MOST_CONDITIONS] {
+        [u32::from(self.view), 0, 0, 0]
+    }
+
+    fn words(&self) -> [u32; 11] {
         let [c, d, e, f] = self.conditions.map(u32::from);
-        [self.period, self.phase, u32::from(self.depth), c, d, e, f]
+        let [v, w, x, y] = self.views();
+        [self.period, self.phase, u32::from(self.depth), c, d, e, f, v, w, x, y]
     }
 }
 
-/// Gives each flow of a plain table its clock, seven words a flow. The count of the answer is that of the flows.
+/// Gives each flow of a plain table its clock, eleven words a flow. The count of the answer is that of the flows.
 pub fn check(plan_count: u32, words: &[u32], clocks: &mut [u32]) -> Answer {
     let rows = match rows(plan_count, words) {
         Ok(rows) => rows,
         Err(refusal) => return refusal,
     };
-    let (out, _) = clocks.as_chunks_mut::<7>();
+    let (out, _) = clocks.as_chunks_mut::<11>();
     if out.len() < rows.len() {
         return Answer::number(10);
     }
@@ -91,6 +105,15 @@ fn clock(&[kind, x, y, z]: &Row, clocks: &[Clock; MOST_FLOWS]) -> Result<Clock, 
         9 | 10 | 12 => Err(22),
         13 | 14 if of(x) == of(y) => of(x).plus(y, kind == 13).ok_or(22),
         15 if of(x).plus(x, true) == Some(of(y)) && of(x).plus(x, false) == Some(of(z)) => Ok(of(x)),
+        17 | 18 if of(x).depth > 0 || of(y).depth > 0 => Err(23),
+        17 | 18 if !can_see(z, of(x), of(y)) => Err(40),
+        17 | 18 => Ok(of(x).seen(y, kind == 17, z)),
         _ => Err(21),
     }
+}
+
+/// Whether a flow with the clock `a` can be under a view of one with the clock `c` every so many ticks.
+#[inline]
+fn can_see(view: u32, a: Clock, c: Clock) -> bool {
+    view.is_multiple_of(a.period) && view.is_multiple_of(c.period) && c.phase <= a.phase
 }

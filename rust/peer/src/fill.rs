@@ -1,8 +1,8 @@
 //! Rates filled in: they spread from the written ones along the rows, both ways.
 //!
-//! In an accepted plan a row fixes period and phase of its result by those of each flow that it names, and the other way
-//! round. So each flow that a chain joins to a written rate can have one rate alone, and the check of the plan with these
-//! decides. A flow that could have none is enough for a refusal.
+//! In an accepted plan a row fixes period and phase of its result by those of each flow that it joins with it, and the
+//! other way round. So each flow that a chain joins to a written rate can have one rate alone, and the check of the plan
+//! with these decides. A flow that could have none is enough for a refusal.
 
 use crate::check::{derive, Clock};
 use crate::least::{fields, members, Set};
@@ -49,12 +49,12 @@ pub fn fill_rates(plan_count: u32, words: &[u32], filled: &mut [u32]) -> Answer 
 /// Gives each flow that a chain joins to a written rate its own, by the first chain that gets there. Tells which flows
 /// have one, and whether it is a rate that a clock may have wherever a row asks for one.
 fn spread(rows: &[Row], rates: &mut [Rate; MOST_FLOWS]) -> (Set, bool) {
-    // The flows whose rows name a flow.
-    let mut naming: [Set; MOST_FLOWS] = [0; MOST_FLOWS];
+    // The flows whose rows join them with a flow.
+    let mut joining: [Set; MOST_FLOWS] = [0; MOST_FLOWS];
     let (mut known, mut is_sound): (Set, bool) = (0, true);
     for (flow, row) in rows.iter().enumerate() {
-        for &other in &row[fields(row)] {
-            naming[other as usize] |= 1 << flow;
+        for &other in &row[joined(row)] {
+            joining[other as usize] |= 1 << flow;
         }
         if let [0, period, phase, _] | [1, _, period, phase] = *row {
             rates[flow] = (period, phase);
@@ -75,14 +75,23 @@ fn spread(rows: &[Row], rates: &mut [Rate; MOST_FLOWS]) -> (Set, bool) {
                 next |= 1 << other;
             }
         };
-        for &other in &rows[flow][fields(&rows[flow])] {
+        for &other in &rows[flow][joined(&rows[flow])] {
             reach(other as usize, backward(&rows[flow], rate));
         }
-        for other in members(naming[flow]) {
+        for other in members(joining[flow]) {
             reach(other, forward(&rows[other], rate));
         }
     }
     (known, is_sound)
+}
+
+/// The places of the flows that a row joins with its result: all that it names, but of a view not the flow seen.
+#[inline]
+fn joined(row: &Row) -> std::ops::Range<usize> {
+    match row[0] {
+        17 | 18 => 1..2,
+        _ => fields(row),
+    }
 }
 
 /// The rate of a row's result over a flow with this one.

@@ -92,7 +92,7 @@ fn led_to(rows: &[Row]) -> [Set; MOST_FLOWS] {
 pub fn fields(&[kind, ..]: &Row) -> std::ops::Range<usize> {
     match kind {
         0 | 1 | UNRATED => 0..0,
-        2..=6 | 13 | 14 => 1..3,
+        2..=6 | 13 | 14 | 17 | 18 => 1..3,
         7 => 2..4,
         15 => 1..4,
         _ => 1..2,

@@ -40,8 +40,11 @@ fn lines(clocks: &[Clock], text: &mut &mut [u8]) -> std::io::Result<()> {
     writeln!(text, "ok {}", clocks.len())?;
     for (flow, clock) in clocks.iter().enumerate() {
         write!(text, "{flow} {} {} ", clock.period, clock.phase)?;
-        for condition in clock.conditions() {
+        for (condition, view) in clock.conditions().iter().zip(clock.views()) {
             write!(text, "c{}{}", condition / 2, if condition % 2 == 1 { '+' } else { '-' })?;
+            if view > 0 {
+                write!(text, "@{view}")?;
+            }
         }
         text.write_all(if clock.conditions().is_empty() { b"-\n" } else { b"\n" })?;
     }

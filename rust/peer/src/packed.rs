@@ -1,10 +1,10 @@
 //! The packed form, through 64-bit windows.
 
-use crate::plan::{flows, test_row, unfilled, Row, UNRATED};
+use crate::plan::{flows, test_row, unfilled, Row};
 use crate::{Answer, MOST_FLOWS};
 
 /// The widths of the fields of each kind; 0 where there is no field.
-const WIDTHS: [[u32; 3]; 17] = [
+const WIDTHS: [[u32; 3]; 19] = [
     [12, 12, 0],
     [32, 12, 12],
     [6, 6, 0],
@@ -22,6 +22,8 @@ const WIDTHS: [[u32; 3]; 17] = [
     [6, 6, 0],
     [6, 6, 6],
     [0, 0, 0],
+    [6, 6, 12],
+    [6, 6, 12],
 ];
 
 /// The bits of a kind.
@@ -91,7 +93,7 @@ pub fn unpack(packed: &[u8], plain: &mut [Row; MOST_FLOWS]) -> Result<usize, Ans
             return Err(Answer::at(12, flow));
         }
         *row = [kind, window.take(x), window.take(y), window.take(z)];
-        test_row::<UNRATED>(flow, flows, row)?;
+        test_row::<true>(flow, flows, row)?;
     }
     let filling = window.place.wrapping_neg() % 8;
     if window.take(filling as u32) != 0 || packed.len() != window.place / 8 {

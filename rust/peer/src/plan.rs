@@ -22,35 +22,35 @@ pub fn flows(count: u32) -> Result<usize, Answer> {
     }
 }
 
-/// The rows of a plain table, all of them tested: kinds 0 to 15, as check and run take them.
+/// The rows of a plain table, all of them tested, as check and run take them: each input has a rate.
 #[inline]
 pub fn rows(plan_count: u32, words: &[u32]) -> Result<&[Row], Answer> {
-    tested::<15>(plan_count, words)
+    tested::<false>(plan_count, words)
 }
 
 /// The rows of a plain table that may have inputs without a rate.
 #[inline]
 pub fn unfilled(plan_count: u32, words: &[u32]) -> Result<&[Row], Answer> {
-    tested::<UNRATED>(plan_count, words)
+    tested::<true>(plan_count, words)
 }
 
-/// The rows of a plain table of kinds up to the last.
+/// The rows of a plain table, with inputs without a rate or not.
 #[inline]
-fn tested<const LAST: u32>(plan_count: u32, words: &[u32]) -> Result<&[Row], Answer> {
+fn tested<const MAY_LACK: bool>(plan_count: u32, words: &[u32]) -> Result<&[Row], Answer> {
     let flows = flows(plan_count)?;
     let (rows, rest) = words.as_chunks::<4>();
     if rows.len() != flows || !rest.is_empty() {
         return Err(Answer::number(11));
     }
     for (flow, row) in rows.iter().enumerate() {
-        test_row::<LAST>(flow, flows, row)?;
+        test_row::<MAY_LACK>(flow, flows, row)?;
     }
     Ok(rows)
 }
 
-/// Numbers 13, 14 and 15 of one row, its kind being one up to the last.
+/// Numbers 13, 14 and 15 of one row, which may lack a rate or not.
 #[inline]
-pub fn test_row<const LAST: u32>(flow: usize, flows: usize, &[kind, x, y, z]: &Row) -> Result<(), Answer> {
+pub fn test_row<const MAY_LACK: bool>(flow: usize, flows: usize, &[kind, x, y, z]: &Row) -> Result<(), Answer> {
     let is_flow = |word: u32| word < MOST_FLOWS as u32;
     let is_copies = |word: u32| (1..=63).contains(&word);
     let is_period = |word: u32| (1..=LIMIT).contains(&word);
@@ -68,7 +68,8 @@ pub fn test_row<const LAST: u32>(flow: usize, flows: usize, &[kind, x, y, z]: &R
         11 => (is_flow(x) && is_phase(z), lower(x)),
         12 => (is_flow(x) && y == 0 && z == 0, lower(x)),
         15 => (is_flow(x) && is_flow(y) && is_flow(z), lower(x) && lower(y) && lower(z)),
-        UNRATED if LAST == UNRATED => ([x, y, z] == [0; 3], true),
+        17 | 18 => (is_flow(x) && is_flow(y) && is_period(z), lower(x) && lower(y)),
+        UNRATED if MAY_LACK => ([x, y, z] == [0; 3], true),
         _ => return Err(Answer::at(13, flow)),
     };
     if !fits {
@@ -112,7 +113,7 @@ pub fn runnable<'a>(
     Ok((rows, inputs))
 }
 
-/// The same for a long run, after the check: numbers 11 to 15, 21 to 23, 31, 32 and 35.
+/// The same for a long run, after the check: numbers 11 to 15, 21 to 23, 40, 31, 32 and 35.
 #[inline]
 pub fn long_runnable<'a>(
     plan_count: u32,

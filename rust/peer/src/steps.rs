@@ -45,6 +45,12 @@ impl Cell {
         Cell(self.0 & u64::from(wanted).wrapping_neg())
     }
 
+    /// Whether its value is not 0; nothing if it is absent.
+    #[inline(always)]
+    fn truth(self) -> Option<bool> {
+        self.is_present().then_some(self.value() != 0)
+    }
+
     /// The same presence with another value, which is 0 if it is absent.
     #[inline(always)]
     fn with(self, value: u32) -> Self {
@@ -112,6 +118,14 @@ pub struct Past<'a> {
     pub log: &'a [u32],
 }
 
+impl Past<'_> {
+    /// The cell that lies so many cells before the first of the tick, absent where there is no such tick.
+    #[inline(always)]
+    fn back(self, cells: usize) -> Cell {
+        self.cells.back(cells).or_else(|missing| self.older.back(missing)).unwrap_or(Cell::ABSENT)
+    }
+}
+
 /// A row made ready to run, and its state. Operands are flow numbers.
 #[derive(Clone, Copy)]
 #[rustfmt::skip]
@@ -135,6 +149,7 @@ pub enum Step {
     When { a: u8, c: u8 },
     WhenNot { a: u8, c: u8 },
     Merge { c: u8, a: u8, b: u8 },
+    WhenSeen { a: u8, c: u8, truth: bool, view: View },
 }
 
 /// The copies that a faster row still has to give.
@@ -158,6 +173,21 @@ pub enum Seen {
     Often,
 }
 
+/// A flow c as it is seen beside a flow a: looked at when a begins and every w ticks after it, as it was by the ticks
+/// before by which it began before a.
+#[derive(Clone, Copy)]
+pub struct View {
+    w: u32,
+    /// The tick at which c is looked at next; never before a has begun.
+    due: u32,
+    /// The ticks by which c began before a. Before a has begun, the tick at which c did.
+    lag: u32,
+    /// The truth of c's cell looked at last, nothing if it was absent. Before a has begun, that of c's first one.
+    seen: Option<bool>,
+    /// How many flows the plan has.
+    flows: u8,
+}
+
 impl Step {
     /// A tested row, ready for tick 0. An input has the log's word of its column.
     pub fn new(&[kind, x, y, z]: &Row, flows: usize, column: u32) -> Self {
@@ -178,7 +208,11 @@ impl Step {
             12 => Step::Tail { a, seen: false },
             13 => Step::When { a, c: b },
             14 => Step::WhenNot { a, c: b },
-            _ => Step::Merge { c: a, a: b, b: z as u8 },
+            15 => Step::Merge { c: a, a: b, b: z as u8 },
+            _ => {
+                let view = View { w: z, due: NEVER, lag: 0, seen: None, flows: flows as u8 };
+                Step::WhenSeen { a, c: b, truth: kind == 17, view }
+            }
         }
     }
 
@@ -208,10 +242,7 @@ impl Step {
                 Some(cell.only_if(counts))
             }
             Step::Later { a, back: 0 } => Some(now.cell(*a)),
-            Step::Later { back, .. } => {
-                let cell = past.cells.back(*back as usize).or_else(|missing| past.older.back(missing));
-                Some(cell.unwrap_or(Cell::ABSENT))
-            }
+            Step::Later { back, .. } => Some(past.back(*back as usize)),
             Step::Head { a, value, s, seen } => seen.advance(now.cell(*a), *value, *s, tick),
             Step::Tail { a, seen } => {
                 let cell = now.cell(*a);
@@ -226,6 +257,14 @@ impl Step {
                 let truth = c.value() != 0;
                 let fits = a.mark() == c.only_if(truth).mark() && b.mark() == c.only_if(!truth).mark();
                 fits.then_some(Cell(a.0 | b.0))
+            }
+            Step::WhenSeen { a, c, truth, view } => {
+                let a = now.cell(*a);
+                view.advance(a.is_present(), *c, now, past);
+                match view.seen {
+                    None if a.is_present() => None,
+                    seen => Some(a.only_if(seen == Some(*truth))),
+                }
             }
         }
     }
@@ -292,5 +331,30 @@ impl Seen {
             };
         }
         Some(a)
+    }
+}
+
+impl View {
+    /// Looks at c if this is the tick for it. What was seen before is kept, whether a is present or not.
+    #[inline(always)]
+    fn advance(&mut self, a_is_present: bool, c: u8, now: &Now, past: Past) {
+        let tick = past.tick;
+        if self.due == NEVER {
+            if self.seen.is_none() {
+                self.lag = tick;
+                self.seen = now.cell(c).truth();
+            }
+            if a_is_present {
+                self.lag = tick - self.lag;
+                self.due = tick + self.w;
+            }
+        } else if self.due == tick {
+            let cell = match self.lag as usize * usize::from(self.flows) {
+                0 => now.cell(c),
+                cells => past.back(cells - usize::from(c)),
+            };
+            self.seen = cell.truth();
+            self.due += self.w;
+        }
     }
 }
