@@ -3,7 +3,7 @@
 use std::fmt::Debug;
 
 use crate::implementation::{Implementation, Parts, REFERENCE};
-use crate::Plan;
+use crate::{Plan, CLOCK_WORDS};
 
 /// The cells behind a lent buffer that no call may touch.
 const GUARD: usize = 8;
@@ -172,7 +172,7 @@ pub fn load_page_exactly(of: &[&Implementation], plan: &Plan, times: &[u16]) -> 
 /// flows, and is left out where these are too many and the plan has a least part.
 fn trying<'a>(of: &[&'a Implementation], plan: &Plan) -> Vec<&'a Implementation> {
     let is_long = plan.words.len() > 4 * reference::LEAST_MAX;
-    let are_too_many = is_long && (REFERENCE.check)(plan.count, &plan.words, &mut [0; 7 * 64]).0 == 21;
+    let are_too_many = is_long && (REFERENCE.check)(plan.count, &plan.words, &mut [0; CLOCK_WORDS * 64]).0 == 21;
     of.iter().copied().filter(|of| !(are_too_many && of.name == REFERENCE.name)).collect()
 }
 

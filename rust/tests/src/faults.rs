@@ -3,14 +3,17 @@
 use crate::rng::Rng;
 use crate::Plan;
 
-/// The fields of each kind: f a flow, s a source, k copies, p a period or gap, t a phase, delay or tick, v a value.
-pub const FIELDS: [&str; 17] =
-    ["pt", "vpt", "ff", "ff", "ff", "ff", "ff", "vfs", "fkp", "fk", "ft", "fvt", "f", "ff", "ff", "fff", ""];
+/// The fields of each kind: f a flow, s a source, k copies, p a period, gap or view period, t a phase, delay or tick, v a
+/// value.
+pub const FIELDS: [&str; 19] = [
+    "pt", "vpt", "ff", "ff", "ff", "ff", "ff", "vfs", "fkp", "fk", "ft", "fvt", "f", "ff", "ff", "fff", "", "ffp",
+    "ffp",
+];
 
 /// Plants one to three faults of any kind.
 pub fn plant(rng: &mut Rng, plan: &mut Plan) {
     for _ in 0..rng.pick(&[1, 1, 1, 2, 3]) {
-        match rng.below(16) {
+        match rng.below(17) {
             0 => wrong_kind(rng, plan),
             1 => wrong_field(rng, plan),
             2 => unused_word(rng, plan),
@@ -23,6 +26,7 @@ pub fn plant(rng: &mut Rng, plan: &mut Plan) {
             9 => not_plain(rng, plan),
             10 => fifth_condition(rng, plan),
             11 => unrated(rng, plan),
+            12 => any_view(rng, plan),
             _ => disturb(rng, plan),
         }
     }
@@ -53,7 +57,7 @@ fn some_field(rng: &mut Rng, plan: &Plan, sorts: &str) -> Option<(usize, usize, 
 
 fn wrong_kind(rng: &mut Rng, plan: &mut Plan) {
     if let Some(row) = some_row(rng, plan) {
-        plan.words[row] = rng.pick(&[16, 17, 31, 32, 255, 1 << 16, u32::MAX]);
+        plan.words[row] = rng.pick(&[16, 19, 31, 32, 255, 1 << 16, u32::MAX]);
     }
 }
 
@@ -125,15 +129,27 @@ fn beyond(rng: &mut Rng, plan: &mut Plan) {
     }
 }
 
-/// One of kinds 8 to 12 over a when or when-not.
+/// One of kinds 8 to 12, 17 and 18 over a row of kinds 13, 14, 17 and 18.
 fn not_plain(rng: &mut Rng, plan: &mut Plan) {
     let rows = plan.words.len() / 4;
-    let sampled = rng.pick_where(rows, |row| matches!(plan.words[4 * row], 13 | 14));
+    let sampled = rng.pick_where(rows, |row| matches!(plan.words[4 * row], 13 | 14 | 17 | 18));
     if let Some(a) = sampled.filter(|a| a + 1 < rows) {
         let flow = a + 1 + rng.below(rows - a - 1);
-        let a = a as u32;
-        let row = rng.pick(&[[8, a, 2, 1], [9, a, 2, 0], [10, a, 0, 0], [11, a, 5, 0], [12, a, 0, 0]]);
+        let (a, b) = (a as u32, rng.below(flow) as u32);
+        let moves = [[8, a, 2, 1], [9, a, 2, 0], [10, a, 0, 0], [11, a, 5, 0], [12, a, 0, 0]];
+        let views = [[17, a, b, 12], [17, b, a, 12], [18, a, a, 12]];
+        let row = if rng.percent(70) { rng.pick(&moves) } else { rng.pick(&views) };
         plan.words[4 * flow..][..4].copy_from_slice(&row);
+    }
+}
+
+/// A view of any lower flows, its period any small number or a multiple of many.
+fn any_view(rng: &mut Rng, plan: &mut Plan) {
+    let flow = some_row(rng, plan).unwrap_or(0) / 4;
+    if flow > 0 {
+        let [a, c] = [(); 2].map(|_| rng.below(flow) as u32);
+        let w = if rng.percent(50) { rng.range(1, 12) } else { rng.pick(&[12, 60, 720, 2520, 4095]) };
+        plan.words[4 * flow..][..4].copy_from_slice(&[rng.range(17, 18), a, c, w]);
     }
 }
 
@@ -168,7 +184,7 @@ fn swap_rows(rng: &mut Rng, plan: &mut Plan) {
 fn any_word(rng: &mut Rng, plan: &mut Plan) {
     if !plan.words.is_empty() {
         let place = rng.below(plan.words.len());
-        plan.words[place] = rng.pick(&[0, 1, 2, 3, 7, 8, 12, 13, 14, 15, 16, 63, 64, 4095, 4096, u32::MAX]);
+        plan.words[place] = rng.pick(&[0, 1, 2, 3, 7, 8, 12, 13, 14, 15, 16, 17, 18, 19, 63, 64, 4095, 4096, u32::MAX]);
     }
 }
 
@@ -179,6 +195,7 @@ pub fn disturb(rng: &mut Rng, plan: &mut Plan) {
             let like: &[u32] = match plan.words[row] {
                 2..=6 | 13 | 14 => &[2, 3, 4, 5, 6, 13, 14],
                 9 | 10 => &[9, 10],
+                17 | 18 => &[17, 18],
                 kind => &[kind],
             };
             plan.words[row] = rng.pick(like);
@@ -197,8 +214,9 @@ pub fn disturb(rng: &mut Rng, plan: &mut Plan) {
 /// over flows that do not go together.
 pub fn break_clocks(rng: &mut Rng, plan: &mut Plan) {
     for _ in 0..rng.pick(&[1, 2, 3, 5, 8]) {
-        match rng.below(20) {
+        match rng.below(21) {
             0 => beyond(rng, plan),
+            20 => any_view(rng, plan),
             1..=5 => other_source(rng, plan),
             6..=9 => any_operands(rng, plan),
             _ => disturb(rng, plan),
@@ -219,11 +237,21 @@ fn any_operands(rng: &mut Rng, plan: &mut Plan) {
 /// Small random rows of any kind: operands mostly lower, numbers small, nothing meant to fit. Few plans have inputs
 /// without a rate.
 pub fn any_rows(rng: &mut Rng) -> Plan {
-    let flows = 1 + rng.below(8);
     let sources: &[u32] = if rng.percent(5) { &[0, 1, 16] } else { &[0, 1] };
+    rows_of(rng, sources, &[2, 3, 4, 5, 6, 7, 8, 9, 10, 11, 12, 13, 14, 15, 17, 18])
+}
+
+/// The same with views and what they may be of alone, views most of all.
+pub fn any_views(rng: &mut Rng) -> Plan {
+    rows_of(rng, &[0, 0, 1], &[17, 18, 17, 18, 17, 18, 8, 9, 10, 12, 13])
+}
+
+/// Small random rows, with sources and others of these kinds.
+fn rows_of(rng: &mut Rng, sources: &[u32], others: &[u32]) -> Plan {
+    let flows = 1 + rng.below(8);
     let mut rows = Vec::new();
     for flow in 0..flows {
-        let kind = if flow == 0 || rng.percent(25) { rng.pick(sources) } else { rng.range(2, 15) };
+        let kind = if flow == 0 || rng.percent(25) { rng.pick(sources) } else { rng.pick(others) };
         let mut row = [kind, 0, 0, 0];
         for (word, sort) in row[1..].iter_mut().zip(FIELDS[kind as usize].chars()) {
             *word = match sort {

@@ -1,9 +1,18 @@
 //! Random plans that the check accepts: each row is derived from the clocks of the flows before it.
 
 use crate::rng::Rng;
-use crate::Plan;
+use crate::{Plan, CLOCK_WORDS};
 
-/// The clock that a row is meant to have: period, phase, conditions as 2 × flow + truth.
+/// A condition of a clock.
+#[derive(Clone, Copy, Debug, PartialEq, Eq)]
+pub struct Condition {
+    /// 2 × flow + truth.
+    pub word: u32,
+    /// Its view period, 0 where it is sampled directly.
+    pub view: u32,
+}
+
+/// The clock that a row is meant to have.
 #[derive(Clone, Debug, PartialEq, Eq)]
 pub struct Clock {
     /// Its period.
@@ -11,7 +20,7 @@ pub struct Clock {
     /// Its phase.
     pub phase: u32,
     /// Its conditions in order of sampling.
-    pub conditions: Vec<u32>,
+    pub conditions: Vec<Condition>,
 }
 
 impl Clock {
@@ -19,16 +28,20 @@ impl Clock {
         Clock { period, phase, conditions: Vec::new() }
     }
 
-    fn plus(&self, condition: u32) -> Self {
+    /// With one more condition, 2 × flow + truth, that is sampled directly.
+    pub fn plus(&self, word: u32) -> Self {
         let mut clock = self.clone();
-        clock.conditions.push(condition);
+        clock.conditions.push(Condition { word, view: 0 });
         clock
     }
 
-    /// Its seven words.
-    pub fn words(&self) -> [u32; 7] {
-        let mut words = [self.period, self.phase, self.conditions.len() as u32, 0, 0, 0, 0];
-        words[3..][..self.conditions.len()].copy_from_slice(&self.conditions);
+    /// Its words as the check gives them.
+    pub fn words(&self) -> [u32; CLOCK_WORDS] {
+        let mut words = [0; CLOCK_WORDS];
+        words[..3].copy_from_slice(&[self.period, self.phase, self.conditions.len() as u32]);
+        for (place, condition) in self.conditions.iter().enumerate() {
+            (words[3 + place], words[7 + place]) = (condition.word, condition.view);
+        }
         words
     }
 }
@@ -40,7 +53,7 @@ pub struct Shape {
     pub flows: usize,
     /// The greatest period, phase and delay that are chosen: small, and much happens in a short run.
     pub scale: u32,
-    /// Whether rows of kinds 13 to 15 may occur.
+    /// Whether rows of kinds 13 to 15, 17 and 18 may occur.
     pub sampling: bool,
 }
 
@@ -100,7 +113,7 @@ impl Draft<'_> {
     /// A kind to try next; sampling is preferred while it may occur, as merges need pairs.
     fn choose_kind(&mut self, sampling: bool) -> u32 {
         match sampling {
-            true if self.rng.percent(45) => self.rng.range(13, 15),
+            true if self.rng.percent(50) => self.rng.pick(&[13, 13, 14, 14, 15, 15, 17, 18]),
             _ => self.rng.range(0, 12),
         }
     }
@@ -123,7 +136,8 @@ impl Draft<'_> {
             11 => self.head(),
             12 => self.tail(),
             13 | 14 => self.sampled(kind),
-            _ => self.merge(),
+            15 => self.merge(),
+            _ => self.seen(kind),
         }
     }
 
@@ -225,11 +239,11 @@ impl Draft<'_> {
     /// When or when-not; often the other half of one that is there already, so that a merge finds both.
     fn sampled(&mut self, kind: u32) -> Option<([u32; 4], Clock)> {
         let half = match self.rng.percent(60) {
-            true => self.flow_where(|clock| !clock.conditions.is_empty()),
+            true => self.flow_where(|clock| clock.conditions.last().is_some_and(|last| last.view == 0)),
             false => None,
         };
         let (kind, c) = match half.and_then(|half| self.clock(half).conditions.last().copied()) {
-            Some(condition) => (13 + condition % 2, condition / 2),
+            Some(Condition { word, .. }) => (13 + word % 2, word / 2),
             None => (kind, self.flow_where(|clock| clock.conditions.len() < 4)?),
         };
         let clock = self.clock(c);
@@ -251,6 +265,36 @@ impl Draft<'_> {
         Some(([15, c as u32, a, b], self.clocks[c].clone()))
     }
 
+    /// When-seen or when-not-seen; often the view that another flow has already, so that the two go together.
+    fn seen(&mut self, kind: u32) -> Option<([u32; 4], Clock)> {
+        let known = match self.rng.percent(40) {
+            true => self.flow_where(|clock| clock.conditions.len() == 1 && clock.conditions[0].view > 0),
+            false => None,
+        };
+        if let Some(known) = known {
+            let clock = self.clock(known);
+            let Condition { word, view } = clock.conditions[0];
+            let a = self.plain_where(|other| (other.period, other.phase) == (clock.period, clock.phase))?;
+            return Some(([18 - word % 2, a, word / 2, view], clock));
+        }
+        let a = self.plain_where(|_| true)?;
+        let Clock { period, phase, .. } = self.clock(a);
+        let c = self.plain_where(|c| c.phase <= phase && common(period, c.period) <= 4095)?;
+        let w = self.multiple(common(period, self.clock(c).period));
+        let conditions = vec![Condition { word: 2 * c + (18 - kind), view: w }];
+        Some(([kind, a, c, w], Clock { period, phase, conditions }))
+    }
+
+    /// A multiple of a number up to 4095: mostly a small one, now and then the greatest or any.
+    fn multiple(&mut self, of: u32) -> u32 {
+        let most = 4095 / of;
+        of * match self.rng.below(8) {
+            0 => most,
+            1 => self.rng.range(1, most),
+            _ => self.rng.range(1, most.min(3)),
+        }
+    }
+
     /// Gives each register a source with its clock, which may be any flow of the table.
     fn choose_sources(&mut self) {
         for flow in 0..self.rows.len() {
@@ -260,4 +304,13 @@ impl Draft<'_> {
             }
         }
     }
+}
+
+/// The least common multiple of two periods.
+fn common(a: u32, b: u32) -> u32 {
+    let (mut divisor, mut rest) = (a, b);
+    while rest > 0 {
+        (divisor, rest) = (rest, divisor % rest);
+    }
+    a / divisor * b
 }

@@ -13,6 +13,9 @@ use std::path::{Path, PathBuf};
 
 pub use baarqidho::LISTING_MAX;
 
+/// The words of a clock: period, phase, how many conditions, the four of them, and their view periods.
+pub const CLOCK_WORDS: usize = 11;
+
 /// The repository's root.
 pub fn root() -> PathBuf {
     Path::new(env!("CARGO_MANIFEST_DIR")).join("../..")
@@ -43,10 +46,20 @@ impl Plan {
         self.words.chunks_exact(4).filter(|row| row[0] == 0).count()
     }
 
-    /// Whether it has no row of kinds 13 to 15.
+    /// Whether it has no row of kinds 13 to 15, 17 and 18.
     pub fn free_of_sampling(&self) -> bool {
-        self.words.chunks_exact(4).all(|row| !(13..=15).contains(&row[0]))
+        self.words.chunks_exact(4).all(|row| !(13..=15).contains(&row[0]) && !is_view(row))
     }
+
+    /// Whether it has a row of kinds 17 and 18.
+    pub fn has_views(&self) -> bool {
+        self.words.chunks_exact(4).any(is_view)
+    }
+}
+
+/// Whether a row is of kinds 17 and 18.
+pub fn is_view(row: &[u32]) -> bool {
+    matches!(row[0], 17 | 18)
 }
 
 /// The plans of a test: its own number, times BAARQIDHO_ROUNDS.

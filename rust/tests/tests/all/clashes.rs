@@ -131,7 +131,7 @@ fn ticks_of_registers() {
 #[test]
 fn what_a_clash_leaves() {
     let mut rng = Rng::new(41);
-    let mut seen = [0; 16];
+    let mut seen = [0; 19];
     for round in 0..rounds(60_000) {
         let plan = match round % 2 {
             0 => any_rows(&mut rng),
@@ -157,6 +157,6 @@ fn what_a_clash_leaves() {
         assert_eq!(shorter.words[..before], outcome.words[..before]);
     }
     for (kind, &count) in seen.iter().enumerate() {
-        assert_eq!(count > 0, matches!(kind, 2..=8 | 11 | 13..=15), "clashes by kind: {seen:?}");
+        assert_eq!(count > 0, matches!(kind, 2..=8 | 11 | 13..=15 | 17 | 18), "clashes by kind: {seen:?}");
     }
 }

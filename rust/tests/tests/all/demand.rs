@@ -5,24 +5,32 @@ use tests::faults::{any_rows, disturb, plant};
 use tests::generate::{accepted, Shape};
 use tests::implementation::{Implementation, ALL, LIBRARY, QUICK};
 use tests::rng::Rng;
-use tests::{rounds, Plan};
+use tests::{rounds, Plan, CLOCK_WORDS};
 
 use crate::rates::erased;
 
-/// Whether a flow has to have a value at a tick: its clock words, the conditions read from that tick's cells.
-fn on_calendar(clock: &[u32], trace: &Outcome, flows: usize, tick: usize) -> bool {
+/// Whether a flow has to have a value at a tick, by the clock words of all flows. A condition is read from that tick's
+/// cells, one that is viewed at the tick that lies as many whole view periods behind the first tick of its own flow as
+/// this tick does behind the flow's.
+fn on_calendar(clocks: &[u32], trace: &Outcome, flow: usize, tick: usize) -> bool {
+    let flows = clocks.len() / CLOCK_WORDS;
+    let clock_of = |flow: usize| &clocks[CLOCK_WORDS * flow..][..CLOCK_WORDS];
+    let clock = clock_of(flow);
     let (period, phase, conditions) = (clock[0] as usize, clock[1] as usize, clock[2] as usize);
-    let holds = |condition: u32| {
-        let place = tick * flows + condition as usize / 2;
+    let holds = |place: usize| {
+        let (condition, view) = (clock[3 + place] as usize, clock[7 + place] as usize);
+        let c = condition / 2;
+        let read = if view == 0 { tick } else { clock_of(c)[1] as usize + view * ((tick - phase) / view) };
+        let place = read * flows + c;
         trace.bytes[place] == 1 && (trace.words[place] != 0) == (condition % 2 == 1)
     };
-    tick >= phase && (tick - phase).is_multiple_of(period) && clock[3..3 + conditions].iter().all(|&word| holds(word))
+    tick >= phase && (tick - phase).is_multiple_of(period) && (0..conditions).all(holds)
 }
 
 /// If the check accepts the plan, the run ends and each mark is that of the calendar. Gives whether it was accepted.
 fn first_half(rng: &mut Rng, of: &[&Implementation], plan: &Plan, ticks: u32) -> bool {
     let flows = plan.words.len() / 4;
-    let clocks = check(of, plan, 7 * flows);
+    let clocks = check(of, plan, CLOCK_WORDS * flows);
     if clocks.parts.0 != 0 {
         return false;
     }
@@ -31,7 +39,7 @@ fn first_half(rng: &mut Rng, of: &[&Implementation], plan: &Plan, ticks: u32) ->
     assert_eq!(trace.parts, (0, 0, 0, ticks), "{plan:?}");
     for tick in 0..ticks as usize {
         for flow in 0..flows {
-            let expected = on_calendar(&clocks.words[7 * flow..7 * flow + 7], &trace, flows, tick);
+            let expected = on_calendar(&clocks.words[..CLOCK_WORDS * flows], &trace, flow, tick);
             let mark = trace.bytes[tick * flows + flow];
             assert_eq!(mark, u8::from(expected), "tick {tick}, flow {flow} of {plan:?}");
         }
@@ -77,7 +85,7 @@ fn marks_are_the_calendar_of_filled_plans() {
         let first = plan.words.chunks(4).position(|row| row[0] == 16);
         if let Some(row) = first {
             let refusal = (13, row as u32, 0, 0);
-            assert_eq!(check(&[&LIBRARY], &plan, 7 * 64).parts, refusal, "{plan:?}");
+            assert_eq!(check(&[&LIBRARY], &plan, CLOCK_WORDS * 64).parts, refusal, "{plan:?}");
             assert_eq!(run_exactly(&[&LIBRARY], &plan, &[], 0).parts, refusal, "{plan:?}");
             lacking += 1;
         }
@@ -88,10 +96,10 @@ fn marks_are_the_calendar_of_filled_plans() {
     assert!(lacking > plans / 4, "{lacking} of {plans}");
 }
 
-/// A plan without sampling and merging that the check answers by 0 or 21: accepted exactly when a run of 8,191 ticks
-/// ends. Gives the answer's number, if the plan is such a one.
+/// A plan without sampling, views and merging that the check answers by 0 or 21: accepted exactly when a run of 8,191
+/// ticks ends. Gives the answer's number, if the plan is such a one.
 fn second_half(rng: &mut Rng, plan: &Plan) -> Option<u32> {
-    let number = check(&ALL, plan, 7 * plan.words.len() / 4).parts.0;
+    let number = check(&ALL, plan, CLOCK_WORDS * plan.words.len() / 4).parts.0;
     if !plan.free_of_sampling() || !matches!(number, 0 | 21) {
         return None;
     }
@@ -141,7 +149,7 @@ fn the_last_of_8191_ticks() {
         let last = rows.len() as u32 - 1;
         let tick = if rows.len() == 2 { 8_190 } else { 8_189 };
         let plan = Plan::of(&rows);
-        assert_eq!(check(&ALL, &plan, 7 * rows.len()).parts, (21, last, 0, 0));
+        assert_eq!(check(&ALL, &plan, CLOCK_WORDS * rows.len()).parts, (21, last, 0, 0));
         let log = vec![1; tick as usize + 1];
         assert_eq!(run_exactly(&QUICK, &plan, &log, tick + 1).parts, (34, last, tick, 0));
         assert_eq!(run_exactly(&QUICK, &plan, &log[1..], tick).parts, (0, 0, 0, tick));

@@ -3,7 +3,7 @@
 use reference::{accepted_fillings, Limits};
 use tests::compare::{check, fill_rates, words_are};
 use tests::implementation::ALL;
-use tests::Plan;
+use tests::{Plan, CLOCK_WORDS};
 
 /// An input without a rate.
 const OPEN: [u32; 4] = [16, 0, 0, 0];
@@ -19,7 +19,7 @@ fn are_filled(rows: &[[u32; 4]], rates: &[(u32, u32)]) {
     let open = filled.iter_mut().filter(|row| **row == OPEN);
     assert_eq!(open.zip(rates).map(|(row, rate)| *row = at(rate.0, rate.1)).count(), rates.len(), "{rows:?}");
     assert!(!filled.contains(&OPEN), "{rows:?}");
-    assert_eq!(check(&ALL, &Plan::of(&filled), 7 * rows.len()).parts, (0, 0, 0, count), "{filled:?}");
+    assert_eq!(check(&ALL, &Plan::of(&filled), CLOCK_WORDS * rows.len()).parts, (0, 0, 0, count), "{filled:?}");
     let outcome = fill_rates(&ALL, &Plan::of(rows), 4 * rows.len());
     assert_eq!(outcome.parts, (0, 0, 0, count), "{rows:?}");
     assert!(words_are(&outcome, &filled.concat()), "{rows:?}: {:?}", outcome.words);
@@ -357,11 +357,13 @@ fn order_of_refusals() {
     are_refused(&unjoined, 39, 1);
     for rows in [joined, differing, unjoined] {
         let with = |row: [u32; 4]| Plan::of(&[&rows[..], &[row]].concat());
-        is_refused(&with([17, 0, 0, 0]), 13, 3);
-        is_refused(&with([17, 1, 0, 0]), 13, 3);
+        is_refused(&with([19, 0, 0, 0]), 13, 3);
+        is_refused(&with([19, 1, 0, 0]), 13, 3);
         is_refused(&with([u32::MAX, 0, 0, 0]), 13, 3);
         is_refused(&with([16, 0, 1, 0]), 14, 3);
         is_refused(&with([9, 0, 64, 0]), 14, 3);
+        is_refused(&with([17, 0, 0, 0]), 14, 3);
+        is_refused(&with([18, 0, 3, 1]), 15, 3);
         is_refused(&with([12, 3, 0, 0]), 15, 3);
         is_refused(&with([7, 0, 0, 4]), 15, 3);
         is_refused(&Plan::of(&[&rows[..], &[OPEN; 62]].concat()), 11, 0);

@@ -2,13 +2,13 @@
 
 use tests::compare::{check, least_flows, least_part, words_are};
 use tests::implementation::{Parts, ALL};
-use tests::Plan;
+use tests::{Plan, CLOCK_WORDS};
 
 /// The check answers rows with 21 at a flow, and they come down to the part of these flows, which has these rows. All
 /// of it is worked out by hand.
 fn comes_down_to(rows: &[[u32; 4]], named: u32, flows: &[u32], part: &[[u32; 4]]) {
     let (plan, count) = (Plan::of(rows), flows.len() as u32);
-    assert_eq!(check(&ALL, &plan, 7 * rows.len()).parts, (21, named, 0, 0), "{rows:?}");
+    assert_eq!(check(&ALL, &plan, CLOCK_WORDS * rows.len()).parts, (21, named, 0, 0), "{rows:?}");
     let found = least_part(&ALL, &plan, 4 * rows.len());
     assert_eq!(found.parts, (0, 0, 0, count), "{rows:?}");
     assert!(words_are(&found, &part.concat()), "{rows:?}: {:?}", found.words);
@@ -116,10 +116,10 @@ fn numbers_that_move() {
 /// itself and its beat have its clock.
 #[test]
 fn the_smallest_parts() {
-    for kind in 0..=15 {
+    for kind in (0..=15).chain(17..=18) {
         for fields in [[0, 0, 0], [1, 0, 0], [0, 1, 0], [0, 1, 1], [1, 1, 0], [1, 1, 1]] {
             let plan = Plan::of(&[[kind, fields[0], fields[1], fields[2]]]);
-            let (number, ..) = check(&ALL, &plan, 7).parts;
+            let (number, ..) = check(&ALL, &plan, CLOCK_WORDS).parts;
             assert!(matches!((kind, number), (0 | 1, 0 | 14) | (2.., 14 | 15)), "{plan:?}: {number}");
             let refused = if number == 0 { 38 } else { number };
             assert_eq!(least_part(&ALL, &plan, 4).parts, (refused, 0, 0, 0), "{plan:?}");
@@ -158,7 +158,7 @@ fn the_greatest_plans() {
 fn not_differing() {
     let refused = |rows: &[[u32; 4]], parts: Parts| {
         let plan = Plan::of(rows);
-        assert_eq!(check(&ALL, &plan, 7 * rows.len()).parts, parts, "{rows:?}");
+        assert_eq!(check(&ALL, &plan, CLOCK_WORDS * rows.len()).parts, parts, "{rows:?}");
         for len in [0, 1, 4 * rows.len(), 300] {
             for outcome in [least_part(&ALL, &plan, len), least_flows(&ALL, &plan, len)] {
                 assert_eq!(outcome.parts, (38, 0, 0, 0), "{rows:?}");
@@ -220,8 +220,10 @@ fn order_of_refusals() {
     for rows in [[at(1, 0), at(2, 0), [2, 0, 1, 0]], [at(1, 0), at(2, 0), [2, 0, 0, 0]], beyond] {
         let with = |row: [u32; 4]| Plan::of(&[&rows[..], &[row]].concat());
         refused(&with([16, 0, 0, 0]), 13, 3);
-        refused(&with([17, 0, 0, 0]), 13, 3);
+        refused(&with([19, 0, 0, 0]), 13, 3);
         refused(&with([9, 0, 64, 0]), 14, 3);
+        refused(&with([17, 0, 0, 0]), 14, 3);
+        refused(&with([18, 0, 3, 1]), 15, 3);
         refused(&with([12, 3, 0, 0]), 15, 3);
         refused(&with([7, 0, 0, 4]), 15, 3);
         refused(&Plan::of(&[&rows[..], &[at(1, 0); 62]].concat()), 11, 0);

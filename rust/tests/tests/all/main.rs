@@ -6,6 +6,7 @@ mod demand;
 mod endurance;
 mod extremes;
 mod fill;
+mod fillings;
 mod header;
 mod least;
 mod limits;

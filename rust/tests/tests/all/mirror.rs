@@ -17,7 +17,7 @@ static BOTH: [&Implementation; 2] = [&REFERENCE, &MIRROR];
 #[test]
 fn short_runs() {
     let mut rng = Rng::new(75);
-    let (mut ended, mut refused, mut clashed) = (0, [0; 34], [0; 16]);
+    let (mut ended, mut refused, mut clashed) = (0, [0; 34], [0; 19]);
     let plans = rounds(120_000);
     for round in 0..plans {
         let plan = match round % 4 {
@@ -50,7 +50,7 @@ fn short_runs() {
         assert!(refused[number] > plans / 1_000, "number {number} occurs: {refused:?}");
     }
     for (kind, &count) in clashed.iter().enumerate() {
-        assert_eq!(count > 0, matches!(kind, 2..=8 | 11 | 13..=15), "clashes by kind: {clashed:?}");
+        assert_eq!(count > 0, matches!(kind, 2..=8 | 11 | 13..=15 | 17 | 18), "clashes by kind: {clashed:?}");
     }
 }
 

@@ -6,7 +6,7 @@ use tests::generate::erase_rates;
 use tests::implementation::{Implementation, ALL};
 use tests::rng::Rng;
 use tests::tally::Tally;
-use tests::{rounds, Plan, LISTING_MAX};
+use tests::{rounds, Plan, CLOCK_WORDS, LISTING_MAX};
 
 use crate::short::sound;
 
@@ -23,7 +23,7 @@ pub fn read_and_back(rng: &mut Rng, of: &[&Implementation], packed: &[u8], tally
     let words = plain.words[..4 * count as usize].to_vec();
     tally.add("read", read(of, packed, rng.around(words.len())).parts.0);
     let plan = Plan { count, words };
-    tally.add("check", check(of, &plan, 7 * count as usize).parts.0);
+    tally.add("check", check(of, &plan, CLOCK_WORDS * count as usize).parts.0);
     let written = write(of, &plan, packed.len());
     assert_eq!(written.parts, (0, 0, 0, packed.len() as u32));
     assert_eq!(&written.bytes[..packed.len()], packed);
@@ -52,7 +52,7 @@ fn damaged_bytes() {
     for number in [0, 10, 11, 12, 13, 14, 15, 16] {
         assert!(tally.count("read", number) > plans / 500, "number {number} occurs: {tally}");
     }
-    for number in [21, 22, 23] {
+    for number in [21, 22, 23, 40] {
         assert!(tally.count("check", number) > 20, "number {number} occurs: {tally}");
     }
 }
@@ -93,8 +93,8 @@ fn every_cut_and_every_bit() {
     assert!(tally.count("read", 16) > 0, "{tally}");
 }
 
-/// The bits of a packed row, kinds 0 to 16.
-const LENGTHS: [usize; 17] = [29, 61, 17, 17, 17, 17, 17, 49, 29, 17, 23, 55, 11, 17, 17, 23, 5];
+/// The bits of a packed row, kinds 0 to 18.
+const LENGTHS: [usize; 19] = [29, 61, 17, 17, 17, 17, 17, 49, 29, 17, 23, 55, 11, 17, 17, 23, 5, 29, 29];
 
 /// A row of each kind behind 0 to 15 inputs, that is at each place of a byte, within the first eight bytes and past
 /// them; every field with each number next to a limit of some field. What is accepted has the length of its kind, is
@@ -103,9 +103,9 @@ const LENGTHS: [usize; 17] = [29, 61, 17, 17, 17, 17, 17, 49, 29, 17, 23, 55, 11
 fn every_kind_at_every_place() {
     let mut rng = Rng::new(14);
     let mut tally = Tally::default();
-    let mut accepted = [0; 17];
+    let mut accepted = [0; 19];
     let numbers = [0, 1, 63, 64, 4095, 4096, u32::MAX];
-    for (kind, inputs) in (0..17).flat_map(|kind| (0..16).map(move |inputs| (kind, inputs))) {
+    for (kind, inputs) in (0..19).flat_map(|kind| (0..16).map(move |inputs| (kind, inputs))) {
         for choice in 0..numbers.len().pow(3) {
             let field = |place: u32| numbers[choice / numbers.len().pow(place) % numbers.len()];
             let mut rows = vec![[0, 4095, 4095, 0]; inputs];
@@ -152,6 +152,7 @@ fn rows_of_five_bits() {
             8 => [8, 0, 63, 4095],
             9 => [9, 0, 63, 0],
             11 => [11, 0, u32::MAX, 4095],
+            17 | 18 => [kind as u32, 0, 0, 4095],
             kind => [kind, 0, 0, 0],
         };
         for (before, between, behind) in (1..10).flat_map(|m| (0..9).flat_map(move |n| [(m, n, 0), (m, n, 1)])) {

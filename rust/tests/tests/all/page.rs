@@ -192,7 +192,8 @@ fn order_of_refusals() {
     // For three flows: both right, one of them wrong, and both wrong.
     for (times, page_len) in [(3, 200), (3, 103), (2, 200), (4, 200), (0, 0), (65, 0)] {
         refused(&[&differ[..], &[[16, 0, 0, 0]]].concat(), times, page_len, (13, 3, 0, 0));
-        refused(&[&differ[..], &[[17, 0, 0, 0]]].concat(), times, page_len, (13, 3, 0, 0));
+        refused(&[&differ[..], &[[19, 0, 0, 0]]].concat(), times, page_len, (13, 3, 0, 0));
+        refused(&[&differ[..], &[[17, 0, 0, 0]]].concat(), times, page_len, (14, 3, 0, 0));
         refused(&[&differ[..], &[[9, 0, 64, 0]]].concat(), times, page_len, (14, 3, 0, 0));
         refused(&[&differ[..], &[[12, 3, 0, 0]]].concat(), times, page_len, (15, 3, 0, 0));
         refused(&[], times, page_len, (11, 0, 0, 0));
@@ -200,6 +201,7 @@ fn order_of_refusals() {
         refused(&differ, times, page_len, (21, 2, 0, 0));
         refused(&[input, [10, 0, 4095, 0], [10, 1, 1, 0]], times, page_len, (22, 2, 0, 0));
         refused(&[input, [13, 0, 0, 0], [12, 1, 0, 0]], times, page_len, (23, 2, 0, 0));
+        refused(&[input, [0, 2, 0, 0], [17, 0, 1, 1]], times, page_len, (40, 2, 0, 0));
         refused(&[input, [0, 2, 0, 0], [7, 5, 0, 1]], times, page_len, (21, 2, 0, 0));
     }
     for (times, page_len, number) in

@@ -95,8 +95,7 @@ fn few_clocks(rng: &mut Rng) -> (Plan, Vec<Clock>) {
 fn sample(plan: &mut Plan, clocks: &mut Vec<Clock>) {
     while let Some(last) = clocks.last().filter(|last| last.conditions.len() < 4 && clocks.len() < 64) {
         let before = plan.count - 1;
-        let mut clock = last.clone();
-        clock.conditions.push(2 * before + 1);
+        let clock = last.plus(2 * before + 1);
         clocks.push(clock);
         plan.words.extend([13, before, before, 0]);
         plan.count += 1;

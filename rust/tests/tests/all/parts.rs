@@ -8,11 +8,11 @@ use tests::generate::{accepted, Shape};
 use tests::implementation::{Implementation, ALL, LIBRARY, QUICK};
 use tests::rng::Rng;
 use tests::tally::Tally;
-use tests::{rounds, Plan};
+use tests::{rounds, Plan, CLOCK_WORDS};
 
 /// What the check answers: number and flow.
 fn checked(plan: &Plan) -> (u32, u32) {
-    let (number, flow, ..) = check(&[&LIBRARY], plan, 7 * plan.words.len() / 4).parts;
+    let (number, flow, ..) = check(&[&LIBRARY], plan, CLOCK_WORDS * plan.words.len() / 4).parts;
     (number, flow)
 }
 
@@ -219,17 +219,17 @@ pub fn every_plan(
     }
 }
 
-/// All rows of several flows, `a` being one of them: registers, sums, sampling and merges.
+/// All rows of several flows, `a` being one of them: registers, sums, sampling, views of two periods, and merges.
 pub fn of_several(a: u32, flow: u32, count: u32) -> Vec<[u32; 4]> {
     let mut rows: Vec<[u32; 4]> = (0..count).map(|source| [7, 5, a, source]).collect();
     for b in 0..flow {
-        rows.extend([[2, a, b, 0], [13, a, b, 0], [14, a, b, 0]]);
+        rows.extend([[2, a, b, 0], [13, a, b, 0], [14, a, b, 0], [17, a, b, 2], [18, a, b, 4]]);
         rows.extend((0..flow).map(|c| [15, c, a, b]));
     }
     rows
 }
 
-/// All rows over lower flows, with two inputs and one choice of copies, gaps, delays and ticks: 21, 22 and 23 are all
+/// All rows over lower flows, with two inputs and one choice of copies, gaps, delays and ticks: 21, 22, 23 and 40 are all
 /// within reach of few of them.
 fn any_kind(flow: u32, count: u32) -> Vec<[u32; 4]> {
     let mut rows = vec![[0, 1, 0, 0], [0, 2, 2, 0]];
@@ -258,8 +258,9 @@ fn every_plan_of_four_rows() {
     for count in 1..=4 {
         every_plan(count, any_kind, &mut Vec::new(), &mut |plan| seen.add(plan, &least(&ALL, plan)));
     }
-    assert_eq!(seen.plans, 2 + 2 * 13 + 2 * 14 * 38 + 2 * 15 * 40 * 83);
-    seen.assert_all(5_000, &["five flows and more", "nine flows and more", "more than 32 flows"], &[0, 21, 22, 23]);
+    assert_eq!(seen.plans, 2 + 2 * 15 + 2 * 16 * 46 + 2 * 17 * 48 * 101);
+    let but = ["five flows and more", "nine flows and more", "more than 32 flows"];
+    seen.assert_all(7_000, &but, &[0, 21, 22, 23, 40]);
 }
 
 /// Every plan of five rows of few kinds.
@@ -320,7 +321,7 @@ fn random_plans(test: u64, of: &[&Implementation], plans: usize, most: usize, bu
             rooms(&mut rng, of, &plan, &least);
         }
     }
-    seen.assert_all(500, but, &[0, 21, 22, 23]);
+    seen.assert_all(500, but, &[0, 21, 22, 23, 40]);
 }
 
 /// Against all sets of flows.

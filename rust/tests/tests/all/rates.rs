@@ -1,5 +1,4 @@
-//! Rates filled in on every plan of few rows and on random ones, against all fillings within small limits, and on random
-//! plans up to 64 flows.
+//! Rates filled in on random plans, against all fillings within small limits, and up to 64 flows.
 
 use reference::{fill_rates_within, Limits};
 use tests::compare::{check, fill_rates, words_are, Outcome};
@@ -8,24 +7,28 @@ use tests::generate::{accepted, erase_rates, Shape};
 use tests::implementation::{Implementation, ALL, LIBRARY, QUICK};
 use tests::rng::Rng;
 use tests::tally::Tally;
-use tests::{rounds, Plan};
-
-use crate::parts::{every_plan, of_several};
+use tests::{is_view, rounds, Plan, CLOCK_WORDS};
 
 /// An input without a rate.
-const OPEN: [u32; 4] = [16, 0, 0, 0];
+pub const OPEN: [u32; 4] = [16, 0, 0, 0];
 
 /// The flows of a plan's open rows.
 fn open_flows(plan: &Plan) -> impl Iterator<Item = usize> + '_ {
     plan.words.chunks_exact(4).enumerate().filter(|(_, row)| **row == OPEN).map(|(flow, _)| flow)
 }
 
+/// The flows that a row joins with its result: all that it names, but of a view not the one that is seen.
+fn joins(row: &[u32]) -> impl Iterator<Item = usize> + '_ {
+    let of_kind = if is_view(row) { "f" } else { FIELDS[row[0] as usize] };
+    of_kind.char_indices().filter(|(_, sort)| "fs".contains(*sort)).map(|(place, _)| row[1 + place] as usize)
+}
+
 /// For each flow a number that it has in common with exactly those to which chains join it.
 fn chains(plan: &Plan) -> Vec<usize> {
     let mut chain: Vec<usize> = (0..plan.words.len() / 4).collect();
     for (flow, row) in plan.words.chunks(4).enumerate() {
-        for (place, _) in FIELDS[row[0] as usize].char_indices().filter(|(_, sort)| "fs".contains(*sort)) {
-            let (old, new) = (chain[row[1 + place] as usize], chain[flow]);
+        for other in joins(row) {
+            let (old, new) = (chain[other], chain[flow]);
             chain.iter_mut().filter(|chain| **chain == old).for_each(|chain| *chain = new);
         }
     }
@@ -40,11 +43,11 @@ fn lowest_unjoined(plan: &Plan) -> Option<usize> {
 }
 
 /// What the call made of a plan that is a table, with room for all of it.
-struct Filled {
-    plan: Plan,
-    number: u32,
+pub struct Filled {
+    pub plan: Plan,
+    pub number: u32,
     /// The plan filled in, if it was.
-    filled: Option<Plan>,
+    pub filled: Option<Plan>,
 }
 
 /// All that can be said of an answer without another implementation that gives one. Nothing where the plan is no table.
@@ -74,18 +77,18 @@ fn facts(plan: &Plan, outcome: &Outcome) -> Option<Filled> {
         filled.words[4 * flow..][..4].copy_from_slice(&[0, period, phase, 0]);
     }
     assert!(words_are(outcome, &filled.words), "{plan:?}: {:?}", outcome.words);
-    assert_eq!(check(&[&LIBRARY], &filled, 7 * flows).parts, (0, 0, 0, count), "{plan:?}: {filled:?}");
+    assert_eq!(check(&[&LIBRARY], &filled, CLOCK_WORDS * flows).parts, (0, 0, 0, count), "{plan:?}: {filled:?}");
     Some(Filled { plan: plan.clone(), number, filled: Some(filled) })
 }
 
 /// Compares the implementations on a plan with room for all of it.
-fn fill(of: &[&Implementation], plan: &Plan) -> Option<Filled> {
+pub fn fill(of: &[&Implementation], plan: &Plan) -> Option<Filled> {
     facts(plan, &fill_rates(of, plan, plan.words.len()))
 }
 
 /// All fillings within some limits agree with an answer for the limits of written fields: the filling is found if it is
 /// within them, and otherwise there is none. That there are not two is part of the trial. Gives whether it was found.
-fn all_fillings_agree(limits: Limits, answer: &Filled) -> bool {
+pub fn all_fillings_agree(limits: Limits, answer: &Filled) -> bool {
     let Filled { plan, number, filled } = answer;
     let mut words = plan.words.clone();
     let tried = fill_rates_within(limits, plan.count, &plan.words, &mut words);
@@ -124,8 +127,28 @@ fn some_rate(filled: &Filled, test: impl Fn((u32, u32), &[(u32, u32)]) -> bool) 
     open_flows(&filled.plan).any(|flow| test((table.words[4 * flow + 1], table.words[4 * flow + 2]), &written))
 }
 
+/// Whether the plan was refused for the rule of a view: with later rows of no ticks in place of its views it is filled in,
+/// and with the views in that again the check answers 40.
+fn breaks_a_view(filled: &Filled) -> bool {
+    if filled.number != 21 || !filled.plan.has_views() {
+        return false;
+    }
+    let mut plan = filled.plan.clone();
+    plan.words.chunks_exact_mut(4).filter(|row| is_view(row)).for_each(|row| row.copy_from_slice(&[10, row[1], 0, 0]));
+    let outcome = fill_rates(&[&LIBRARY], &plan, plan.words.len());
+    let rows = filled.plan.words.chunks_exact(4).zip(outcome.words.chunks_exact(4));
+    plan.words = rows.flat_map(|(row, filled)| if is_view(row) { row } else { filled }).copied().collect();
+    outcome.parts.0 == 0 && check(&[&LIBRARY], &plan, 64 * CLOCK_WORDS).parts.0 == 40
+}
+
+/// Whether a view of the plan has a flow that is open as its operand at a place, 1 or 2.
+fn some_view(filled: &Filled, place: usize) -> bool {
+    let mut views = filled.plan.words.chunks(4).filter(|row| is_view(row));
+    views.any(|row| filled.plan.words[4 * row[place] as usize..][..4] == OPEN)
+}
+
 /// The sorts that have to occur.
-static SORTS: [Sort; 12] = [
+static SORTS: [Sort; 15] = [
     ("filled in", |filled| filled.filled.is_some() && open(filled) > 0),
     ("filled in, two rows", |filled| filled.filled.is_some() && open(filled) == 2),
     ("filled in, three rows and more", |filled| filled.filled.is_some() && open(filled) >= 3),
@@ -146,17 +169,23 @@ static SORTS: [Sort; 12] = [
     ("no filling", |filled| filled.number == 21 && open(filled) > 0),
     ("nothing to fill in, and refused", |filled| filled.number == 21 && open(filled) == 0),
     ("not joined", |filled| filled.number == 39),
+    ("filled in under a view", |filled| filled.filled.is_some() && some_view(filled, 1)),
+    ("filled in and seen", |filled| filled.filled.is_some() && some_view(filled, 2)),
+    ("no filling, for a view's rule", |filled| open(filled) > 0 && breaks_a_view(filled)),
 ];
+
+/// Those of them that need views.
+pub const OF_VIEWS: [&str; 3] = ["filled in under a view", "filled in and seen", "no filling, for a view's rule"];
 
 /// How often each sort of answer occurred.
 #[derive(Default)]
-struct Seen {
-    plans: usize,
+pub struct Seen {
+    pub plans: usize,
     sorts: [usize; SORTS.len()],
 }
 
 impl Seen {
-    fn add(&mut self, filled: &Filled) {
+    pub fn add(&mut self, filled: &Filled) {
         self.plans += 1;
         for (seen, (_, is)) in self.sorts.iter_mut().zip(&SORTS) {
             *seen += usize::from(is(filled));
@@ -164,87 +193,11 @@ impl Seen {
     }
 
     /// Every sort occurred, but for some, once in so many plans.
-    fn assert_all(&self, one_in: usize, but: &[&str]) {
+    pub fn assert_all(&self, one_in: usize, but: &[&str]) {
         for (seen, (sort, _)) in self.sorts.iter().zip(&SORTS).filter(|(_, (sort, _))| !but.contains(sort)) {
             assert!(*seen > self.plans / one_in, "{sort}: {seen} of {} plans", self.plans);
         }
     }
-}
-
-/// All rows over lower flows, an open row, and three rated ones; with few choices of copies, gaps, delays and ticks.
-fn any_kind(flow: u32, count: u32) -> Vec<[u32; 4]> {
-    let mut rows = vec![OPEN, [0, 2, 2, 0], [0, 4, 0, 0], [1, 5, 1, 1]];
-    for a in 0..flow {
-        rows.extend([[8, a, 2, 1], [8, a, 2, 2], [9, a, 2, 0], [9, a, 63, 0]]);
-        rows.extend([[10, a, 1, 0], [10, a, 2, 0], [10, a, 4094, 0], [11, a, 9, 0], [11, a, 9, 1], [12, a, 0, 0]]);
-        rows.extend(of_several(a, flow, count));
-    }
-    rows
-}
-
-/// Fewer kinds, for one row more: so that two open rows can be joined to a rated one.
-fn few_kinds(flow: u32, count: u32) -> Vec<[u32; 4]> {
-    let mut rows = vec![OPEN, [0, 2, 2, 0], [1, 5, 4, 0]];
-    for a in 0..flow {
-        rows.extend([[8, a, 2, 2], [9, a, 2, 0], [10, a, 2, 0], [12, a, 0, 0]]);
-        rows.extend((flow..count).map(|source| [7, 5, a, source]));
-        rows.extend((0..a).map(|b| [2, a, b, 0]));
-    }
-    rows
-}
-
-/// Few kinds with sampling, and merges in the last row.
-fn sampling_kinds(flow: u32, count: u32) -> Vec<[u32; 4]> {
-    let mut rows = vec![OPEN, [0, 2, 2, 0]];
-    for a in 0..flow {
-        rows.push([9, a, 2, 0]);
-        rows.extend((0..a).map(|b| [2, a, b, 0]));
-        for b in 0..flow {
-            match flow + 1 == count {
-                true => rows.extend((0..flow).map(|c| [15, c, a, b])),
-                false => rows.extend([[13, a, b, 0], [14, a, b, 0]]),
-            }
-        }
-    }
-    rows
-}
-
-/// Every plan of so many rows, against all fillings with periods and phases up to 6.
-fn every_plan_of(count: u32, rows_of: fn(u32, u32) -> Vec<[u32; 4]>, seen: &mut Seen) {
-    every_plan(count, rows_of, &mut Vec::new(), &mut |plan| {
-        let filled = fill(&ALL, plan).expect("a table");
-        all_fillings_agree(Limits { period: 6, phase: 6 }, &filled);
-        seen.add(&filled);
-    });
-}
-
-/// Of any kind.
-#[test]
-fn every_plan_of_four_rows() {
-    let mut seen = Seen::default();
-    (1..=4).for_each(|count| every_plan_of(count, any_kind, &mut seen));
-    assert_eq!(seen.plans, 4 + 4 * 20 + 4 * 21 * 50 + 4 * 22 * 52 * 100);
-    // Two open rows and a rated one are joined by two further rows.
-    seen.assert_all(5_000, &["filled in, two rows", "filled in, three rows and more"]);
-}
-
-/// Of few kinds.
-#[test]
-fn every_plan_of_five_rows() {
-    let mut seen = Seen::default();
-    every_plan_of(5, few_kinds, &mut seen);
-    assert_eq!(seen.plans, 3 * 11 * 18 * 24 * 29);
-    seen.assert_all(2_000, &["filled in, three rows and more"]);
-}
-
-/// Of few kinds, with sampling and merges.
-#[test]
-fn every_plan_of_five_rows_that_sample() {
-    let mut seen = Seen::default();
-    every_plan_of(5, sampling_kinds, &mut seen);
-    assert_eq!(seen.plans, 2 * 5 * 13 * 26 * 76);
-    let phases = ["a phase above all written ones", "a phase below all written ones"];
-    seen.assert_all(10_000, &[&phases[..], &["filled in, three rows and more"]].concat());
 }
 
 /// A sound plan of up to so many flows, most constants made inputs. Mostly rows are added that join flows on one clock.
@@ -332,7 +285,8 @@ fn erased_rates_come_back() {
         seen.add(&comes_back(&QUICK, erased(&mut rng, most)));
         seen.add(&comes_back(&QUICK, chain(&mut rng, 64)));
     }
-    seen.assert_all(200, &["no filling", "nothing to fill in, and refused", "not joined"]);
+    let refused = ["no filling", "nothing to fill in, and refused", "not joined", "no filling, for a view's rule"];
+    seen.assert_all(200, &refused);
     for _ in 0..rounds(3_000) {
         comes_back(&ALL, erased(&mut rng, 24));
         comes_back(&ALL, chain(&mut rng, 64));
@@ -394,7 +348,7 @@ fn random_plans_up_to_64_flows() {
         }
         seen.add(&filled);
     }
-    seen.assert_all(200, &[]);
+    seen.assert_all(300, &[]);
 }
 
 /// Plans with faults of all sorts, and rooms of any length.

@@ -7,7 +7,7 @@ use tests::generate::{accepted, erase_rates, Clock, Shape};
 use tests::implementation::{Implementation, ALL};
 use tests::rng::Rng;
 use tests::tally::Tally;
-use tests::{rounds, Plan, LISTING_MAX};
+use tests::{rounds, Plan, CLOCK_WORDS, LISTING_MAX};
 
 /// A plan that is meant to be accepted, with its clocks.
 pub fn sound(rng: &mut Rng) -> (Plan, Vec<Clock>) {
@@ -25,7 +25,7 @@ pub fn faulty(rng: &mut Rng) -> Plan {
 /// All calls on one plan, with buffers and logs of right and wrong lengths. Gives the packed bytes if there are any.
 pub fn every_call(rng: &mut Rng, of: &[&Implementation], plan: &Plan, tally: &mut Tally) -> Option<Vec<u8>> {
     let flows = plan.words.len() / 4;
-    let checked = check(of, plan, rng.around(7 * flows));
+    let checked = check(of, plan, rng.around(CLOCK_WORDS * flows));
     tally.add("check", checked.parts.0);
     assert!(checked.parts.0 == 0 || checked.is_untouched());
 
@@ -123,7 +123,7 @@ fn sound_plans(seed: u64, plans: usize) {
     let mut tally = Tally::default();
     for _ in 0..rounds(plans) {
         let (plan, clocks) = sound(&mut rng);
-        let checked = check(&ALL, &plan, 7 * clocks.len());
+        let checked = check(&ALL, &plan, CLOCK_WORDS * clocks.len());
         assert_eq!(checked.parts, (0, 0, 0, clocks.len() as u32), "{plan:?}");
         let words: Vec<u32> = clocks.iter().flat_map(Clock::words).collect();
         assert_eq!(checked.words[..words.len()], words, "{plan:?}");
@@ -158,7 +158,7 @@ fn faulty_plans(seed: u64, plans: usize) {
             listing(&ALL, &packed, LISTING_MAX + 9);
         }
     }
-    for number in [11, 13, 14, 15, 21, 22, 23, 34] {
+    for number in [11, 13, 14, 15, 21, 22, 23, 34, 40] {
         assert!(tally.total(number) > plans / 500, "number {number} occurs: {tally}");
     }
 }

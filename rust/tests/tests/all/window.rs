@@ -199,7 +199,8 @@ fn order_of_refusals() {
     let none = Lengths::default();
     let differ = [input, [0, 2, 0, 0], [2, 0, 1, 0]];
     refused(&[&differ[..], &[[16, 0, 0, 0]]].concat(), 0, u32::MAX, none, (13, 3, 0, 0));
-    refused(&[&differ[..], &[[17, 0, 0, 0]]].concat(), 0, u32::MAX, none, (13, 3, 0, 0));
+    refused(&[&differ[..], &[[19, 0, 0, 0]]].concat(), 0, u32::MAX, none, (13, 3, 0, 0));
+    refused(&[&differ[..], &[[17, 0, 0, 0]]].concat(), 0, u32::MAX, none, (14, 3, 0, 0));
     refused(&[&differ[..], &[[9, 0, 64, 0]]].concat(), 0, u32::MAX, none, (14, 3, 0, 0));
     refused(&[&differ[..], &[[12, 3, 0, 0]]].concat(), 0, u32::MAX, none, (15, 3, 0, 0));
     refused(&[], 0, u32::MAX, none, (11, 0, 0, 0));
@@ -207,6 +208,7 @@ fn order_of_refusals() {
         refused(&differ, log, ticks, lengths, (21, 2, 0, 0));
         refused(&[input, [10, 0, 4095, 0], [10, 1, 1, 0]], log, ticks, lengths, (22, 2, 0, 0));
         refused(&[input, [13, 0, 0, 0], [12, 1, 0, 0]], log, ticks, lengths, (23, 2, 0, 0));
+        refused(&[[0, 2, 0, 0], [0, 3, 1, 0], [17, 0, 1, 6]], log, ticks, lengths, (40, 2, 0, 0));
         refused(&[input, [0, 2, 0, 0], [7, 5, 0, 1]], log, ticks, lengths, (21, 2, 0, 0));
     }
     for (log, ticks, lengths, number) in [
