@@ -279,7 +279,12 @@ impl Draft<'_> {
         }
         let a = self.plain_where(|_| true)?;
         let Clock { period, phase, .. } = self.clock(a);
-        let c = self.plain_where(|c| c.phase <= phase && common(period, c.period) <= 4095)?;
+        let can_be_seen = |c: &Clock| c.phase <= phase && common(period, c.period) <= 4095;
+        let other = match self.rng.percent(70) {
+            true => self.plain_where(|c| can_be_seen(c) && (c.period, c.phase) != (period, phase)),
+            false => None,
+        };
+        let c = other.or_else(|| self.plain_where(can_be_seen))?;
         let w = self.multiple(common(period, self.clock(c).period));
         let conditions = vec![Condition { word: 2 * c + (18 - kind), view: w }];
         Some(([kind, a, c, w], Clock { period, phase, conditions }))

@@ -27,30 +27,36 @@ fn on_calendar(clocks: &[u32], trace: &Outcome, flow: usize, tick: usize) -> boo
     tick >= phase && (tick - phase).is_multiple_of(period) && (0..conditions).all(holds)
 }
 
-/// If the check accepts the plan, the run ends and each mark is that of the calendar. Gives whether it was accepted.
-fn first_half(rng: &mut Rng, of: &[&Implementation], plan: &Plan, ticks: u32) -> bool {
+/// If the check accepts the plan, the run ends and each mark is that of the calendar. Gives the number of cells whose mark
+/// would be another if views were sampled directly, or nothing if the plan is refused.
+fn first_half(rng: &mut Rng, of: &[&Implementation], plan: &Plan, ticks: u32) -> Option<usize> {
     let flows = plan.words.len() / 4;
-    let clocks = check(of, plan, CLOCK_WORDS * flows);
-    if clocks.parts.0 != 0 {
-        return false;
+    let checked = check(of, plan, CLOCK_WORDS * flows);
+    if checked.parts.0 != 0 {
+        return None;
     }
+    let clocks = &checked.words[..CLOCK_WORDS * flows];
+    let mut direct = clocks.to_vec();
+    direct.chunks_mut(CLOCK_WORDS).for_each(|clock| clock[7..].fill(0));
     let log = rng.log(ticks as usize * plan.inputs());
     let trace = run_exactly(of, plan, &log, ticks);
     assert_eq!(trace.parts, (0, 0, 0, ticks), "{plan:?}");
+    let mut viewed = 0;
     for tick in 0..ticks as usize {
         for flow in 0..flows {
-            let expected = on_calendar(&clocks.words[..CLOCK_WORDS * flows], &trace, flow, tick);
+            let expected = on_calendar(clocks, &trace, flow, tick);
             let mark = trace.bytes[tick * flows + flow];
             assert_eq!(mark, u8::from(expected), "tick {tick}, flow {flow} of {plan:?}");
+            viewed += usize::from(expected != on_calendar(&direct, &trace, flow, tick));
         }
     }
-    true
+    Some(viewed)
 }
 
 #[test]
 fn marks_are_the_calendar_short() {
     let mut rng = Rng::new(51);
-    let (mut taken, plans) = (0, rounds(60_000));
+    let (mut taken, mut viewed, plans) = (0, 0, rounds(60_000));
     for round in 0..plans {
         let shape = Shape::short(&mut rng);
         let (mut plan, _) = accepted(&mut rng, shape);
@@ -60,19 +66,25 @@ fn marks_are_the_calendar_short() {
             _ => {}
         }
         let ticks = rng.range(0, 40);
-        taken += usize::from(first_half(&mut rng, &[&LIBRARY], &plan, ticks));
+        if let Some(cells) = first_half(&mut rng, &[&LIBRARY], &plan, ticks) {
+            taken += 1;
+            viewed += usize::from(cells > 0);
+        }
     }
     assert!(taken > plans * 2 / 5, "{taken} of {plans} accepted");
+    assert!(viewed > plans / 50, "{viewed} of {plans} accepted, and seen at other ticks");
 }
 
 #[test]
 fn marks_are_the_calendar_long() {
     let mut rng = Rng::new(52);
+    let mut viewed = 0;
     for _ in 0..rounds(300) {
         let shape = Shape::long(&mut rng);
         let (plan, _) = accepted(&mut rng, shape);
-        assert!(first_half(&mut rng, &QUICK, &plan, 8_191));
+        viewed += first_half(&mut rng, &QUICK, &plan, 8_191).expect("an accepted plan");
     }
+    assert!(viewed > 10_000, "{viewed} cells that are seen at other ticks");
 }
 
 /// The calendar is about filled plans: one that lacks rates is refused by check and run, and filled in it is on it.
@@ -91,7 +103,7 @@ fn marks_are_the_calendar_of_filled_plans() {
         }
         let outcome = fill_rates(&[&LIBRARY], &plan, plan.words.len());
         let filled = Plan { count: plan.count, words: outcome.words[..plan.words.len()].to_vec() };
-        assert!(first_half(&mut rng, &[&LIBRARY], &filled, 40), "{plan:?}");
+        assert!(first_half(&mut rng, &[&LIBRARY], &filled, 40).is_some(), "{plan:?}");
     }
     assert!(lacking > plans / 4, "{lacking} of {plans}");
 }

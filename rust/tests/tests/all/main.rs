@@ -24,5 +24,6 @@ mod short;
 mod signed;
 mod summary;
 mod traces;
+mod views;
 mod window;
 mod wrapper;
