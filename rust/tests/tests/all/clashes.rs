@@ -99,6 +99,30 @@ fn merge() {
 }
 
 #[test]
+fn views() {
+    for kind in [17, 18] {
+        let clash = |a, c, w, tick, trace: &str| clashes_with(&[a, c, [kind, 0, 1, w]], &[], tick, 2, trace);
+        let at = |period, phase| [1, if kind == 17 { 1 } else { 0 }, period, phase];
+        let one = if kind == 17 { "1" } else { "0" };
+        let with = |trace: &str| trace.replace('1', one);
+        // c has not begun at a's first tick, however soon it begins.
+        clash(at(1, 0), at(1, 1), 1, 0, &with("1 . _ | _ _ _"));
+        clash(at(1, 1), at(1, 2), 5, 1, &with(". . . | 1 . _"));
+        clash(at(4, 2), at(1, 4095), 4, 2, &with(". . . | . . . | 1 . _ | _ _ _"));
+        // c is absent where it is looked at: at a later start, both beginning together, and c before.
+        clash(at(2, 0), at(3, 0), 2, 2, &with("1 1 1 | . . . | 1 . _ | _ _ _"));
+        clash(at(2, 1), at(3, 0), 2, 3, &with(". 1 . | 1 . 1 | . . . | 1 1 _"));
+        // The start is at tick 3, where a is absent, and the clash at tick 4.
+        clash(at(3, 1), at(3, 0), 2, 4, &with(". 1 . | 1 . 1 | . . . | . 1 . | 1 . _"));
+        // A start with c absent that a never meets is none: it is present at ticks 0, 4 and 8, the starts are 2 apart.
+        ends(&[at(4, 0), at(4, 0), [kind, 0, 1, 2]], 30);
+        // c absent where it is looked at, although present at the tick.
+        clash(at(1, 1), at(2, 0), 1, 2, &with(". 1 . | 1 . 1 | 1 1 _"));
+        ends(&[at(1, 1), at(2, 0), [kind, 0, 1, 2]], 30);
+    }
+}
+
+#[test]
 fn registers() {
     // The tick is filled; the lowest register is named, whichever way round source and beat differ.
     let rows = [[0, 2, 0, 0], [0, 3, 0, 0], [7, 5, 0, 1], [7, 6, 1, 0], [0, 1, 0, 0]];

@@ -5,6 +5,8 @@ use tests::compare::{check, fill_rates, words_are};
 use tests::implementation::ALL;
 use tests::{Plan, CLOCK_WORDS};
 
+mod views;
+
 /// An input without a rate.
 const OPEN: [u32; 4] = [16, 0, 0, 0];
 
@@ -269,6 +271,7 @@ fn unjoined() {
         (vec![[1, 9, 2, 0], [2, 0, 0, 0], OPEN, [7, 5, 2, 4], OPEN], 2, 9),
         (vec![OPEN, at(2, 0), OPEN, [2, 0, 1, 0], [12, 2, 0, 0]], 2, 9),
         (vec![at(2, 0), OPEN, OPEN, [2, 0, 2, 0]], 1, 9),
+        (vec![at(2, 1), OPEN, [17, 0, 1, 2]], 1, 4),
         // Fewer fillings, and none.
         (vec![at(2, 0), OPEN, [8, 1, 3, 1]], 1, 3),
         (vec![OPEN, [8, 0, 63, 65], [11, 0, 5, 0], at(1, 0)], 0, 0),

@@ -28,8 +28,8 @@ fn at(period: u32, phase: u32) -> [u32; 4] {
     [0, period, phase, 0]
 }
 
-/// A part that has fewer flows than what the named flow needs; and parts with still fewer that are answered with 22 or
-/// 23.
+/// A part that has fewer flows than what the named flow needs; and parts with still fewer that are answered with 22, 23
+/// or 40.
 #[test]
 fn fewest_flows() {
     let rows = [at(6, 0), [4, 0, 0, 0], [15, 0, 0, 1], [8, 0, 3, 3]];
@@ -37,6 +37,8 @@ fn fewest_flows() {
     are_all_needed(&rows[..3], 2);
 
     let rows = [at(1, 1), at(2, 0), [9, 0, 1, 0], [2, 2, 1, 0], [10, 0, 4095, 0], [13, 0, 0, 0], [12, 5, 0, 0]];
+    comes_down_to(&rows, 3, &[0, 1, 2, 3], &rows[..4]);
+    let rows = [at(1, 1), at(2, 0), [9, 0, 1, 0], [2, 2, 1, 0], [17, 0, 1, 1]];
     comes_down_to(&rows, 3, &[0, 1, 2, 3], &rows[..4]);
 }
 
@@ -105,6 +107,11 @@ fn numbers_that_move() {
         let rows = [other, other, other, at(7, 3), other, row, [8, 5, 3, 3]];
         comes_down_to(&rows, 6, &[3, 5, 6], &[at(7, 3), moved, [8, 1, 3, 3]]);
     }
+    // Views on the way to one: a and c move, and w does not.
+    for kind in [17, 18] {
+        let rows = [other, at(3, 3), other, at(3, 1), other, [kind, 1, 3, 3], [2, 5, 1, 0]];
+        comes_down_to(&rows, 6, &[1, 3, 5, 6], &[at(3, 3), at(3, 1), [kind, 0, 1, 3], [2, 2, 0, 0]]);
+    }
     // I's plan with its last two swapped.
     let rows = [other, at(4, 0), other, at(4, 0), [13, 1, 3, 0], other, [14, 1, 3, 0], [15, 3, 6, 4]];
     let part = [at(4, 0), at(4, 0), [13, 0, 1, 0], [14, 0, 1, 0], [15, 1, 3, 2]];
@@ -153,7 +160,7 @@ fn the_greatest_plans() {
     comes_down_to(&rows, 1, &[0, 1], &[at(9, 0), [8, 0, 2, 4]]);
 }
 
-/// Plans that the check answers with 0, 22 or 23, although it answers a part of them with 21.
+/// Plans that the check answers with 0, 22, 23 or 40, although it answers a part of them with 21.
 #[test]
 fn not_differing() {
     let refused = |rows: &[[u32; 4]], parts: Parts| {
@@ -172,7 +179,10 @@ fn not_differing() {
     refused(&[at(1, 1), [10, 0, 4095, 0], at(2, 0), [2, 0, 2, 0]], (22, 1, 0, 0));
     refused(&[at(1, 1), at(2, 0), [7, 5, 0, 1], [10, 0, 4095, 0]], (22, 3, 0, 0));
     refused(&[at(1, 0), [13, 0, 0, 0], [12, 1, 0, 0], [8, 0, 2, 2]], (23, 2, 0, 0));
+    refused(&[at(2, 0), at(3, 0), [17, 0, 1, 2], [2, 0, 1, 0]], (40, 2, 0, 0));
+    refused(&[at(2, 0), at(3, 0), [7, 5, 0, 1], [18, 0, 1, 3]], (40, 3, 0, 0));
     // The parts alone.
+    are_all_needed(&[at(2, 0), at(3, 0), [2, 0, 1, 0]], 2);
     are_all_needed(&[at(1, 1), at(2, 0), [2, 0, 1, 0]], 2);
     are_all_needed(&[at(1, 1), at(2, 0), [7, 5, 0, 1]], 2);
     are_all_needed(&[at(1, 0), [8, 0, 2, 2]], 1);

@@ -76,6 +76,16 @@ fn by_hand() {
         "total            65567007",
     ];
     prints(&rows, &[65_535, 0, 1, 2, 65_534, 65_535], &lines);
+    // A condition that is viewed counts as one.
+    let rows = [at(10, 0), at(15, 0), [17, 0, 1, 30], [14, 2, 2, 0]];
+    let lines = [
+        " 0    10     0 0      100",
+        " 2    10     0 1      300",
+        " 3    10     0 2      400",
+        " 1    15     0 0      133",
+        "total                 933",
+    ];
+    prints(&rows, &[1, 2, 3, 4], &lines);
 }
 
 /// By period as a number, equal periods by phase, and only then by flow; a load or conditions do not move a line.

@@ -8,7 +8,7 @@ use tests::generate::{accepted, Shape};
 use tests::implementation::{Implementation, ALL, LIBRARY, QUICK};
 use tests::rng::Rng;
 use tests::tally::Tally;
-use tests::{rounds, Plan, CLOCK_WORDS};
+use tests::{is_view, rounds, Plan, CLOCK_WORDS};
 
 /// What the check answers: number and flow.
 fn checked(plan: &Plan) -> (u32, u32) {
@@ -137,7 +137,7 @@ fn rooms(rng: &mut Rng, of: &[&Implementation], plan: &Plan, least: &Least) {
 type Sort = (&'static str, fn(&Least) -> bool);
 
 /// The sorts that have to occur.
-static SORTS: [Sort; 15] = [
+static SORTS: [Sort; 16] = [
     ("two flows", |least| least.flows.len() == 2),
     ("three flows", |least| least.flows.len() == 3),
     ("five flows and more", |least| least.flows.len() >= 5),
@@ -164,6 +164,7 @@ static SORTS: [Sort; 15] = [
         let (_, named) = checked(&least.part);
         least.some_row(|flow, row| row[0] == 7 && flow == named)
     }),
+    ("a view", |least| least.some_row(|_, row| is_view(row))),
 ];
 
 /// How often each sort of least part occurred, and each answer of the check.
@@ -269,7 +270,7 @@ fn every_plan_of_five_rows() {
     let mut seen = Seen::default();
     every_plan(5, few_kinds, &mut Vec::new(), &mut |plan| seen.add(plan, &least(&ALL, plan)));
     assert_eq!(seen.plans, 2 * 8 * 15 * 23 * 32);
-    seen.assert_all(500, &["nine flows and more", "more than 32 flows"], &[0, 21]);
+    seen.assert_all(500, &["nine flows and more", "more than 32 flows", "a view"], &[0, 21]);
 }
 
 /// A plan of up to so many flows that was sound and is broken, or now and then still sound.

@@ -91,3 +91,60 @@ fn sources() {
     ends_with(&[[1, 5, 2, 1]], &[], ". | 5 | . | 5");
     ends_with(&[[0, 1, 0, 0]], &[1, 2], "1 | 2");
 }
+
+/// Readings at odd ticks under a switch that is read every 3 ticks and seen every 6: at tick 1, the reading's first, as it
+/// was at tick 0, the switch's first; at tick 7 as it was at tick 6, and not as at tick 3.
+#[test]
+fn views() {
+    let log =
+        [[0, 1], [10, 0], [0, 0], [11, 0], [0, 0], [12, 0], [0, 0], [13, 0], [0, 0], [14, 1], [0, 0], [15, 0], [0, 5]];
+    let log = [&log.concat()[..], &[16, 0]].concat();
+    let rows = |kind| [[0, 2, 1, 0], [0, 3, 0, 0], [kind, 0, 1, 6]];
+    let ticks =
+        [". 1", "10 .", ". .", "11 0", ". .", "12 .", ". 0", "13 .", ". .", "14 1", ". .", "15 .", ". 5", "16 ."];
+    let trace = |views: [&str; 14]| -> String {
+        let cells: Vec<String> = ticks.iter().zip(views).map(|(tick, view)| format!("{tick} {view}")).collect();
+        cells.join(" | ")
+    };
+    ends_with(&rows(17), &log, &trace([".", "10", ".", "11", ".", "12", ".", ".", ".", ".", ".", ".", ".", "16"]));
+    ends_with(&rows(18), &log, &trace([".", ".", ".", ".", ".", ".", ".", "13", ".", "14", ".", "15", ".", "."]));
+}
+
+/// Both on one clock: seen at every presence, a view is what when is; at every second one it keeps what it saw.
+#[test]
+fn views_on_one_clock() {
+    let rows = [[0, 2, 0, 0], [0, 2, 0, 0], [13, 0, 1, 0], [17, 0, 1, 2], [17, 0, 1, 4], [18, 0, 1, 4]];
+    let log = [5, 0, 9, 9, 6, 1, 9, 9, 7, 3, 9, 9, 8, 0];
+    let absent = " | . . . . . . | ";
+    let ticks = ["5 0 . . . 5", "6 1 6 6 . 6", "7 3 7 7 7 .", "8 0 . . 8 ."];
+    ends_with(&rows, &log, &ticks.join(absent));
+}
+
+/// Where a is absent there is no value and no clash, whether c has begun or not; c's own clock does not matter then.
+#[test]
+fn views_of_absent_flows() {
+    ends_with(&[[0, 1, 3, 0], [0, 1, 2, 0], [17, 0, 1, 1]], &[1; 8], ". . . | . . . | . 1 . | 1 1 1");
+    ends_with(&[[0, 2, 0, 0], [1, 3, 1, 0], [17, 0, 1, 2]], &[7, 8, 9], "7 3 7 | . 3 . | 9 3 9");
+    ends_with(&[[0, 9, 9, 0], [0, 9, 9, 0], [18, 0, 1, 9]], &[1; 6], ". . . | . . . | . . .");
+}
+
+/// Starts move on by w from a's first tick whether a is present at them or not: at tick 3 c of tick 2 is seen, at tick 9
+/// that of tick 8. The check refuses that.
+#[test]
+fn views_that_start_where_a_is_absent() {
+    let rows = [[1, 7, 3, 0], [0, 1, 0, 0], [17, 0, 1, 2], [18, 0, 1, 2]];
+    let log = [0, 9, 5, 0, 9, 9, 0, 9, 6, 0];
+    let ticks =
+        ["7 0 . 7", ". 9 . .", ". 5 . .", "7 0 7 .", ". 9 . .", ". 9 . .", "7 0 . 7", ". 9 . .", ". 6 . .", "7 0 7 ."];
+    ends_with(&rows, &log, &ticks.join(" | "));
+}
+
+/// First ticks that the log decides: a begins at tick 2, and c, under the same condition, with it or before. The check
+/// refuses that.
+#[test]
+fn views_of_what_is_sampled() {
+    let rows = [[0, 1, 0, 0], [0, 1, 0, 0], [13, 0, 1, 0], [17, 2, 1, 2], [17, 2, 2, 2], [18, 1, 0, 3]];
+    let log = [4, 0, 5, 0, 0, 1, 0, 1, 7, 1, 8, 1];
+    let ticks = ["4 0 . . . .", "5 0 . . . .", "0 1 0 . . .", "0 1 0 . . 1", "7 1 7 7 7 1", "8 1 8 8 8 1"];
+    ends_with(&rows, &log, &ticks.join(" | "));
+}

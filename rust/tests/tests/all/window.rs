@@ -119,6 +119,43 @@ fn delays_over_the_edge() {
     }
 }
 
+/// The tallies of flows with these cells, counted tick by tick.
+fn counted(flows: usize, ticks: usize, cell: impl Fn(usize, usize) -> Option<u32>) -> Vec<u32> {
+    let tally = |flow| {
+        let values: Vec<u32> = (0..ticks).filter_map(|tick| cell(tick, flow)).collect();
+        [values.len() as u32, values.last().copied().unwrap_or(0)]
+    };
+    (0..flows).flat_map(tally).collect()
+}
+
+/// Views that reach back over the window's edge: readings that begin up to 4095 ticks after the switch that they are
+/// under, in narrow plans and in the widest.
+#[test]
+fn views_over_the_edge() {
+    let widest: Vec<(u32, u32)> = (0..31).map(|view| (4_095 - 130 * view, 1 + 136 * view)).collect();
+    for views in [&[(4_095, 1)][..], &[(4_095, 4_095)], &[(4_095, 7)], &[(4_094, 2), (1, 4_093)], &widest] {
+        // The switch and its readings later, each under the switch as it is seen every w ticks.
+        let mut rows = vec![[0, 1, 0, 0]];
+        rows.extend(views.iter().map(|&(d, _)| [10, 0, d, 0]));
+        rows.extend((1..).zip(views).map(|(a, &(_, w))| [18 - w % 2, a, 0, w]));
+        let of = if rows.len() == 3 { &FOUR[..] } else { &THREE };
+        for ticks in [8_193, 12_287, 12_288, 20_000, 24_577] {
+            let log: Vec<u32> = (0..ticks as u32).map(|tick| tick / 5 % 3 * (1_000 + tick)).collect();
+            let later = |tick: usize, view: usize| Some(log[tick.checked_sub(views[view].0 as usize)?]);
+            let cell = |tick: usize, flow: usize| match (flow, flow.checked_sub(1 + views.len())) {
+                (0, _) => Some(log[tick]),
+                (_, None) => later(tick, flow - 1),
+                (_, Some(view)) => {
+                    let (d, w) = (views[view].0 as usize, views[view].1 as usize);
+                    let seen = log[tick.checked_sub(d)? / w * w];
+                    later(tick, view).filter(|_| (seen != 0) == (w % 2 == 1))
+                }
+            };
+            leaves(of, &rows, &log, ticks, &counted(rows.len(), ticks, cell), cell);
+        }
+    }
+}
+
 /// Readings that pass only where a condition holds, a register of those, and the readings again with the register's
 /// values where the condition holds.
 const SAMPLED: [[u32; 4]; 6] =
