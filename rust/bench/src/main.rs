@@ -13,7 +13,7 @@
 //!     valgrind --tool=callgrind --callgrind-out-file=/dev/null target/release/bench run mixed 16 1000 library
 //!     valgrind --tool=callgrind --callgrind-out-file=/dev/null target/release/bench run mixed 16 11000 library
 //!
-//! Here the difference of the two lines 'Collected' is divided by 10,000 × 16. PLAN is mixed, sparse or sums;
+//! Here the difference of the two lines 'Collected' is divided by 10,000 × 16. PLAN is mixed, sparse, sums or views;
 //! IMPLEMENTATION is library, mirror or quick, or of the long run long, long-mirror or long-quick.
 //!
 //! `bench call CALL PLAN FLOWS CALLS` makes one call of the library so many times and nothing else that depends on how
@@ -33,7 +33,7 @@ mod tables;
 use std::env;
 use std::process::ExitCode;
 
-use plans::{mixed, sparse, sums, unrated, upward, Plan};
+use plans::{mixed, sparse, sums, unrated, upward, views, Plan};
 use runs::{LONG, LONG_AND_PLAIN, RUNS};
 
 /// As many ticks as a run may have, and a long run.
@@ -55,6 +55,9 @@ fn report() {
             runs::run(&RUNS, &plan, MOST_TICKS);
         }
     }
+    for flows in [16, 64] {
+        runs::run(&RUNS, &views(flows), MOST_TICKS);
+    }
 
     runs::heading("Growth with ticks, a cell", &RUNS);
     let growth = [1_000, 4_000, 16_000, 64_000].map(|ticks| runs::run(&RUNS, &mixed(16), ticks));
@@ -71,6 +74,9 @@ fn report() {
         for plan in [mixed(flows), sparse(flows), sums(flows)] {
             runs::run(&LONG_AND_PLAIN, &plan, MOST_TICKS);
         }
+    }
+    for flows in [16, 64] {
+        runs::run(&LONG_AND_PLAIN, &views(flows), MOST_TICKS);
     }
 
     runs::heading("Growth of the long run with ticks, a cell", &LONG);
@@ -97,6 +103,7 @@ fn plan(name: &str, flows: &str) -> Option<Plan> {
         "mixed" => mixed(flows),
         "sparse" => sparse(flows),
         "sums" => sums(flows),
+        "views" => views(flows),
         "unrated" if flows >= 3 => unrated(flows),
         "upward" if flows >= 3 => upward(flows),
         _ => return None,
@@ -121,8 +128,8 @@ fn main() -> ExitCode {
         report();
     } else if one(&arguments).is_none() {
         let (runs, calls) = (runs::names().join("|"), tables::names().join("|"));
-        eprintln!("bench, or bench run mixed|sparse|sums FLOWS TICKS {runs}");
-        eprintln!("or bench call {calls} mixed|sparse|sums|unrated|upward FLOWS CALLS");
+        eprintln!("bench, or bench run mixed|sparse|sums|views FLOWS TICKS {runs}");
+        eprintln!("or bench call {calls} mixed|sparse|sums|views|unrated|upward FLOWS CALLS");
         return ExitCode::FAILURE;
     }
     ExitCode::SUCCESS

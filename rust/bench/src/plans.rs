@@ -58,6 +58,23 @@ pub fn sparse(flows: usize) -> Plan {
     blocks("sparse", flows, 10)
 }
 
+/// Mixed rows with views in place of sampling, merges and tails: three rows of sixteen, which look at what they see every
+/// fourth tick, one of them a tick back. Up to four flows have no view.
+pub fn views(flows: usize) -> Plan {
+    let mut plan = Plan { name: "views", ..mixed(flows) };
+    for (flow, row) in (0..).zip(plan.words.chunks_exact_mut(4)) {
+        let at = |row: u32| flow / 16 * 16 + row;
+        match flow % 16 {
+            4 => row.copy_from_slice(&[17, at(2), at(3), 4]),
+            5 => row.copy_from_slice(&[18, at(0), at(3), 4]),
+            6 => row.copy_from_slice(&[6, at(0), at(3), 0]),
+            12 => row.copy_from_slice(&[17, at(10), at(0), 4]),
+            _ => {}
+        }
+    }
+    plan
+}
+
 /// Blocks of sixteen rows with every kind, all flows on or next to the clock (period, 0).
 fn blocks(name: &'static str, flows: usize, period: u32) -> Plan {
     let mut rows = Vec::new();

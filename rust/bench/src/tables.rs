@@ -29,13 +29,13 @@ impl<'a> Given<'a> {
 /// The buffers that the calls are lent: of clocks, plain rows or flows, and of packed rows or text.
 #[derive(PartialEq)]
 struct Lent {
-    words: [u32; 7 * 64],
+    words: [u32; baarqidho::CLOCK_WORDS * 64],
     bytes: [u8; baarqidho::LISTING_MAX],
 }
 
 impl Lent {
     fn new() -> Self {
-        Lent { words: [0; 7 * 64], bytes: [0; baarqidho::LISTING_MAX] }
+        Lent { words: [0; baarqidho::CLOCK_WORDS * 64], bytes: [0; baarqidho::LISTING_MAX] }
     }
 }
 
