@@ -267,16 +267,21 @@ impl Draft<'_> {
 
     /// When-seen or when-not-seen; often the view that another flow has already, so that the two go together.
     fn seen(&mut self, kind: u32) -> Option<([u32; 4], Clock)> {
-        let known = match self.rng.percent(40) {
-            true => self.flow_where(|clock| clock.conditions.len() == 1 && clock.conditions[0].view > 0),
-            false => None,
-        };
-        if let Some(known) = known {
-            let clock = self.clock(known);
-            let Condition { word, view } = clock.conditions[0];
-            let a = self.plain_where(|other| (other.period, other.phase) == (clock.period, clock.phase))?;
-            return Some(([18 - word % 2, a, word / 2, view], clock));
-        }
+        let again = if self.rng.percent(40) { self.seen_again() } else { None };
+        again.or_else(|| self.seen_anew(kind))
+    }
+
+    /// A view that a flow has already, over any flow with its period and phase.
+    fn seen_again(&mut self) -> Option<([u32; 4], Clock)> {
+        let known = self.flow_where(|clock| clock.conditions.len() == 1 && clock.conditions[0].view > 0)?;
+        let clock = self.clock(known);
+        let Condition { word, view } = clock.conditions[0];
+        let a = self.plain_where(|other| (other.period, other.phase) == (clock.period, clock.phase))?;
+        Some(([18 - word % 2, a, word / 2, view], clock))
+    }
+
+    /// A view of a flow that mostly has another clock.
+    fn seen_anew(&mut self, kind: u32) -> Option<([u32; 4], Clock)> {
         let a = self.plain_where(|_| true)?;
         let Clock { period, phase, .. } = self.clock(a);
         let can_be_seen = |c: &Clock| c.phase <= phase && common(period, c.period) <= 4095;

@@ -9,6 +9,7 @@ use tests::tally::Tally;
 use tests::{rounds, Plan, CLOCK_WORDS};
 
 use crate::short::{faulty, sound, ticks_and_log};
+use crate::views::viewing;
 
 /// All, with the one that takes the library's own steps.
 pub static FOUR: [&Implementation; 4] = [&REFERENCE, &LIBRARY, &PEER, &MIRROR];
@@ -99,12 +100,12 @@ fn round_the_window_word_by_word() {
     }
 }
 
-/// Millions of ticks.
+/// Millions of ticks, with views.
 #[test]
 fn millions_of_ticks() {
     let mut rng = Rng::new(104);
     for (flows, scale) in [(3, 2), (5, 6), (8, 100), (16, 4095)] {
-        let (plan, _) = accepted(&mut rng, Shape { flows, scale, sampling: true });
+        let (plan, _) = viewing(&mut rng, |_| Shape { flows, scale, sampling: true });
         let ticks = rng.range(1_000_000, 4_194_303);
         let log = rng.log(ticks as usize * plan.inputs());
         assert_eq!(long_run_exactly(&THREE, &plan, &log, ticks).parts, (0, 0, 0, ticks));

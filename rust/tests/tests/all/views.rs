@@ -92,14 +92,17 @@ fn looks(plan: &Plan, outcome: &Outcome, ticks: usize) -> Vec<Look> {
     looks
 }
 
+/// A sort of things.
+type Sort<T> = (&'static str, fn(&T) -> bool);
+
 /// How often each of some sorts of things occurred.
 struct Seen<T: 'static> {
-    sorts: &'static [(&'static str, fn(&T) -> bool)],
+    sorts: &'static [Sort<T>],
     counts: Vec<usize>,
 }
 
 impl<T> Seen<T> {
-    fn new(sorts: &'static [(&'static str, fn(&T) -> bool)]) -> Self {
+    fn new(sorts: &'static [Sort<T>]) -> Self {
         Seen { sorts, counts: vec![0; sorts.len()] }
     }
 
@@ -118,7 +121,7 @@ impl<T> Seen<T> {
 }
 
 /// The sorts of looks.
-static LOOKS: [(&str, fn(&Look) -> bool); 14] = [
+static LOOKS: [Sort<Look>; 14] = [
     ("when-seen, and it holds", |look| look.truth && look.holds() == Some(true)),
     ("when-seen, and it does not hold", |look| look.truth && look.holds() == Some(false)),
     ("when-not-seen, and it holds", |look| !look.truth && look.holds() == Some(true)),
@@ -164,7 +167,7 @@ fn is_viewed(clock: &Clock) -> bool {
 }
 
 /// The sorts of accepted plans.
-static ACCEPTED: [(&str, fn(&Accepted) -> bool); 21] = [
+static ACCEPTED: [Sort<Accepted>; 21] = [
     ("w 1", |plan| some_view(plan, |_, _, w| w == 1)),
     ("w 4095", |plan| some_view(plan, |_, _, w| w == 4095)),
     ("a period above c's", |plan| some_view(plan, |a, c, _| a.period > c.period)),
@@ -226,7 +229,7 @@ fn disturbed(rng: &mut Rng) -> Plan {
         1 => faulty(rng),
         2..=4 => any_views(rng),
         _ => {
-            let (mut plan, _) = viewing(rng, |rng| Shape::short(rng));
+            let (mut plan, _) = viewing(rng, Shape::short);
             (0..rng.pick(&[1, 1, 2, 3])).for_each(|_| disturb(rng, &mut plan));
             plan
         }
@@ -271,7 +274,7 @@ impl Refusal {
 }
 
 /// The sorts of refusals.
-static REFUSALS: [(&str, fn(&Refusal) -> bool); 9] = [
+static REFUSALS: [Sort<Refusal>; 9] = [
     ("40, for a's period alone", |view| view.number == 40 && view.breaks() == [true, false, false]),
     ("40, for c's period alone", |view| view.number == 40 && view.breaks() == [false, true, false]),
     ("40, for the phases alone", |view| view.number == 40 && view.breaks() == [false, false, true]),
