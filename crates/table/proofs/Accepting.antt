@@ -4,11 +4,11 @@ use mathlib.Core.Bool.{Bool, true, false, _&&_, false≢true}
 use Prim.Native.Nat.{ℕ, suc, _+_, _<_, _≤_}
 use native.Mathlib.Omega.{arith}
 use lib.Dec.{leb, ltb, eqb}
-use borrow.Author.Tests.{leb-true, ltb-true, ltb-false, le-leb, lt-ltb, eq-eqb, ne-eqb}
+use borrow.Author.Tests.{leb-true, ltb-true, ltb-false, le-leb, lt-ltb, le-ltb, eq-eqb, ne-eqb}
 use Rattle.table.specs.Answers.{number, unless, unknownKind, outOfRange, misplaced}
 use Rattle.table.specs.Rows.{Field, operand, source, copies, period, ticks, value, unused, ranged, placed, each}
 use Rattle.table.specs.Rows.{Kind, kindAt, kindCount, unratedKind, maxFlows, Words, rowOf, rowBy, takes, fieldsOf}
-use Rattle.table.specs.Private.Codes.{bounds, bounded, sureKinds, verdict}
+use Rattle.table.specs.Private.Codes.{bounds, bounded, barredKind, verdict}
 use Rattle.table.proofs.Tests.{and-left, and-right, and-both, and-true, and-false, same-test}
 use Rattle.table.proofs.Entries.{kind-there, kind-gone}
 
@@ -81,21 +81,14 @@ unknown rated m f w e = go (takes rated (w .kind)) e
     go true e = rw (kind-gone (w .kind) (ltb-false (w .kind) kindCount e))
     go false e = refl
 
-pub sure-le : (rated : Bool) (n : ℕ) → n ≡ sureKinds rated → n ≤ kindCount
-sure-le true n e = omega arith
-sure-le false n e = omega arith
+-- the kind that is barred, and any other
+pub barred-not : (rated : Bool) (k : ℕ) → k ≡ barredKind rated → (takes rated k && ltb k kindCount) ≡ false
+barred-not true k e = rw (eq-eqb k unratedKind e)
+barred-not false k e = le-ltb k kindCount (omega arith)
 
--- a kind below those that are sure to be known; and one from there on, by where it stands to that of an unrated row
-pub sure-known : (rated : Bool) (k : ℕ) → k < sureKinds rated → (takes rated k && ltb k kindCount) ≡ true
-sure-known true k l = rw (ne-eqb k unratedKind (λ e. omega (arith, e, l)), lt-ltb k kindCount (omega arith))
-sure-known false k l = lt-ltb k kindCount l
-
-pub not-known : (rated : Bool) (k : ℕ) → sureKinds rated ≤ k → k ≤ unratedKind → (takes rated k && ltb k kindCount) ≡ false
-not-known true k l h = rw (eq-eqb k unratedKind (omega arith))
-not-known false k l h = absurd (omega arith)
-
-pub known-after : (rated : Bool) (k : ℕ) → unratedKind < k → (takes rated k && ltb k kindCount) ≡ ltb k kindCount
-known-after rated k l = rw (ne-eqb k unratedKind (λ e. omega (arith, e, l)), and-false rated)
+pub known-by : (rated : Bool) (k : ℕ) → (k ≡ barredKind rated → ⊥) → (takes rated k && ltb k kindCount) ≡ ltb k kindCount
+known-by true k n = rw (ne-eqb k unratedKind n)
+known-by false k n = refl
 
 -- and of one that is
 module _ (rated : Bool) (m f : ℕ) (w : Words) (is : (takes rated (w .kind) && ltb (w .kind) kindCount) ≡ true) where

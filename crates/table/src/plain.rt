@@ -11,8 +11,8 @@ use super::rows::FIELDS;
 use super::rows::LEAST;
 use super::rows::LENGTH;
 use super::rows::accepts;
+use super::rows::barred_kind;
 use super::rows::length_of;
-use super::rows::sure_kinds;
 use super::rows::why;
 ghost use mathlib.Core.Path.{_≡_};
 ghost use Prim.Native.Nat.{_+_, _*_, _<_, _≤_};
@@ -30,7 +30,7 @@ fn survey_rows(rated: bool, count: u32, words: &[u32]) -> Survey
     let fields = FIELDS;
     let least = LEAST;
     let lengths = LENGTH;
-    let sure = sure_kinds(rated);
+    let barred = barred_kind(rated);
     let mut bound = BOUND;
     bound[1] = count as u64;
     let mut bits: usize = FIRST_ROW;
@@ -38,7 +38,7 @@ fn survey_rows(rated: bool, count: u32, words: &[u32]) -> Survey
     while row < count {
         bound[0] = row as u64;
         let r = record_at(words, row);
-        if !accepts(sure, r, &fields, &least, &bound) {
+        if !accepts(barred, r, &fields, &least, &bound) {
             return Survey::Refused(why(rated, r), row);
         }
         bits += length_of(r.kind, &lengths);

@@ -8,13 +8,13 @@ use super::UNKNOWN_KIND;
 use super::UNRATED;
 ghost use mathlib.Core.Path.{_≡_};
 ghost use mathlib.Core.Bool.{true};
-ghost use Prim.Native.Nat.{_<_, _≤_};
+ghost use Prim.Native.Nat.{_<_};
 ghost use lib.ListN.{getD, length};
 ghost use Rattle.table.specs.Rows.{unused, each, kindAt, kindCount};
 ghost use Rattle.table.specs.Plain.{wordsOf};
 ghost use Rattle.table.specs.Links.{isFlow};
 ghost use Rattle.table.specs.Lengths.{rowLength, recordLengths};
-ghost use Rattle.table.specs.Private.Codes.{code, fieldList, kindFields, leasts, bounded, sureKinds, Within, Known, Accepted, Fault};
+ghost use Rattle.table.specs.Private.Codes.{code, fieldList, kindFields, leasts, bounded, barredKind, Within, Known, Accepted, Fault};
 
 const OPERAND: u32 = 0;
 
@@ -134,33 +134,29 @@ fn all_within(r: Record, fields: &[u32], least: &[u32], bound: &[u64]) -> bool
     false
 }
 
-// The kinds below this one are known: where the rates are asked for, that of an unrated input is not.
-pub(crate) fn sure_kinds(rated: bool) -> u32
-    ensures { λ n. ⌜ n ≡ sureKinds rated ⌝ }
+// The kind that is not known: where the rates are asked for, that of an unrated input; else one that there is not.
+pub(crate) fn barred_kind(rated: bool) -> u32
+    ensures { λ n. ⌜ n ≡ barredKind rated ⌝ }
 {
     if rated { UNRATED } else { KINDS }
 }
 
-// Whether a kind is known, by the kinds that are: it is below those, or comes after that of an unrated input.
-fn known(sure: u32, kind: u32) -> bool
-    requires { ⌜ sure ≤ kindCount ⌝ }
-    ensures { λ t. ⌜ Known sure kind t × (t ≡ true → kind < kindCount) ⌝ }
+// Whether a kind is known, by the one that is not.
+fn known(barred: u32, kind: u32) -> bool
+    ensures { λ t. ⌜ Known barred kind t × (t ≡ true → kind < kindCount) ⌝ }
 {
-    if kind < sure {
-        return true;
-    }
-    if kind <= UNRATED {
+    if kind == barred {
         return false;
     }
     kind < KINDS
 }
 
 // Whether a row is accepted, by the bounds of the row and the count.
-pub(crate) fn accepts(sure: u32, r: Record, fields: &[u32], least: &[u32], bound: &[u64]) -> bool
-    requires { ⌜ (sure ≤ kindCount) × (now fields ≡ kindFields) × (now least ≡ leasts) × (length (now bound) ≡ 7) ⌝ }
-    ensures { λ t. ⌜ Accepted sure (now (bound .entry)) (wordsOf r) t ⌝ }
+pub(crate) fn accepts(barred: u32, r: Record, fields: &[u32], least: &[u32], bound: &[u64]) -> bool
+    requires { ⌜ (now fields ≡ kindFields) × (now least ≡ leasts) × (length (now bound) ≡ 7) ⌝ }
+    ensures { λ t. ⌜ Accepted barred (now (bound .entry)) (wordsOf r) t ⌝ }
 {
-    if !known(sure, r.kind) {
+    if !known(barred, r.kind) {
         return false;
     }
     all_within(r, fields, least, bound)
@@ -170,7 +166,7 @@ pub(crate) fn accepts(sure: u32, r: Record, fields: &[u32], least: &[u32], bound
 pub(crate) fn why(rated: bool, r: Record) -> u32
     ensures { λ n. ⌜ Fault rated (wordsOf r) n ⌝ }
 {
-    if !known(sure_kinds(rated), r.kind) {
+    if !known(barred_kind(rated), r.kind) {
         return UNKNOWN_KIND;
     }
     if all_within(r, &FIELDS, &LEAST, &BOUND) {

@@ -66,13 +66,13 @@ kindFields =
     ∷ (0 + 8 * 0 + 64 * 3)
     ∷ []
 
--- the kinds below this one are known, where the rates are asked for or are not
-abbrev pub sureKinds : Bool → ℕ
-sureKinds rated = cond rated unratedKind kindCount
+-- the kind that is not known, where the rates are asked for or are not
+abbrev pub barredKind : Bool → ℕ
+barredKind rated = cond rated unratedKind kindCount
 
 -- a test tells whether a kind is known
 abbrev pub Known : ℕ → ℕ → Bool → Type 0
-Known sure kind t = (rated : Bool) → sure ≡ sureKinds rated → t ≡ (takes rated kind && ltb kind kindCount)
+Known barred kind t = (rated : Bool) → barred ≡ barredKind rated → t ≡ (takes rated kind && ltb kind kindCount)
 
 -- a number of a field by a list of bounds
 abbrev pub bounded : List ℕ → Field → ℕ → Bool
@@ -100,7 +100,7 @@ verdict (refused why f) = number why
 
 -- a test tells, by the bounds of a row and a count, whether the row is accepted
 abbrev pub Accepted : ℕ → List ℕ → Words → Bool → Type 0
-Accepted sure bs w t = (rated : Bool) (m f : ℕ) → sure ≡ sureKinds rated → m ≤ maxFlows → f ≤ maxFlows → bs ≡ bounds m f → t ≡ eqb (verdict (rowBy rated m f w)) 0
+Accepted barred bs w t = (rated : Bool) (m f : ℕ) → barred ≡ barredKind rated → m ≤ maxFlows → f ≤ maxFlows → bs ≡ bounds m f → t ≡ eqb (verdict (rowBy rated m f w)) 0
 
 -- the number of the refusal of a row that is not accepted
 abbrev pub Fault : Bool → Words → ℕ → Type 0

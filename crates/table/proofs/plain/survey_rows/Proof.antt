@@ -15,23 +15,23 @@ use Rattle.table.specs.Plain.{split, rowsFrom, wordsOf}
 use Rattle.table.specs.Packed.{rowsBits}
 use Rattle.table.specs.Places.{longestRecord}
 use Rattle.table.specs.Private.Codes.{bounds, verdict}
-use Rattle.table.proofs.Accepting.{not-zero, sure-le}
+use Rattle.table.proofs.Accepting.{not-zero}
 use Rattle.table.proofs.Lengths.{row-le}
 use Rattle.table.proofs.Records.{kind-lt, survey-stop, survey-next, size-next, split-end}
 use Rattle.table.proofs.plain.survey_rows.Statement.{statement}
 use Rattle.table.proofs.plain.survey_rows.Tie as tie
 
 abbrev Inv-loop : tie.InvT-loop
-Inv-loop rated count words fields least lengths sure bound₀ bits₀ row₀ bound bits row =
+Inv-loop rated count words fields least lengths barred bound₀ bits₀ row₀ bound bits row =
     (row ≤ count) × (bits ≤ 8 + longestRecord * row) × (set bound 0 row ≡ bounds count row)
     × (answer (λ rs. count) (rowsFrom rated count row (split (count - row) (drop (rowSize * row) words))) ≡ answer (λ rs. count) (rowsFrom rated count 0 (split count words)))
     × (bits + length (rowsBits (split (count - row) (drop (rowSize * row) words))) ≡ 8 + length (rowsBits (split count words)))
 
 abbrev μ-loop : tie.MeasureT-loop
-μ-loop rated count words fields least lengths sure bound₀ bits₀ row₀ bound bits row = count - row
+μ-loop rated count words fields least lengths barred bound₀ bits₀ row₀ bound bits row = count - row
 
-sure-kinds-requires : tie.Need-sure-kinds-requires Inv-loop μ-loop
-sure-kinds-requires c κs = search needs
+barred-kind-requires : tie.Need-barred-kind-requires Inv-loop μ-loop
+barred-kind-requires c κs = search needs
 
 array-write-bound : tie.Need-array-write-bound Inv-loop μ-loop
 array-write-bound c = search needs
@@ -60,8 +60,7 @@ slice-aggregate-accepts-3 c = ap length (sym (c .before .before .before .before 
 accepts-requires : tie.Need-accepts-requires Inv-loop μ-loop
 accepts-requires c κs =
     let at-loop = c .before .before .before .before .before in
-    let sure = at-loop .before .sure-kinds in
-    (sure-le (at-loop .before .before .before .args .rated) (sure .result) (sure .ensures), refl, refl, ap length (at-loop .loop .inv .2))
+    (refl, refl, ap length (at-loop .loop .inv .2))
 
 -- the test tells whether the row is accepted
 tells : (c : tie.After-accepts Inv-loop μ-loop) → (
@@ -75,7 +74,7 @@ tells c =
     let start = at-loop .before .before .before in
     let a = start .args in
     let l = at-loop .loop in
-    c .accepts .ensures (a .rated) (a .count) (l .row) (at-loop .before .sure-kinds .ensures) (start .pre .0) (omega (arith, start .pre .0, in-loop .loop-test .taken)) (l .inv .2)
+    c .accepts .ensures (a .rated) (a .count) (l .row) (at-loop .before .barred-kind .ensures) (start .pre .0) (omega (arith, start .pre .0, in-loop .loop-test .taken)) (l .inv .2)
 
 why-requires : tie.Need-why-requires Inv-loop μ-loop
 why-requires c κs = search needs
@@ -164,7 +163,7 @@ survey-rows-spec =
     (tie.spec
     Inv-loop
     μ-loop
-    sure-kinds-requires
+    barred-kind-requires
     array-write-bound
     loop-holds
     cast-bound

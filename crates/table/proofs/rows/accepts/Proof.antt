@@ -25,7 +25,7 @@ all-within-requires : tie.Need-all-within-requires
 all-within-requires c κs =
     let after-known = c .before in
     let pre = after-known .before .before .before .before .pre in
-    (after-known .known .ensures .1 (not-false _ (c .if1 .left)), pre .1, pre .2, pre .3)
+    (after-known .known .ensures .1 (not-false _ (c .if1 .left)), pre .0, pre .1, pre .2)
 
 returns-2 : tie.Need-returns-2
 returns-2 c = λ rated m f s hm hf e.

@@ -77,7 +77,7 @@ slice-aggregate-accepts-3 c =
 accepts-requires : tie.Need-accepts-requires Inv-loop μ-loop
 accepts-requires c κs =
     let l = c .before .before .before .before .before .before .before .before .before .before .before .before .loop in
-    (omega arith, refl, refl, ap length (l .inv .4))
+    (refl, refl, ap length (l .inv .4))
 
 why-requires : tie.Need-why-requires Inv-loop μ-loop
 why-requires c κs = search needs
