@@ -244,33 +244,37 @@ fn judge(n: u32, words: &[u32], kept: &mut [u32]) -> Answer
     }
 }
 
-// Gives out a clock as flow f's: the view periods apart from flows and truths.
-fn give(clocks: &mut [u32], f: u32, k: Clock)
-    requires { ⌜ (f < maxFlows) × (clockSize * f + clockSize ≤ length (now clocks)) ⌝ }
-    ensures { λ _. ⌜ now (clocks .exit) ≡ take (clockSize * f) (now (clocks .entry)) ++ (given k ++ drop (clockSize * f + clockSize) (now (clocks .entry))) ⌝ }
+// Gives out the clock whose seven words begin at `from`, as eleven words from `to` on: the view periods apart from flows and truths.
+fn give(kept: &[u32], from: usize, clocks: &mut [u32], to: usize)
+    requires { ⌜ (from + keptSize ≤ length (now kept)) × (to + clockSize ≤ length (now clocks)) ⌝ }
+    ensures { λ _. ⌜ now (clocks .exit) ≡ take to (now (clocks .entry)) ++ (given (clockIn (drop from (now (kept .entry)))) ++ drop (to + clockSize) (now (clocks .entry))) ⌝ }
 {
-    let at = CLOCK_SIZE * (f as usize);
-    clocks[at] = k.period;
-    clocks[at + 1] = k.phase;
-    clocks[at + 2] = k.count;
-    clocks[at + 3] = k.first % VIEW_UNIT;
-    clocks[at + 4] = k.second % VIEW_UNIT;
-    clocks[at + 5] = k.third % VIEW_UNIT;
-    clocks[at + 6] = k.fourth % VIEW_UNIT;
-    clocks[at + 7] = k.first / VIEW_UNIT;
-    clocks[at + 8] = k.second / VIEW_UNIT;
-    clocks[at + 9] = k.third / VIEW_UNIT;
-    clocks[at + 10] = k.fourth / VIEW_UNIT;
+    clocks[to] = kept[from];
+    clocks[to + 1] = kept[from + 1];
+    clocks[to + 2] = kept[from + 2];
+    clocks[to + 3] = kept[from + 3] % VIEW_UNIT;
+    clocks[to + 4] = kept[from + 4] % VIEW_UNIT;
+    clocks[to + 5] = kept[from + 5] % VIEW_UNIT;
+    clocks[to + 6] = kept[from + 6] % VIEW_UNIT;
+    clocks[to + 7] = kept[from + 3] / VIEW_UNIT;
+    clocks[to + 8] = kept[from + 4] / VIEW_UNIT;
+    clocks[to + 9] = kept[from + 5] / VIEW_UNIT;
+    clocks[to + 10] = kept[from + 6] / VIEW_UNIT;
 }
 
 // Gives out the clocks kept of n flows.
 fn give_all(n: u32, kept: &[u32], clocks: &mut [u32])
-    requires { ⌜ (n ≤ maxFlows) × (clockSize * n ≤ length (now clocks)) ⌝ }
+    requires { ⌜ (n ≤ maxFlows) × (keptSize * n ≤ length (now kept)) × (clockSize * n ≤ length (now clocks)) ⌝ }
     ensures { λ _. ⌜ now (clocks .exit) ≡ over (allGiven n (now (kept .entry))) (now (clocks .entry)) ⌝ }
 {
     let mut f: u32 = 0;
     while f < n {
-        give(clocks, f, clock_at(kept, f));
+        give(
+            kept,
+            KEPT_SIZE * (f as usize),
+            clocks,
+            CLOCK_SIZE * (f as usize),
+        );
         f += 1;
     }
 }

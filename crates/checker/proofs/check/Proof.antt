@@ -107,7 +107,7 @@ give-all-requires c κs =
     let x = after-examine .examine in
     let z = answer-zero length (tableOf (a .count) ws) (ap (λ w. w .number) (sym (x .ensures)) ∙ else1 .if1 .left) in
     let t = table-made (a .count) ws (z .0) (z .1) in
-    (t .few, else2 .if2 .left)
+    (t .few, omega (arith, t .few), else2 .if2 .left)
 
 same-length : tie.Need-same-length
 same-length c = search needs

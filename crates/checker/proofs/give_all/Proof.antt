@@ -20,8 +20,17 @@ abbrev μ-loop : tie.MeasureT-loop
 loop-holds : tie.Need-loop-holds Inv-loop μ-loop
 loop-holds c = (search needs, refl, give-none _ _)
 
-clock-at-requires : tie.Need-clock-at-requires Inv-loop μ-loop
-clock-at-requires c κs = search needs
+cast-give : tie.Need-cast-give Inv-loop μ-loop
+cast-give c = search needs
+
+mul-give : tie.Need-mul-give Inv-loop μ-loop
+mul-give c = search needs
+
+cast-give-2 : tie.Need-cast-give-2 Inv-loop μ-loop
+cast-give-2 c = search needs
+
+mul-give-2 : tie.Need-mul-give-2 Inv-loop μ-loop
+mul-give-2 c = search needs
 
 give-requires : tie.Need-give-requires Inv-loop μ-loop
 give-requires c κs = search needs
@@ -35,15 +44,11 @@ loop-less c = search needs
 loop-again : tie.Need-loop-again Inv-loop μ-loop
 loop-again c =
     let after-give = c .before .before in
-    let after-clock-at = after-give .before in
-    let at-loop = after-clock-at .before .before .before in
+    let at-loop = after-give .before .before .before in
     let a = at-loop .before .before .before .args in
     let l = at-loop .loop in
-    let g = after-give .give in (
-      search needs,
-      g .kept .0 ∙ l .inv .1,
-      rw (after-clock-at .clock-at .ensures) at (g .ensures) ∙ give-next (l .f) (now (a .kept)) (now (a .clocks)) (l .clocks) (l .inv .2),
-    )
+    let g = after-give .give in
+    (search needs, g .kept .1 .1 .0 ∙ l .inv .1, g .ensures ∙ give-next (l .f) (now (a .kept)) (now (a .clocks)) (l .clocks) (l .inv .2))
 
 same-length : tie.Need-same-length Inv-loop μ-loop
 same-length c = search needs
@@ -63,7 +68,10 @@ give-all-spec =
     Inv-loop
     μ-loop
     loop-holds
-    clock-at-requires
+    cast-give
+    mul-give
+    cast-give-2
+    mul-give-2
     give-requires
     add-f
     loop-less
