@@ -4,14 +4,15 @@ ghost use mathlib.Core.Bool.{cond};
 ghost use mathlib.Core.List.{List, []};
 ghost use lib.Dec.{eqb};
 ghost use Prim.Native.Nat.{ℕ, _+_, _*_, _≤_, _<_, _^_};
-ghost use lib.ListN.{length, set};
-ghost use Rattle.table.specs.Rows.{maxFlows, kindCount, kindAt, decode, badRegister};
+ghost use lib.ListN.{length, getD, set};
+ghost use Rattle.table.specs.Rows.{maxFlows, kindCount, kindAt, decode, badRegister, rowSize};
 ghost use Rattle.table.specs.Tables.{FieldsFit};
 ghost use Rattle.runner.specs.Private.Carried.{clashMark, cellsIn, heldSize, stateSize, heldIn, stepOf, nextOf, Did};
 ghost use Rattle.semantics.specs.Runs.{Tick, Ticks, flowsFrom, sourceMeets, tickOf};
 ghost use Rattle.runner.specs.Private.Ready.{rowsIn, Plain, Ready, AllFollow, Wrote, FlowsEnd, LatchEnd, TickDone, Listed, isRegister};
 use crate::carried;
 use crate::operators;
+use crate::operators::ABSENT;
 use crate::operators::CLASH;
 use crate::operators::CLASHED;
 use crate::operators::Outcome;
@@ -24,13 +25,22 @@ pub enum Ticked {
     Stopped(usize),
 }
 
+// The third field of row f.
+fn third(words: &[u32], f: usize) -> u32
+    requires { ⌜ (f < maxFlows) × (rowSize * f + 3 < length (now words)) ⌝ }
+    ensures { λ r. ⌜ r ≡ getD (now (words .entry)) (rowSize * f + 3) 0 ⌝ }
+{
+    words[ROW_SIZE * f + 3]
+}
+
 // What row f comes to at tick t: one decision over the kind. That no other kind is left is told before it, and the arms stand from 18 down: so
-// the compiler makes one jump of the decision and of the one over kinds 2 to 6 in it. No table that is run has an unrated row.
+// the compiler makes one jump of the decision and of the one over kinds 2 to 6 in it. The third field is read only where a kind has one: read
+// before the decision, it costs every cell a register. No table that is run has an unrated row.
 fn outcome(
     kind: u32,
     p: u32,
     q: u32,
-    r: u32,
+    words: &[u32],
     t: u32,
     f: usize,
     log: &[u32],
@@ -41,16 +51,17 @@ fn outcome(
 ) -> Outcome
     requires { ⌜ (f < maxFlows)
         × (kind < kindCount)
-        × (FieldsFit maxFlows f (kindAt kind) p q r)
+        × (FieldsFit maxFlows f (kindAt kind) p q (getD (now words) (rowSize * f + 3) 0))
         × (f ≤ length (now marks))
         × (f ≤ length (now values))
         × (length (now state) ≡ stateSize)
         × (t < 2 ^ 24)
-        × (at < 2 ^ 40) ⌝ }
+        × (at < 2 ^ 40)
+        × (rowSize * f + 3 < length (now words)) ⌝ }
     ensures { λ o. ⌜ Did
-        (stepOf (decode kind p q r) t (now (log .entry)) at (cellsIn (now (marks .entry)) (now (values .entry)) f)
+        (stepOf (decode kind p q (getD (now (words .entry)) (rowSize * f + 3) 0)) t (now (log .entry)) at (cellsIn (now (marks .entry)) (now (values .entry)) f)
         (heldIn (now (state .entry)) (heldSize * f)))
-        (nextOf (decode kind p q r) t (cellsIn (now (marks .entry)) (now (values .entry)) f)
+        (nextOf (decode kind p q (getD (now (words .entry)) (rowSize * f + 3) 0)) t (cellsIn (now (marks .entry)) (now (values .entry)) f)
         (heldIn (now (state .entry)) (heldSize * f)))
         (heldSize * f) (now (state .entry)) (now (state .exit)) o ⌝ }
 {
@@ -59,17 +70,17 @@ fn outcome(
     }
     let i = HELD_SIZE * f;
     match kind {
-        18 => carried::viewed(false, t, marks, values, f, p, q, r, state, i),
-        17 => carried::viewed(true, t, marks, values, f, p, q, r, state, i),
-        16 => CLASH,
-        15 => operators::merged(marks, values, f, p, q, r),
+        18 => carried::viewed(false, t, marks, values, f, p, q, third(words, f), state, i),
+        17 => carried::viewed(true, t, marks, values, f, p, q, third(words, f), state, i),
+        16 => ABSENT,
+        15 => operators::merged(marks, values, f, p, q, third(words, f)),
         14 => operators::sampled(false, marks, values, f, p, q),
         13 => operators::sampled(true, marks, values, f, p, q),
         12 => carried::tail(marks, values, f, p, state, i),
-        11 => carried::head(t, marks, values, f, p, q, r, state, i),
+        11 => carried::head(t, marks, values, f, p, q, third(words, f), state, i),
         10 => carried::later(q, marks, values, f, p, state, i),
         9 => carried::slower(marks, values, f, p, q, state, i),
-        8 => carried::faster(t, marks, values, f, p, q, r, state, i),
+        8 => carried::faster(t, marks, values, f, p, q, third(words, f), state, i),
         7 => operators::registered(marks, values, f, q, state[i]),
         1 => carried::constant(t, p, q, state, i),
         0 => carried::input(t, p, log, at, state, i),
@@ -129,7 +140,7 @@ fn flows(
             words[ROW_SIZE * f],
             words[ROW_SIZE * f + 1],
             words[ROW_SIZE * f + 2],
-            words[ROW_SIZE * f + 3],
+            words,
             t,
             f,
             log,

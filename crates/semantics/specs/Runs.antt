@@ -61,7 +61,7 @@ cellOf rows log past now (head a v s) = headOf v s (cellIn now a) (history past 
 cellOf rows log past now (tail a) = is (tailOf (cellIn now a) (history past a))
 cellOf rows log past now (sample u a c) = sampled u (cellIn now a) (cellIn now c)
 cellOf rows log past now (merge c a b) = merged (cellIn now c) (cellIn now a) (cellIn now b)
-cellOf rows log past now unrated = clashes
+cellOf rows log past now unrated = is absent
 cellOf rows log past now (view u a c w) = viewed u w (cellIn now a) (history past a) (cellIn now c) (history past c)
 
 -- a tick worked out: all of it, or up to a clash that names a flow

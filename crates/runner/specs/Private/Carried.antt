@@ -170,7 +170,7 @@ stepOf (head a v s) t log at here h = headStep t (here a) v s h
 stepOf (tail a) t log at here h = tailStep (here a) h
 stepOf (sample u a c) t log at here h = sampled u (here a) (here c)
 stepOf (merge c a b) t log at here h = merged (here c) (here a) (here b)
-stepOf unrated t log at here h = clashes
+stepOf unrated t log at here h = is absent
 stepOf (view u a c w) t log at here h = viewStep u (here a) (viewNext w t (mark (here a)) (status (here c)) h)
 
 -- and what it then carries

@@ -73,21 +73,9 @@ mul-outcome-6 c = omega arith
 shared-slice-read-outcome-3 : tie.Need-shared-slice-read-outcome-3 Inv-loop μ-loop
 shared-slice-read-outcome-3 c = omega arith
 
-mul-outcome-7 : tie.Need-mul-outcome-7 Inv-loop μ-loop
-mul-outcome-7 c = omega arith
-
-add-outcome-3 : tie.Need-add-outcome-3 Inv-loop μ-loop
-add-outcome-3 c = omega arith
-
-mul-outcome-8 : tie.Need-mul-outcome-8 Inv-loop μ-loop
-mul-outcome-8 c = omega arith
-
-shared-slice-read-outcome-4 : tie.Need-shared-slice-read-outcome-4 Inv-loop μ-loop
-shared-slice-read-outcome-4 c = omega arith
-
 outcome-requires : tie.Need-outcome-requires Inv-loop μ-loop
 outcome-requires c κs =
-    let in-loop = c .before .before .before .before .before .before .before in
+    let in-loop = c .before .before .before .before .before .before in
     let at-loop = in-loop .before in
     let start = at-loop .before .before .before .before .before .before in
     let args = start .args in
@@ -104,11 +92,12 @@ outcome-requires c κs =
       loop .inv .3,
       pre .4,
       pre .5,
+      omega (arith, loop .inv .2, below),
     )
 
 put-requires : tie.Need-put-requires Inv-loop μ-loop
 put-requires c κs =
-    let in-loop = c .before .before .before .before .before .before .before .before .before .before .before .before in
+    let in-loop = c .before .before .before .before .before .before .before .before .before .before .before in
     let at-loop = in-loop .before in
     let start = at-loop .before .before .before .before .before .before in
     let loop = at-loop .loop in
@@ -119,7 +108,7 @@ put-requires c κs =
 same-length : tie.Need-same-length Inv-loop μ-loop
 same-length c =
     let after-outcome = c .before .before .before .before .before .before .before .before .before .before in
-    let at-loop = after-outcome .before .before .before .before .before .before .before .before .before in
+    let at-loop = after-outcome .before .before .before .before .before .before .before .before in
     let start = at-loop .before .before .before .before .before .before in
     let outcome = after-outcome .outcome in
     let loop = at-loop .loop in
@@ -128,7 +117,7 @@ same-length c =
 same-length-2 : tie.Need-same-length-2 Inv-loop μ-loop
 same-length-2 c =
     let after-put = c .before .before .before .before .before in
-    let at-loop = after-put .before .before .before .before .before .before .before .before .before .before .before .before .before .before in
+    let at-loop = after-put .before .before .before .before .before .before .before .before .before .before .before .before .before in
     let put = after-put .put in
     let loop = at-loop .loop in
     omega (arith, put .kept .0, loop .inv .4)
@@ -136,7 +125,7 @@ same-length-2 c =
 same-length-3 : tie.Need-same-length-3 Inv-loop μ-loop
 same-length-3 c =
     let after-put = c .before .before .before .before .before in
-    let at-loop = after-put .before .before .before .before .before .before .before .before .before .before .before .before .before .before in
+    let at-loop = after-put .before .before .before .before .before .before .before .before .before .before .before .before .before in
     let put = after-put .put in
     let loop = at-loop .loop in
     omega (arith, put .kept .1 .0, loop .inv .5)
@@ -145,7 +134,7 @@ returns : tie.Need-returns Inv-loop μ-loop
 returns c =
     let after-put = c .before .before .before .before .before in
     let after-outcome = after-put .before .before .before .before .before in
-    let in-loop = after-outcome .before .before .before .before .before .before .before .before in
+    let in-loop = after-outcome .before .before .before .before .before .before .before in
     let at-loop = in-loop .before in
     let start = at-loop .before .before .before .before .before .before in
     let args = start .args in
@@ -163,7 +152,7 @@ returns c =
 add-f : tie.Need-add-f Inv-loop μ-loop
 add-f c =
     let after-state = c .before .before .before .before .before .before .before .before .before in
-    let in-loop = after-state .before .before .before .before .before .before .before .before .before in
+    let in-loop = after-state .before .before .before .before .before .before .before .before in
     let at-loop = in-loop .before in
     let loop = at-loop .loop in
     let below = in-loop .loop-test .taken in
@@ -172,7 +161,7 @@ add-f c =
 loop-less : tie.Need-loop-less Inv-loop μ-loop
 loop-less c =
     let after-state = c .before .before .before .before .before .before .before .before .before in
-    let in-loop = after-state .before .before .before .before .before .before .before .before .before in
+    let in-loop = after-state .before .before .before .before .before .before .before .before in
     let below = in-loop .loop-test .taken in
     omega (arith, below)
 
@@ -180,7 +169,7 @@ loop-again : tie.Need-loop-again Inv-loop μ-loop
 loop-again c =
     let after-put = c .before .before .before .before .before in
     let after-outcome = after-put .before .before .before .before .before in
-    let in-loop = after-outcome .before .before .before .before .before .before .before .before in
+    let in-loop = after-outcome .before .before .before .before .before .before .before in
     let at-loop = in-loop .before in
     let start = at-loop .before .before .before .before .before .before in
     let args = start .args in
@@ -245,10 +234,6 @@ flows-spec =
     add-outcome-2
     mul-outcome-6
     shared-slice-read-outcome-3
-    mul-outcome-7
-    add-outcome-3
-    mul-outcome-8
-    shared-slice-read-outcome-4
     outcome-requires
     put-requires
     same-length
