@@ -249,17 +249,21 @@ fn give(kept: &[u32], from: usize, clocks: &mut [u32], to: usize)
     requires { ⌜ (from + keptSize ≤ length (now kept)) × (to + clockSize ≤ length (now clocks)) ⌝ }
     ensures { λ _. ⌜ now (clocks .exit) ≡ take to (now (clocks .entry)) ++ (given (clockIn (drop from (now (kept .entry)))) ++ drop (to + clockSize) (now (clocks .entry))) ⌝ }
 {
+    let first = kept[from + 3];
+    let second = kept[from + 4];
+    let third = kept[from + 5];
+    let fourth = kept[from + 6];
     clocks[to] = kept[from];
     clocks[to + 1] = kept[from + 1];
     clocks[to + 2] = kept[from + 2];
-    clocks[to + 3] = kept[from + 3] % VIEW_UNIT;
-    clocks[to + 4] = kept[from + 4] % VIEW_UNIT;
-    clocks[to + 5] = kept[from + 5] % VIEW_UNIT;
-    clocks[to + 6] = kept[from + 6] % VIEW_UNIT;
-    clocks[to + 7] = kept[from + 3] / VIEW_UNIT;
-    clocks[to + 8] = kept[from + 4] / VIEW_UNIT;
-    clocks[to + 9] = kept[from + 5] / VIEW_UNIT;
-    clocks[to + 10] = kept[from + 6] / VIEW_UNIT;
+    clocks[to + 3] = first % VIEW_UNIT;
+    clocks[to + 4] = second % VIEW_UNIT;
+    clocks[to + 5] = third % VIEW_UNIT;
+    clocks[to + 6] = fourth % VIEW_UNIT;
+    clocks[to + 7] = first / VIEW_UNIT;
+    clocks[to + 8] = second / VIEW_UNIT;
+    clocks[to + 9] = third / VIEW_UNIT;
+    clocks[to + 10] = fourth / VIEW_UNIT;
 }
 
 // Gives out the clocks kept of n flows.

@@ -13,6 +13,42 @@ use Rattle.checker.proofs.Laws.{words-stored, clock-read}
 use Rattle.checker.proofs.give.Statement.{statement}
 use Rattle.checker.proofs.give.Tie as tie
 
+add-first : tie.Need-add-first
+add-first c = search needs
+
+mul-first : tie.Need-mul-first
+mul-first c = search needs
+
+shared-slice-read-first : tie.Need-shared-slice-read-first
+shared-slice-read-first c = search needs
+
+add-second : tie.Need-add-second
+add-second c = search needs
+
+mul-second : tie.Need-mul-second
+mul-second c = search needs
+
+shared-slice-read-second : tie.Need-shared-slice-read-second
+shared-slice-read-second c = search needs
+
+add-third : tie.Need-add-third
+add-third c = search needs
+
+mul-third : tie.Need-mul-third
+mul-third c = search needs
+
+shared-slice-read-third : tie.Need-shared-slice-read-third
+shared-slice-read-third c = search needs
+
+add-fourth : tie.Need-add-fourth
+add-fourth c = search needs
+
+mul-fourth : tie.Need-mul-fourth
+mul-fourth c = search needs
+
+shared-slice-read-fourth : tie.Need-shared-slice-read-fourth
+shared-slice-read-fourth c = search needs
+
 mul-clocks : tie.Need-mul-clocks
 mul-clocks c = search needs
 
@@ -67,8 +103,8 @@ add-clocks-5 c = search needs
 mul-clocks-7 : tie.Need-mul-clocks-7
 mul-clocks-7 c = search needs
 
-shared-slice-read-clocks-4 : tie.Need-shared-slice-read-clocks-4
-shared-slice-read-clocks-4 c = search needs
+slice-write-clocks-4 : tie.Need-slice-write-clocks-4
+slice-write-clocks-4 c = simp length-set (omega arith)
 
 add-clocks-6 : tie.Need-add-clocks-6
 add-clocks-6 c = search needs
@@ -76,8 +112,8 @@ add-clocks-6 c = search needs
 mul-clocks-8 : tie.Need-mul-clocks-8
 mul-clocks-8 c = search needs
 
-slice-write-clocks-4 : tie.Need-slice-write-clocks-4
-slice-write-clocks-4 c = simp length-set (omega arith)
+slice-write-clocks-5 : tie.Need-slice-write-clocks-5
+slice-write-clocks-5 c = simp length-set (omega arith)
 
 add-clocks-7 : tie.Need-add-clocks-7
 add-clocks-7 c = search needs
@@ -85,8 +121,8 @@ add-clocks-7 c = search needs
 mul-clocks-9 : tie.Need-mul-clocks-9
 mul-clocks-9 c = search needs
 
-shared-slice-read-clocks-5 : tie.Need-shared-slice-read-clocks-5
-shared-slice-read-clocks-5 c = search needs
+slice-write-clocks-6 : tie.Need-slice-write-clocks-6
+slice-write-clocks-6 c = simp length-set (omega arith)
 
 add-clocks-8 : tie.Need-add-clocks-8
 add-clocks-8 c = search needs
@@ -94,8 +130,8 @@ add-clocks-8 c = search needs
 mul-clocks-10 : tie.Need-mul-clocks-10
 mul-clocks-10 c = search needs
 
-slice-write-clocks-5 : tie.Need-slice-write-clocks-5
-slice-write-clocks-5 c = simp length-set (omega arith)
+slice-write-clocks-7 : tie.Need-slice-write-clocks-7
+slice-write-clocks-7 c = simp length-set (omega arith)
 
 add-clocks-9 : tie.Need-add-clocks-9
 add-clocks-9 c = search needs
@@ -103,8 +139,8 @@ add-clocks-9 c = search needs
 mul-clocks-11 : tie.Need-mul-clocks-11
 mul-clocks-11 c = search needs
 
-shared-slice-read-clocks-6 : tie.Need-shared-slice-read-clocks-6
-shared-slice-read-clocks-6 c = search needs
+slice-write-clocks-8 : tie.Need-slice-write-clocks-8
+slice-write-clocks-8 c = simp length-set (omega arith)
 
 add-clocks-10 : tie.Need-add-clocks-10
 add-clocks-10 c = search needs
@@ -112,8 +148,8 @@ add-clocks-10 c = search needs
 mul-clocks-12 : tie.Need-mul-clocks-12
 mul-clocks-12 c = search needs
 
-slice-write-clocks-6 : tie.Need-slice-write-clocks-6
-slice-write-clocks-6 c = simp length-set (omega arith)
+slice-write-clocks-9 : tie.Need-slice-write-clocks-9
+slice-write-clocks-9 c = simp length-set (omega arith)
 
 add-clocks-11 : tie.Need-add-clocks-11
 add-clocks-11 c = search needs
@@ -121,86 +157,14 @@ add-clocks-11 c = search needs
 mul-clocks-13 : tie.Need-mul-clocks-13
 mul-clocks-13 c = search needs
 
-shared-slice-read-clocks-7 : tie.Need-shared-slice-read-clocks-7
-shared-slice-read-clocks-7 c = search needs
+slice-write-clocks-10 : tie.Need-slice-write-clocks-10
+slice-write-clocks-10 c = simp length-set (omega arith)
 
 add-clocks-12 : tie.Need-add-clocks-12
 add-clocks-12 c = search needs
 
 mul-clocks-14 : tie.Need-mul-clocks-14
 mul-clocks-14 c = search needs
-
-slice-write-clocks-7 : tie.Need-slice-write-clocks-7
-slice-write-clocks-7 c = simp length-set (omega arith)
-
-add-clocks-13 : tie.Need-add-clocks-13
-add-clocks-13 c = search needs
-
-mul-clocks-15 : tie.Need-mul-clocks-15
-mul-clocks-15 c = search needs
-
-shared-slice-read-clocks-8 : tie.Need-shared-slice-read-clocks-8
-shared-slice-read-clocks-8 c = search needs
-
-add-clocks-14 : tie.Need-add-clocks-14
-add-clocks-14 c = search needs
-
-mul-clocks-16 : tie.Need-mul-clocks-16
-mul-clocks-16 c = search needs
-
-slice-write-clocks-8 : tie.Need-slice-write-clocks-8
-slice-write-clocks-8 c = simp length-set (omega arith)
-
-add-clocks-15 : tie.Need-add-clocks-15
-add-clocks-15 c = search needs
-
-mul-clocks-17 : tie.Need-mul-clocks-17
-mul-clocks-17 c = search needs
-
-shared-slice-read-clocks-9 : tie.Need-shared-slice-read-clocks-9
-shared-slice-read-clocks-9 c = search needs
-
-add-clocks-16 : tie.Need-add-clocks-16
-add-clocks-16 c = search needs
-
-mul-clocks-18 : tie.Need-mul-clocks-18
-mul-clocks-18 c = search needs
-
-slice-write-clocks-9 : tie.Need-slice-write-clocks-9
-slice-write-clocks-9 c = simp length-set (omega arith)
-
-add-clocks-17 : tie.Need-add-clocks-17
-add-clocks-17 c = search needs
-
-mul-clocks-19 : tie.Need-mul-clocks-19
-mul-clocks-19 c = search needs
-
-shared-slice-read-clocks-10 : tie.Need-shared-slice-read-clocks-10
-shared-slice-read-clocks-10 c = search needs
-
-add-clocks-18 : tie.Need-add-clocks-18
-add-clocks-18 c = search needs
-
-mul-clocks-20 : tie.Need-mul-clocks-20
-mul-clocks-20 c = search needs
-
-slice-write-clocks-10 : tie.Need-slice-write-clocks-10
-slice-write-clocks-10 c = simp length-set (omega arith)
-
-add-clocks-19 : tie.Need-add-clocks-19
-add-clocks-19 c = search needs
-
-mul-clocks-21 : tie.Need-mul-clocks-21
-mul-clocks-21 c = search needs
-
-shared-slice-read-clocks-11 : tie.Need-shared-slice-read-clocks-11
-shared-slice-read-clocks-11 c = search needs
-
-add-clocks-20 : tie.Need-add-clocks-20
-add-clocks-20 c = search needs
-
-mul-clocks-22 : tie.Need-mul-clocks-22
-mul-clocks-22 c = search needs
 
 slice-write-clocks-11 : tie.Need-slice-write-clocks-11
 slice-write-clocks-11 c = simp length-set (omega arith)
@@ -210,7 +174,7 @@ same-length c = simp length-set
 
 returns : tie.Need-returns
 returns c =
-    let start = c .before .before .before .before .before .before .before .before .before .before .before in
+    let start = c .before .before .before .before .before .before .before in
     let a = start .args in
     let old : List ℕ = now (a .clocks) in
     words-stored old (a .to) (given _) (start .pre .1)
@@ -220,6 +184,18 @@ pub give-spec : {M : Type 1} → statement M
 give-spec =
     tie.close
     (tie.spec
+    add-first
+    mul-first
+    shared-slice-read-first
+    add-second
+    mul-second
+    shared-slice-read-second
+    add-third
+    mul-third
+    shared-slice-read-third
+    add-fourth
+    mul-fourth
+    shared-slice-read-fourth
     mul-clocks
     shared-slice-read-clocks
     mul-clocks-2
@@ -238,51 +214,27 @@ give-spec =
     slice-write-clocks-3
     add-clocks-5
     mul-clocks-7
-    shared-slice-read-clocks-4
+    slice-write-clocks-4
     add-clocks-6
     mul-clocks-8
-    slice-write-clocks-4
+    slice-write-clocks-5
     add-clocks-7
     mul-clocks-9
-    shared-slice-read-clocks-5
+    slice-write-clocks-6
     add-clocks-8
     mul-clocks-10
-    slice-write-clocks-5
+    slice-write-clocks-7
     add-clocks-9
     mul-clocks-11
-    shared-slice-read-clocks-6
+    slice-write-clocks-8
     add-clocks-10
     mul-clocks-12
-    slice-write-clocks-6
+    slice-write-clocks-9
     add-clocks-11
     mul-clocks-13
-    shared-slice-read-clocks-7
+    slice-write-clocks-10
     add-clocks-12
     mul-clocks-14
-    slice-write-clocks-7
-    add-clocks-13
-    mul-clocks-15
-    shared-slice-read-clocks-8
-    add-clocks-14
-    mul-clocks-16
-    slice-write-clocks-8
-    add-clocks-15
-    mul-clocks-17
-    shared-slice-read-clocks-9
-    add-clocks-16
-    mul-clocks-18
-    slice-write-clocks-9
-    add-clocks-17
-    mul-clocks-19
-    shared-slice-read-clocks-10
-    add-clocks-18
-    mul-clocks-20
-    slice-write-clocks-10
-    add-clocks-19
-    mul-clocks-21
-    shared-slice-read-clocks-11
-    add-clocks-20
-    mul-clocks-22
     slice-write-clocks-11
     same-length
     returns)
