@@ -2,7 +2,7 @@
 use mathlib.Core.Path.{_≡_, refl, sym, _∙_, ap, ap₂, subst}
 use Prim.Native.Nat.{ℕ, zero, suc, _+_, _*_, _/_, _%_, _≤_, _<_}
 use native.Mathlib.Omega.{arith}
-use mathlib.Core.Bool.{Bool, true, false, _&&_, true≢false, false≢true}
+use mathlib.Core.Bool.{Bool, true, false, cond, _&&_, true≢false, false≢true}
 use mathlib.Core.List.{List, [], _∷_, _++_, map}
 use lib.ListN.{length, getD, length-append}
 use lib.Dec.{eqb, leb, eqb·suc-zero}
@@ -110,6 +110,16 @@ below-four P n l a b c d (suc (suc zero)) h = c
 below-four P n l a b c d (suc (suc (suc zero))) h = d
 below-four P n l a b c d (suc (suc (suc (suc i)))) h = absurd (omega arith)
 
+-- the words of conditions, looked at where there are any
+when-any : (t b : Bool) → b ≡ true → cond t true b ≡ true
+when-any true b e = refl
+when-any false b e = e
+
+-- and where there is one
+of-some : (n : ℕ) (b : Bool) → cond (eqb n 0) true b ≡ true → 0 < n → b ≡ true
+of-some zero b e h = absurd (omega arith)
+of-some (suc n) b e h = rw (eqb·suc-zero n) at e
+
 same-itself : (k : Kept) → Kept.same k k ≡ true
 unfolding Kept.same
 same-itself k =
@@ -121,7 +131,7 @@ same-itself k =
       eq-eqb (k .second) (k .second) refl,
       eq-eqb (k .third) (k .third) refl,
       eq-eqb (k .fourth) (k .fourth) refl,
-    )
+    ) (when-any (eqb (k .count) 0) true refl)
 
 same-kept-there : (j k : Clock) → sameClock j k ≡ true → Kept.same (Kept.kept j) (Kept.kept k) ≡ true
 same-kept-there j k e =
@@ -138,17 +148,19 @@ same-kept-back j k l m e =
     let b : Kept = Kept.kept k in
     let shape = and-left (Kept.sameShape a b) _ e in
     let n = and-right (eqb (a .period) (b .period)) _ shape in
-    let w = and-right (Kept.sameShape a b) _ e in
-    let x = and-right (eqb (a .first) (b .first)) _ w in
-    let y = and-right (eqb (a .second) (b .second)) _ x in
+    let words = and-right (Kept.sameShape a b) _ e in
     and-both (and-left (eqb (a .period) (b .period)) _ shape)
     (and-both (and-left (eqb (a .phase) (b .phase)) _ n)
     (conditions-words (j .conditions) (k .conditions) (l .1) m (eqb-true _ _ (and-right (eqb (a .phase) (b .phase)) _ n))
-    (below-four (λ (i : ℕ). getD (map Kept.keptWord (j .conditions)) i 0 ≡ getD (map Kept.keptWord (k .conditions)) i 0) (length (j .conditions)) (few j l)
+    (λ i h.
+    let w = of-some (length (j .conditions)) _ words (omega (arith, h)) in
+    let x = and-right (eqb (a .first) (b .first)) _ w in
+    let y = and-right (eqb (a .second) (b .second)) _ x in
+    below-four (λ (i : ℕ). getD (map Kept.keptWord (j .conditions)) i 0 ≡ getD (map Kept.keptWord (k .conditions)) i 0) (length (j .conditions)) (few j l)
     (eqb-true _ _ (and-left (eqb (a .first) (b .first)) _ w))
     (eqb-true _ _ (and-left (eqb (a .second) (b .second)) _ x))
     (eqb-true _ _ (and-left (eqb (a .third) (b .third)) _ y))
-    (eqb-true _ _ (and-right (eqb (a .third) (b .third)) _ y)))))
+    (eqb-true _ _ (and-right (eqb (a .third) (b .third)) _ y)) i h)))
 
 -- a clock within the limits equals one with conditions on flows of a table where the words kept are equal
 pub same-kept : (j k : Clock) → Within j → Below maxFlows (k .conditions) → sameClock j k ≡ Kept.same (Kept.kept j) (Kept.kept k)

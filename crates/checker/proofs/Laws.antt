@@ -8,7 +8,7 @@ use lib.Pow.{pow-pos, pow-add}
 use lib.ListN.{length, take, drop, set, getD}
 use lib.Seq.{sets, sets-eq, getD-drop}
 use mathlib.Core.List.{List, [], _∷_, _++_, append-assoc}
-use mathlib.Core.Bool.{_&&_}
+use mathlib.Core.Bool.{true, cond, _&&_}
 use lib.Dec.{eqb}
 use Rattle.checker.specs.declared.Clock.{Clock as Kept}
 use Rattle.checker.specs.Private.Kept.{clockIn, same}
@@ -61,6 +61,7 @@ clock-read l i =
 pub same-read : (l : List ℕ) (a b : ℕ)
     → same (clockIn (drop a l)) (clockIn (drop b l))
     ≡ ((eqb (getD l a 0) (getD l b 0) && (eqb (getD l (a + 1) 0) (getD l (b + 1) 0) && eqb (getD l (a + 2) 0) (getD l (b + 2) 0)))
-    && (eqb (getD l (a + 3) 0) (getD l (b + 3) 0) && (eqb (getD l (a + 4) 0) (getD l (b + 4) 0) && (eqb (getD l (a + 5) 0) (getD l (b + 5) 0) && eqb (getD l (a + 6) 0) (getD l (b + 6) 0)))))
+    && cond (eqb (getD l (a + 2) 0) 0) true
+    (eqb (getD l (a + 3) 0) (getD l (b + 3) 0) && (eqb (getD l (a + 4) 0) (getD l (b + 4) 0) && (eqb (getD l (a + 5) 0) (getD l (b + 5) 0) && eqb (getD l (a + 6) 0) (getD l (b + 6) 0)))))
 unfolding same
 same-read l a b = sym (ap₂ same (clock-read l a) (clock-read l b))

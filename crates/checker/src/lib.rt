@@ -13,6 +13,7 @@ use rules::slower;
 use rules::tail;
 use rules::viewed;
 use table::Answer;
+use table::ROW_SIZE;
 use table::record_at;
 use table::word_at;
 ghost use mathlib.Core.Path.{_≡_};
@@ -76,7 +77,8 @@ fn clock_at(kept: &[u32], f: u32) -> Clock
     }
 }
 
-// Whether the clocks whose words begin at a and at b are equal. A word is looked at only where those before it agree.
+// Whether the clocks whose words begin at a and at b are equal. A word is looked at only where those before it agree, and a condition's only where
+// there are conditions.
 fn same_words(kept: &[u32], a: usize, b: usize) -> bool
     requires { ⌜ (a + keptSize ≤ length (now kept)) × (b + keptSize ≤ length (now kept)) ⌝ }
     ensures { λ r. ⌜ r ≡ same (clockIn (drop a (now (kept .entry)))) (clockIn (drop b (now (kept .entry)))) ⌝ }
@@ -89,6 +91,9 @@ fn same_words(kept: &[u32], a: usize, b: usize) -> bool
     }
     if kept[a + 2] != kept[b + 2] {
         return false;
+    }
+    if kept[a + 2] == 0 {
+        return true;
     }
     if kept[a + 3] != kept[b + 3] {
         return false;
@@ -205,10 +210,10 @@ enum Found {
 fn source_fits(words: &[u32], kept: &[u32], f: u32) -> bool
     ensures { λ r. ⌜ r ≡ sourceIn (now (kept .entry)) (rowWords (now (words .entry)) f) ⌝ }
 {
-    let row = record_at(words, f);
-    if row.kind != 7 {
+    if word_at(words, ROW_SIZE * (f as usize)) != 7 {
         return true;
     }
+    let row = record_at(words, f);
     same(clock_at(kept, row.three), clock_at(kept, row.two))
 }
 

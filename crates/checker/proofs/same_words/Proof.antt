@@ -81,18 +81,9 @@ mul-if4 c = search needs
 shared-slice-read-if4 : tie.Need-shared-slice-read-if4
 shared-slice-read-if4 c = search needs
 
-add-if4-2 : tie.Need-add-if4-2
-add-if4-2 c = search needs
-
-mul-if4-2 : tie.Need-mul-if4-2
-mul-if4-2 c = search needs
-
-shared-slice-read-if4-2 : tie.Need-shared-slice-read-if4-2
-shared-slice-read-if4-2 c = search needs
-
 returns-4 : tie.Need-returns-4
 returns-4 c =
-    let else3 = c .before .before .before in
+    let else3 = c .before .before in
     let else2 = else3 .before .before .before in
     let else1 = else2 .before .before .before in
     let a = else1 .before .before .before .args in
@@ -101,7 +92,7 @@ returns-4 c =
       eq-eqb _ _ (else1 .if1 .left),
       eq-eqb _ _ (else2 .if2 .left),
       eq-eqb _ _ (else3 .if3 .left),
-      ne-eqb _ _ (c .if4 .taken),
+      eq-eqb _ _ (c .if4 .taken),
     )
 
 add-if5 : tie.Need-add-if5
@@ -125,7 +116,7 @@ shared-slice-read-if5-2 c = search needs
 returns-5 : tie.Need-returns-5
 returns-5 c =
     let else4 = c .before .before .before in
-    let else3 = else4 .before .before .before in
+    let else3 = else4 .before .before in
     let else2 = else3 .before .before .before in
     let else1 = else2 .before .before .before in
     let a = else1 .before .before .before .args in
@@ -134,7 +125,7 @@ returns-5 c =
       eq-eqb _ _ (else1 .if1 .left),
       eq-eqb _ _ (else2 .if2 .left),
       eq-eqb _ _ (else3 .if3 .left),
-      eq-eqb _ _ (else4 .if4 .left),
+      ne-eqb _ _ (else4 .if4 .left),
       ne-eqb _ _ (c .if5 .taken),
     )
 
@@ -160,7 +151,7 @@ returns-6 : tie.Need-returns-6
 returns-6 c =
     let else5 = c .before .before .before in
     let else4 = else5 .before .before .before in
-    let else3 = else4 .before .before .before in
+    let else3 = else4 .before .before in
     let else2 = else3 .before .before .before in
     let else1 = else2 .before .before .before in
     let a = else1 .before .before .before .args in
@@ -169,9 +160,47 @@ returns-6 c =
       eq-eqb _ _ (else1 .if1 .left),
       eq-eqb _ _ (else2 .if2 .left),
       eq-eqb _ _ (else3 .if3 .left),
-      eq-eqb _ _ (else4 .if4 .left),
+      ne-eqb _ _ (else4 .if4 .left),
       eq-eqb _ _ (else5 .if5 .left),
       ne-eqb _ _ (c .if6 .taken),
+    )
+
+add-if7 : tie.Need-add-if7
+add-if7 c = search needs
+
+mul-if7 : tie.Need-mul-if7
+mul-if7 c = search needs
+
+shared-slice-read-if7 : tie.Need-shared-slice-read-if7
+shared-slice-read-if7 c = search needs
+
+add-if7-2 : tie.Need-add-if7-2
+add-if7-2 c = search needs
+
+mul-if7-2 : tie.Need-mul-if7-2
+mul-if7-2 c = search needs
+
+shared-slice-read-if7-2 : tie.Need-shared-slice-read-if7-2
+shared-slice-read-if7-2 c = search needs
+
+returns-7 : tie.Need-returns-7
+returns-7 c =
+    let else6 = c .before .before .before in
+    let else5 = else6 .before .before .before in
+    let else4 = else5 .before .before .before in
+    let else3 = else4 .before .before in
+    let else2 = else3 .before .before .before in
+    let else1 = else2 .before .before .before in
+    let a = else1 .before .before .before .args in
+    rw (
+      same-read (now (a .kept)) (a .a) (a .b),
+      eq-eqb _ _ (else1 .if1 .left),
+      eq-eqb _ _ (else2 .if2 .left),
+      eq-eqb _ _ (else3 .if3 .left),
+      ne-eqb _ _ (else4 .if4 .left),
+      eq-eqb _ _ (else5 .if5 .left),
+      eq-eqb _ _ (else6 .if6 .left),
+      ne-eqb _ _ (c .if7 .taken),
     )
 
 add-result : tie.Need-add-result
@@ -192,12 +221,13 @@ mul-result-2 c = search needs
 shared-slice-read-result-2 : tie.Need-shared-slice-read-result-2
 shared-slice-read-result-2 c = search needs
 
-returns-7 : tie.Need-returns-7
-returns-7 c =
-    let else6 = c .before .before in
+returns-8 : tie.Need-returns-8
+returns-8 c =
+    let else7 = c .before .before in
+    let else6 = else7 .before .before .before in
     let else5 = else6 .before .before .before in
     let else4 = else5 .before .before .before in
-    let else3 = else4 .before .before .before in
+    let else3 = else4 .before .before in
     let else2 = else3 .before .before .before in
     let else1 = else2 .before .before .before in
     let a = else1 .before .before .before .args in
@@ -206,9 +236,10 @@ returns-7 c =
       eq-eqb _ _ (else1 .if1 .left),
       eq-eqb _ _ (else2 .if2 .left),
       eq-eqb _ _ (else3 .if3 .left),
-      eq-eqb _ _ (else4 .if4 .left),
+      ne-eqb _ _ (else4 .if4 .left),
       eq-eqb _ _ (else5 .if5 .left),
       eq-eqb _ _ (else6 .if6 .left),
+      eq-eqb _ _ (else7 .if7 .left),
     )
 
 pub same-words-spec : {M : Type 1} → statement M
@@ -237,9 +268,6 @@ same-words-spec =
     add-if4
     mul-if4
     shared-slice-read-if4
-    add-if4-2
-    mul-if4-2
-    shared-slice-read-if4-2
     returns-4
     add-if5
     mul-if5
@@ -255,10 +283,17 @@ same-words-spec =
     mul-if6-2
     shared-slice-read-if6-2
     returns-6
+    add-if7
+    mul-if7
+    shared-slice-read-if7
+    add-if7-2
+    mul-if7-2
+    shared-slice-read-if7-2
+    returns-7
     add-result
     mul-result
     shared-slice-read-result
     add-result-2
     mul-result-2
     shared-slice-read-result-2
-    returns-7)
+    returns-8)

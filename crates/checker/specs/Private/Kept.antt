@@ -80,10 +80,11 @@ every n p = record { period = n; phase = p; count = 0; first = 0; second = 0; th
 abbrev pub sameShape : Kept → Kept → Bool
 sameShape a b = eqb (a .period) (b .period) && (eqb (a .phase) (b .phase) && eqb (a .count) (b .count))
 
+-- the conditions are looked at where there are any
 unfoldable pub same : Kept → Kept → Bool
 same a b =
     sameShape a b
-    && (eqb (a .first) (b .first) && (eqb (a .second) (b .second) && (eqb (a .third) (b .third) && eqb (a .fourth) (b .fourth))))
+    && cond (eqb (a .count) 0) true (eqb (a .first) (b .first) && (eqb (a .second) (b .second) && (eqb (a .third) (b .third) && eqb (a .fourth) (b .fourth))))
 
 -- a refusal with the number unless the test is passed
 abbrev pub guard : Bool → ℕ → Verdict → Verdict
