@@ -19,7 +19,7 @@ use Rattle.semantics.specs.Runs.{Ticks, history, inputs}
 use Rattle.semantics.proofs.Traces.{history-length}
 use Rattle.runner.specs.Private.Carried.{Held, held, heldIn, heldSize, cellAt, status, lookFor}
 use Rattle.runner.specs.Private.Ready.{Views, Looked, Carries, Collected, AllCarry, Ready, Listed, looksBack}
-use Rattle.runner.specs.Private.Placed.{firstCell, Recalls, Fetched, Sighted, Backward, Near}
+use Rattle.runner.specs.Private.Placed.{firstCell, Recalls, Fetched, Backward, Near}
 use Rattle.runner.proofs.Decoded.{one-of}
 use Rattle.runner.proofs.Views.{view-looks, lag-of}
 use Rattle.runner.proofs.Tabled.{row-of}

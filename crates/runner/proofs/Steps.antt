@@ -2,7 +2,6 @@
 use mathlib.Core.Path.{_≡_, refl, sym, _∙_, ap, subst}
 use Prim.Native.Nat.{ℕ, zero, suc, _+_, _*_, _-_, _%_, _<_}
 use native.Mathlib.Omega.{arith}
-use mathlib.Core.Bool.{Bool}
 use mathlib.Core.List.{List, _∷_}
 use lib.ListN.{length, getD, take}
 use lib.Dec.{eqb}
@@ -14,7 +13,7 @@ use Rattle.semantics.specs.Operators.{is, timed, registered, fasterOf, laterOf,
 use Rattle.semantics.specs.Runs.{Tick, Ticks, cellIn, history, inputs, cellOf}
 use Rattle.semantics.proofs.Traces.{history-length}
 use Rattle.runner.specs.Private.Carried.{Held, cellAt, registerStep, fasterStep, fasterNext, laterStep, headStep, headNext, status, viewStep, viewNext, stepOf, nextOf}
-use Rattle.runner.specs.Private.Ready.{Copies, Heads, Views, Looked, Carries, Collected, Follows}
+use Rattle.runner.specs.Private.Ready.{Copies, Heads, Views, Carries, Collected, Follows}
 use Rattle.runner.proofs.Copies.{faster-steps, faster-follows}
 use Rattle.runner.proofs.Views.{view-steps, view-follows}
 use Rattle.runner.proofs.Histories.{timed-steps, timed-follows, timed-keeps, slower-steps, slower-follows, tail-steps, tail-follows, head-steps, head-follows}

@@ -1,6 +1,6 @@
 -- A view's step from three words is its step from the histories, and the words then say the same of one tick more. Assumes nothing.
 use mathlib.Core.Path.{_≡_, refl, sym, _∙_, ap}
-use Prim.Native.Nat.{ℕ, zero, suc, _+_, _*_, _-_, _/_, _≤_, _<_}
+use Prim.Native.Nat.{ℕ, suc, _+_, _*_, _-_, _/_, _≤_, _<_}
 use native.Mathlib.Nat.{div-lt-iff-lt-mul, le-div-iff-mul-le}
 use native.Mathlib.Omega.{arith}
 use mathlib.Core.Bool.{Bool, true, false, cond, Bool·beq}
@@ -12,7 +12,7 @@ use borrow.Author.Tests.{eq-eqb, ne-eqb, eqb-true, eqb-false, leb-true, leb-fals
 use Rattle.table.specs.Bits.{bit}
 use Rattle.table.proofs.Tests.{Tried, passed, failed, try}
 use Rattle.semantics.specs.Cells.{Cell, absent, present, mark, History, back, cellOn, firstOr, first}
-use Rattle.semantics.specs.Operators.{Step, is, clashes, truthOf, lookedAt, seen, governed, viewed}
+use Rattle.semantics.specs.Operators.{is, clashes, truthOf, lookedAt, seen, governed, viewed}
 use Rattle.semantics.proofs.Traces.{tick-back, tick-now, tick-before}
 use Rattle.runner.specs.Private.Carried.{Held, held, status, viewNext, viewPass, viewStep, lookFor}
 use Rattle.runner.specs.Private.Ready.{Views, waiting, ready, seeing, Looked}

@@ -1,7 +1,7 @@
 -- `watch` meets its contract. Assumes nothing.
 use borrow.Author.Tests.{eq-eqb, ne-eqb}
 use borrow.Author.Needs.{needs}
-use mathlib.Core.Path.{_∙_, ap}
+use mathlib.Core.Path.{ap}
 use Rattle.runner.specs.Private.Carried.{Held, begunBy}
 use mathlib.Core.Bool.{true}
 use Rattle.runner.proofs.carried.watch.Statement.{statement}

@@ -3,7 +3,7 @@ use mathlib.Core.Path.{_≡_, sym, _∙_}
 use Prim.Native.Nat.{ℕ, _+_, _*_, _-_, _≤_, _<_}
 use native.Mathlib.Omega.{arith}
 use lib.ListN.{length, getD}
-use Rattle.table.specs.Rows.{maxFlows, maxField, rowSize}
+use Rattle.table.specs.Rows.{maxFlows, rowSize}
 use Rattle.table.proofs.Tables.{Table}
 use Rattle.semantics.specs.Runs.{Ticks, inputs}
 use Rattle.runner.specs.Private.Carried.{stateSize}
