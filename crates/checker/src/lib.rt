@@ -214,7 +214,7 @@ fn source_fits(words: &[u32], kept: &[u32], f: u32) -> bool
         return true;
     }
     let row = record_at(words, f);
-    same(clock_at(kept, row.three), clock_at(kept, row.two))
+    same_at(kept, row.three, row.two)
 }
 
 // The lowest register whose source has another clock than its beat.

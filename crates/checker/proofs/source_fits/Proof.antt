@@ -29,20 +29,12 @@ returns c =
 record-at-requires : tie.Need-record-at-requires
 record-at-requires c κs = search needs
 
-clock-at-requires : tie.Need-clock-at-requires
-clock-at-requires c κs = search needs
-
-clock-at-requires-2 : tie.Need-clock-at-requires-2
-clock-at-requires-2 c κs = search needs
-
-same-requires : tie.Need-same-requires
-same-requires c κs = search needs
+same-at-requires : tie.Need-same-at-requires
+same-at-requires c κs = search needs
 
 returns-2 : tie.Need-returns-2
 returns-2 c =
-    let after-clock-at2 = c .before in
-    let after-clock-at = after-clock-at2 .before in
-    let after-record-at = after-clock-at .before in
+    let after-record-at = c .before in
     let else1 = after-record-at .before in
     let after-word-at = else1 .before in
     let start = after-word-at .before .before .before in
@@ -50,8 +42,7 @@ returns-2 c =
     let r = after-record-at .record-at in
     let k = now (a .kept) in
     let told = ap (λ (x : Words). x .kind) (r .ensures ∙ sym (four-read (now (a .words)) (rowSize * a .f))) ∙ sym (after-word-at .word-at .ensures) ∙ else1 .if1 .left in
-    let e : c .same .result ≡ sourceIn k (wordsOf (r .result)) =
-    rw (eq-eqb _ _ told, c .same .ensures, after-clock-at2 .clock-at2 .ensures, after-clock-at .clock-at .ensures) in
+    let e : c .same-at .result ≡ sourceIn k (wordsOf (r .result)) = rw (eq-eqb _ _ told, c .same-at .ensures) in
     e ∙ ap (sourceIn k) (r .ensures)
 
 pub source-fits-spec : {M : Type 1} → statement M
@@ -62,7 +53,5 @@ source-fits-spec =
     word-at-requires
     returns
     record-at-requires
-    clock-at-requires
-    clock-at-requires-2
-    same-requires
+    same-at-requires
     returns-2)

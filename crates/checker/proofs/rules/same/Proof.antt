@@ -36,7 +36,13 @@ returns-4 c =
     let else2 = else3 .before .before .before in
     let else1 = else2 .before .before in
     let after-same-shape = else1 .before in
-    rw (← after-same-shape .same-shape .ensures, not-false (after-same-shape .same-shape .result) (else1 .if1 .left), ne-eqb _ _ (else2 .if2 .left), eq-eqb _ _ (else3 .if3 .left), ne-eqb _ _ (c .if4 .taken))
+    rw (
+      ← after-same-shape .same-shape .ensures,
+      not-false (after-same-shape .same-shape .result) (else1 .if1 .left),
+      ne-eqb _ _ (else2 .if2 .left),
+      eq-eqb _ _ (else3 .if3 .left),
+      ne-eqb _ _ (c .if4 .taken),
+    )
 
 returns-5 : tie.Need-returns-5
 unfolding same
