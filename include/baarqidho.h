@@ -215,9 +215,9 @@ uint32_t baarqidho_listing(const uint8_t *packed, size_t packed_len,
  * Checks a table and writes what each flow costs as text, the load page. `times` has one worst time a flow, in
  * thousandths of a tick. Each flow has a line: flow in 2 characters, period in 5, phase in 5, how many conditions in 1
  * and load in 8, each right-aligned, one space between. The load is 1000 x worst time / period to the nearest whole,
- * the half going up. Lines stand by period ascending, equal periods by phase ascending, and only then by flow. The
- * last line is `total` and the sum of the loads as they are printed, right-aligned in 20. Every line has 25 characters
- * and a line feed; no zero byte follows.
+ * a half going to the even neighbour. Lines stand by period ascending, equal periods by phase ascending, and only then
+ * by flow. The last line is `total` and the sum of the loads as they are printed, right-aligned in 20. Every line has 25
+ * characters and a line feed; no zero byte follows.
  *
  * Success: count is the length of the page, BAARQIDHO_PAGE_LINE x (plan_count + 1); exactly that many bytes are
  * written, later ones are left as they were. Refusals, in this order, each of which leaves all of `page` as it was:

@@ -8,3 +8,4 @@ mod Turns
 pub mod Widths
 pub mod Pages
 pub mod Shown
+pub mod WorkedOut

@@ -14,9 +14,9 @@ use Rattle.checker.specs.Clocks.{Clock}
 use Rattle.checker.specs.Rules.{clockAt}
 use Rattle.checker.specs.Answers.{clocksFor, checkAnswer}
 use Rattle.checker.proofs.Bounds.{check-whole}
-use Rattle.loads.specs.Loads.{maxTime, maxLoad, load, lineOf, pageOf, lineSize, paging}
+use Rattle.loads.specs.Loads.{rounded, maxTime, maxLoad, load, lineOf, pageOf, lineSize, paging}
 use Rattle.loads.specs.Shown.{Shown, LoadPage}
-use Rattle.loads.proofs.Rounding.{rounded-nearest, one-nearest, rounded-bound}
+use Rattle.loads.proofs.Rounding.{rounded-nearest, nearest-rounded, rounded-bound}
 use Rattle.loads.proofs.Orders.{one-order}
 use Rattle.loads.proofs.Pages.{accepted, checked-refusal, lines, ordered, bounds, load-bounds, widths, total-bounds, last, page-size}
 
@@ -42,6 +42,7 @@ page-shown m words times old new r ks e n t left count =
       one-each = (accepted m words times ks e .0, n);
       lines = lines m words times ks e;
       ordered = ordered m words times ks e;
+      positive = λ l i. bounds m words times ks e l i .positive;
       nearest = λ l i. rounded-nearest (1000 * l .worst) (l .period) (bounds m words times ks e l i .positive);
       load-bound = load-bounds m words times ks e loads;
       total-bound = total-bounds m words times ks e loads;
@@ -68,5 +69,5 @@ load-page =
           page-shown m words times old new r (p .0) (p .1) (p .2) t (s ∙ ap (λ (w : Result (List ℕ)). leaves (λ bytes. bytes) w old) e)
           (ap (λ (w : Answer). w .count) (a ∙ ap (answer length) e));
       one-order = one-order;
-      one-nearest = one-nearest;
+      one-nearest = λ x p o. (rounded x p, rounded-nearest x p o, λ s n. nearest-rounded x p s o n);
     }

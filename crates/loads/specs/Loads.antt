@@ -1,6 +1,6 @@
 -- The load page, byte by byte: a line for each flow in order, and the total.
 use mathlib.Core.Path.{_≡_}
-use Prim.Native.Nat.{ℕ, zero, suc, _+_, _*_, _-_, _/_, _≤_, _<_}
+use Prim.Native.Nat.{ℕ, zero, suc, _+_, _*_, _-_, _/_, _%_, _≤_, _<_}
 use mathlib.Core.Bool.{cond}
 use mathlib.Core.List.{List, [], _∷_, _++_}
 use lib.ListN.{length, getD}
@@ -15,15 +15,22 @@ use Rattle.checker.specs.Answers.{clocksFor}
 
 -- ---- a load
 
--- r is the whole nearest to x / p, the upper one of two that are as near: twice the distance between x and r × p is below p, or p itself where r × p
--- is above
-pub record Nearest (x p r : ℕ) : Type 0 where
-  pub below : 2 * (x - r * p) < p
-  pub above : 2 * (r * p - x) ≤ p
+-- how far two numbers are from each other
+abbrev pub distance : ℕ → ℕ → ℕ
+distance m n = (m - n) + (n - m)
 
--- x divided by p, to the nearest whole, the half going up: half of p more, and then cut
+-- r is the whole nearest to x / p, and of two that are equally near the even one: no multiple of p is nearer to x than r × p is, and where another one is as
+-- near, r is even
+pub record Nearest (x p r : ℕ) : Type 0 where
+  pub nearest : (s : ℕ) → distance x (r * p) ≤ distance x (s * p)
+  pub even : (s : ℕ) → (s ≡ r → ⊥) → distance x (s * p) ≡ distance x (r * p) → r % 2 ≡ 0
+
+-- x divided by p, to the nearest whole: the whole part, and one more where what is left is more than half of p, or half and the whole part odd; 0 over 0
 abbrev pub rounded : ℕ → ℕ → ℕ
-rounded x p = (2 * x + p) / (2 * p)
+rounded x zero = 0
+rounded x (suc n) =
+    let p : ℕ = suc n in
+    cond (ltb p (2 * (x % p) + x / p % 2)) (x / p + 1) (x / p)
 
 -- the largest worst time, and the largest load
 abbrev pub maxTime : ℕ

@@ -19,7 +19,8 @@ pub record Shown (m : ℕ) (words times old new : List ℕ) (r : Answer) : Type 
   -- the lines of all flows in order
   pub lines : List Line
   pub ordered : Ordered (linesFrom (lineOf clocks times) (length clocks) 0) lines
-  -- each load is to the nearest whole
+  -- no period is 0, and each load is to the nearest whole
+  pub positive : (l : Line) → Among l lines → 1 ≤ l .period
   pub nearest : (l : Line) → Among l lines → Nearest (1000 * l .worst) (l .period) (load l)
   -- loads and total are bounded, and nothing outgrows its column: a line is as long as its columns are wide
   pub load-bound : (l : Line) → Among l lines → load l ≤ maxLoad
@@ -40,6 +41,6 @@ pub record LoadPage : Type 0 where
   pub shown :
       (m : ℕ) (words times old new : List ℕ) (r : Answer) → r ≡ pageAnswer m words times (length old) → new ≡ pageAfter m words times old
       → ((f : ℕ) → getD times f 0 ≤ maxTime) → r .number ≡ 0 → Shown m words times old new r
-  -- there is one order of some lines, and one nearest whole
+  -- there is one order of some lines, and over a period exactly one nearest whole
   pub one-order : (ls ss ss′ : List Line) → Ordered ls ss → Ordered ls ss′ → ss ≡ ss′
-  pub one-nearest : (x p r s : ℕ) → Nearest x p r → Nearest x p s → r ≡ s
+  pub one-nearest : (x p : ℕ) → 1 ≤ p → (r : ℕ) × Nearest x p r × ((s : ℕ) → Nearest x p s → s ≡ r)

@@ -24,7 +24,7 @@ pub const LINE_SIZE: usize = 26;
 // No flow's key is as large.
 const NO_KEY: u64 = 9223372036854775808;
 
-// 1000 times the worst time divided by the period, to the nearest whole, the half going up; 0 over a period of 0, which no clock has.
+// 1000 times the worst time divided by the period, to the nearest whole, the half going to the even one; 0 over a period of 0, which no clock has.
 fn load(worst: u16, period: u32) -> u32
     ensures { λ r. ⌜ r ≡ rounded (1000 * worst) period ⌝ }
     ensures { λ r. ⌜ r ≤ maxLoad ⌝ }
@@ -35,7 +35,8 @@ fn load(worst: u16, period: u32) -> u32
     let x = 1000 * (worst as u32);
     let whole = x / period;
     let rest = x % period;
-    if 2 * rest < period { whole } else { whole + 1 }
+    let odd = whole % 2;
+    if 2 * rest + odd <= period { whole } else { whole + 1 }
 }
 
 // The worst time of flow f, 0 past the end.

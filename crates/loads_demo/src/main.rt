@@ -29,7 +29,7 @@ fn shown(title: &[u8], count: u32, words: &[u32], times: &[u16], page: &mut [u8]
     io::write_all(STDOUT_FILENO, b"\n");
 }
 
-// Halves: 7812.5, 62.5 and 187.5, and a total of what is printed.
+// Halves, which go to the even neighbour: 7812.5, 62.5 and 187.5, and a total of what is printed.
 fn halves() {
     let words = [0, 32, 4, 0, 0, 16, 0, 0, 13, 1, 1, 0];
     let times = [250, 1, 3];

@@ -332,7 +332,7 @@ pub fn listing(packed: &[u8], text: &mut [u8]) -> Answer {
 /// Checks a plain table and writes what each flow costs as text, from one worst time a flow in thousandths of a tick:
 /// a line for each flow by period, equal periods by phase and only then by flow, and a last one with the sum of the
 /// printed loads, each of [`PAGE_LINE`](crate::PAGE_LINE) bytes. A load is 1000 times the worst time divided by the
-/// period, to the nearest whole, the half going up.
+/// period, to the nearest whole, a half going to the even neighbour.
 ///
 /// Success gives the count of bytes and writes exactly those. Refusals, none of which touches `page`: 11, 13, 14, 15,
 /// those of the check (23, 21, 22 and 40), 36 where `times` is not one a flow, and 37 where `page` is too short.
@@ -341,11 +341,11 @@ pub fn listing(packed: &[u8], text: &mut [u8]) -> Answer {
 /// ```
 /// use baarqidho::{load_page, PAGE_LINE};
 ///
-/// // Flow, period, phase, how many conditions, and load: 187.5 goes up.
+/// // Flow, period, phase, how many conditions, and load: 62.5 goes down to 62.
 /// let mut page = [b'.'; 2 * PAGE_LINE + 1];
-/// let answer = load_page(1, &[0, 16, 5, 0], &[3], &mut page);
+/// let answer = load_page(1, &[0, 16, 5, 0], &[1], &mut page);
 /// assert_eq!((answer.number, answer.count), (0, 52));
-/// assert_eq!(&page, b" 0    16     5 0      188\ntotal                 188\n.");
+/// assert_eq!(&page, b" 0    16     5 0       62\ntotal                  62\n.");
 /// ```
 pub fn load_page(plan_count: u32, words: &[u32], times: &[u16], page: &mut [u8]) -> Answer {
     answer(|flow, tick, count| {

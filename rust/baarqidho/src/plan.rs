@@ -158,8 +158,8 @@ impl Plan {
 
     /// Checks it, and prints what each flow costs, from one worst time a flow in thousandths of a tick. A line has
     /// flow, period, phase, how many conditions, and load: 1000 times the worst time divided by the period, to the
-    /// nearest whole, the half going up. Lines stand by period, equal periods by phase and only then by flow; the last
-    /// one has the sum of the loads as they are printed.
+    /// nearest whole, a half going to the even neighbour. Lines stand by period, equal periods by phase and only then
+    /// by flow; the last one has the sum of the loads as they are printed.
     ///
     /// ```
     /// use baarqidho::{Plan, Row};

@@ -1,5 +1,7 @@
 //! The load page.
 
+use std::cmp::Ordering;
+
 use crate::check::{derive, Clock};
 use crate::plan::rows;
 use crate::{Answer, MOST_FLOWS};
@@ -66,10 +68,16 @@ fn place(flow: usize, clock: &Clock) -> u32 {
     clock.period << 18 | clock.phase << 6 | flow as u32
 }
 
-/// 1000 times the worst time divided by the period, the half going up.
+/// 1000 times the worst time divided by the period, the half going to the even number.
 #[inline]
 fn load(worst: u16, period: u32) -> u32 {
-    (2000 * u32::from(worst) + period) / (2 * period)
+    let x = 1000 * u32::from(worst);
+    let (whole, rest) = (x / period, x % period);
+    match (2 * rest).cmp(&period) {
+        Ordering::Less => whole,
+        Ordering::Equal => (whole + 1) & !1,
+        Ordering::Greater => whole + 1,
+    }
 }
 
 /// Writes a number into a blank line, its last digit before `end`.

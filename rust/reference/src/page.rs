@@ -1,5 +1,7 @@
 //! The load page: what each flow costs, a line a flow, and the total.
 
+use std::cmp::Ordering;
+
 use crate::check::clocks_of;
 use crate::clock::Clock;
 use crate::rows::table;
@@ -52,14 +54,15 @@ fn load(worst: u16, clock: &Clock) -> i64 {
     nearest(1000 * i64::from(worst), i64::from(clock.period))
 }
 
-/// The whole number nearest to x / y, the half going up: of those on either side of it the one that times y is the
-/// least away from x, and of two that are equally far the larger.
+/// The whole number nearest to x / y: of those on either side of it the one that times y is the least away from x, and
+/// of two that are equally far the even one.
 fn nearest(x: i64, y: i64) -> i64 {
-    let below = x / y;
+    let (below, above) = (x / y, x / y + 1);
     let away = |whole: i64| (x - whole * y).abs();
-    if away(below + 1) <= away(below) {
-        below + 1
-    } else {
-        below
+    match away(below).cmp(&away(above)) {
+        Ordering::Less => below,
+        Ordering::Greater => above,
+        Ordering::Equal if below % 2 == 0 => below,
+        Ordering::Equal => above,
     }
 }

@@ -224,8 +224,8 @@ static void all_of_load_page(void)
     static const uint16_t times[] = {1, 65535, 9, 8};
     static const char page[] = " 1     4     0 0 16383750\n"
                                " 2     4     0 1     2250\n"
-                               " 0    16     3 0       63\n"
-                               "total            16386063\n";
+                               " 0    16     3 0       62\n"
+                               "total            16386062\n";
     /* Inputs (4, 2), (4, 0) and (4, 2), and the second where it is not 0. */
     static const uint32_t phased[] = {0, 4, 2, 0, 0, 4, 0, 0, 0, 4, 2, 0, 13, 1, 1, 0};
     static const char by_phase[] = " 1     4     0 0 16383750\n"

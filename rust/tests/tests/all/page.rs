@@ -21,13 +21,24 @@ fn at(period: u32, phase: u32) -> [u32; 4] {
 #[test]
 fn loads() {
     for (worst, period, load) in [
-        // 62.5, 187.5 and 312.5, and the same of a longer period; 0.5.
-        (1, 16, 63),
+        // 62.5, 187.5, 312.5 and 437.5: to the even neighbour, below and above by turns.
+        (1, 16, 62),
         (3, 16, 188),
-        (5, 16, 313),
-        (2, 32, 63),
-        (255, 4080, 63),
-        (1, 2000, 1),
+        (5, 16, 312),
+        (7, 16, 438),
+        // The first two of longer periods; 0.5, 1.5 and 2.5.
+        (2, 32, 62),
+        (6, 32, 188),
+        (255, 4080, 62),
+        (765, 4080, 188),
+        (1, 2000, 0),
+        (3, 2000, 2),
+        (5, 2000, 2),
+        // Next to them, less than a sixtieth away: 62.485 and 62.515, 187.485 and 187.515.
+        (255, 4081, 62),
+        (255, 4079, 63),
+        (767, 4091, 187),
+        (763, 4069, 188),
         // 31.25, 93.75 and 0.25.
         (1, 32, 31),
         (3, 32, 94),
@@ -50,6 +61,32 @@ fn loads() {
         let lines = [format!(" 0 {period:>5}     0 0 {load:>8}"), format!("total{load:>20}")];
         prints(&[at(period, 0)], &[worst], &lines);
     }
+}
+
+/// The largest worst time at every period where its load is at a half: to the even neighbour. All other periods are
+/// tried in `pages.rs`.
+#[test]
+fn halves_of_the_largest_time() {
+    let loads = [
+        // 4,095,937.5 and so on.
+        (16, 4_095_938),
+        (48, 1_365_312),
+        (80, 819_188),
+        (240, 273_062),
+        (272, 240_938),
+        (400, 163_838),
+        (816, 80_312),
+        (1_200, 54_612),
+        (1_360, 48_188),
+        (2_000, 32_768),
+        (4_080, 16_062),
+    ];
+    let halves = (1..=4095).filter(|period| 131_070_000 % period == 0 && 131_070_000 / period % 2 == 1);
+    assert!(halves.eq(loads.map(|(period, _)| period)));
+    let line = |(flow, (period, load))| format!("{flow:>2} {period:>5}     0 0 {load:>8}");
+    let mut lines: Vec<String> = loads.iter().enumerate().map(line).collect();
+    lines.push("total             7190218".to_string());
+    prints(&loads.map(|(period, _)| at(period, 0)), &[65_535; 11], &lines);
 }
 
 /// The README's worked example; period, phase, conditions and load at their widest; and 0 to 4 conditions.
@@ -134,11 +171,14 @@ fn order_at_the_limits() {
     prints(&rows, &[0; 64], &lines);
 }
 
-/// The sum is that of the printed loads: 63 and 63 where 62.5 and 62.5 are 125, three times 333 where thirds are 1000.
+/// The sum is that of the printed loads: 62 and 62 where 62.5 and 62.5 are 125, 188 and 188 where 187.5 and 187.5 are
+/// 375, three times 333 where thirds are 1000.
 #[test]
 fn totals_of_printed_loads() {
-    let line = " 0    16     0 0       63";
-    prints(&[at(16, 0); 2], &[1; 2], &[line, " 1    16     0 0       63", "total                 126"]);
+    let line = " 0    16     0 0       62";
+    prints(&[at(16, 0); 2], &[1; 2], &[line, " 1    16     0 0       62", "total                 124"]);
+    let line = " 0    16     0 0      188";
+    prints(&[at(16, 0); 2], &[3; 2], &[line, " 1    16     0 0      188", "total                 376"]);
     let thirds = [0, 1, 2].map(|flow| format!(" {flow}     3     0 0      333"));
     let lines = [&thirds[0], &thirds[1], &thirds[2], "total                 999"];
     prints(&[at(3, 0); 3], &[1; 3], &lines);

@@ -1,4 +1,4 @@
-//! Load pages of random plans, a million of them, and of every period, phase and worst time.
+//! Load pages of random plans, a million of them, of every period, phase and worst time, and of every half.
 
 use tests::compare::{check, load_page, load_page_exactly, page_bytes, pattern_byte, Outcome};
 use tests::generate::{accepted, Clock, Shape};
@@ -9,6 +9,11 @@ use tests::{rounds, Plan};
 /// How far twice the load is from an odd number, in parts of the period: none where the load is at a half.
 fn from_half(worst: u16, period: u32) -> u32 {
     (2_000 * u32::from(worst) % (2 * period)).abs_diff(period)
+}
+
+/// Whether the load is at a half, above a number of this remainder by 2.
+fn is_half_above(odd: u32, worst: u16, period: u32) -> bool {
+    from_half(worst, period) == 0 && 1_000 * u32::from(worst) / period % 2 == odd
 }
 
 /// Whether some flow with its worst time passes a test.
@@ -34,7 +39,7 @@ fn crowded(clocks: &[Clock]) -> bool {
 type Sort = (&'static str, fn(&[Clock], &[u16]) -> bool);
 
 /// The sorts that have to occur, each at least once in a hundred pages.
-static SORTS: [Sort; 17] = [
+static SORTS: [Sort; 18] = [
     ("one flow", |clocks, _| clocks.len() == 1),
     ("64 flows", |clocks, _| clocks.len() == 64),
     ("a later flow that comes first", |clocks, _| some_pair(clocks, |clock, later| later.period < clock.period)),
@@ -46,7 +51,12 @@ static SORTS: [Sort; 17] = [
         some_pair(clocks, |clock, later| (later.period, later.phase) == (clock.period, clock.phase))
     }),
     ("a period with three phases, each of three flows", |clocks, _| crowded(clocks)),
-    ("a half", |clocks, times| some(clocks, times, |clock, worst| from_half(worst, clock.period) == 0)),
+    ("a half above an even number", |clocks, times| {
+        some(clocks, times, |clock, worst| is_half_above(0, worst, clock.period))
+    }),
+    ("a half above an odd number", |clocks, times| {
+        some(clocks, times, |clock, worst| is_half_above(1, worst, clock.period))
+    }),
     ("a hundredth from a half, or less", |clocks, times| {
         some(clocks, times, |clock, worst| (1..=clock.period / 50).contains(&from_half(worst, clock.period)))
     }),
@@ -62,7 +72,7 @@ static SORTS: [Sort; 17] = [
     ("another total than that of the loads before rounding", |clocks, times| {
         let exact = |(clock, &worst): (&Clock, &u16)| 1_000.0 * f64::from(worst) / f64::from(clock.period);
         let loads: Vec<f64> = clocks.iter().zip(times).map(exact).collect();
-        let printed: f64 = loads.iter().map(|load| load.round()).sum();
+        let printed: f64 = loads.iter().map(|load| load.round_ties_even()).sum();
         (printed - loads.iter().sum::<f64>()).abs() > 0.6
     }),
 ];
@@ -162,15 +172,16 @@ fn printed(outcome: &Outcome) -> (Vec<[u64; 4]>, u64) {
     (lines[..64].iter().map(line).collect(), number(&lines[64][5..]))
 }
 
-/// 64 flows of these clocks and worst times: each load is the nearest whole, the half going up, the lines are in
-/// order, each flow once, and the total is the sum of the loads.
+/// 64 flows of these clocks and worst times: each load is the nearest whole, of two that are equally near the even one,
+/// the lines are in order, each flow once, and the total is the sum of the loads.
 fn page_is_right(clocks: &[(u32, u32); 64], times: &[u16; 64]) {
     let rows = clocks.map(|(period, phase)| [1, 7, period, phase]);
     let (lines, total) = printed(&load_page_exactly(&ALL, &Plan::of(&rows), times));
     for &[flow, period, phase, load] in &lines {
-        let (twice, worst) = (2 * load * period, u64::from(times[flow as usize]));
+        let worst = u64::from(times[flow as usize]);
+        let twice_away = (2 * load * period).abs_diff(2_000 * worst);
         assert_eq!((period as u32, phase as u32), clocks[flow as usize]);
-        assert!(twice <= 2_000 * worst + period && 2_000 * worst < twice + period, "{worst} over {period}: {load}");
+        assert!(twice_away < period + u64::from(load % 2 == 0), "{worst} over {period}: {load}");
     }
     assert!(lines.is_sorted_by(|a, b| (a[1], a[2], a[0]) < (b[1], b[2], b[0])), "{clocks:?}");
     assert_eq!(lines.iter().map(|[.., load]| load).sum::<u64>(), total);
@@ -209,5 +220,19 @@ fn every_time() {
         for first in (0..=65_535).step_by(64) {
             page_is_right(&[(period, 0); 64], &std::array::from_fn(|place| first + place as u16));
         }
+    }
+}
+
+/// Every half there is, as many above even numbers as above odd ones but for a few, 64 on a page.
+#[test]
+fn every_half() {
+    let with_halves = (1..=4095).filter(|&period| (0..period as u16).any(|worst| from_half(worst, period) == 0));
+    let at_halves = |period| (0..=65_535).filter(move |&worst| from_half(worst, period) == 0);
+    let halves: Vec<(u32, u16)> = with_halves.flat_map(|period| at_halves(period).map(move |worst| (period, worst))).collect();
+    let above_odd = halves.iter().filter(|&&(period, worst)| is_half_above(1, worst, period)).count();
+    assert_eq!((halves.len(), above_odd), (435_114, 217_494));
+    for first in (0..halves.len()).step_by(64) {
+        let half = |place: usize| halves[(first + place).min(halves.len() - 1)];
+        page_is_right(&std::array::from_fn(|place| (half(place).0, 0)), &std::array::from_fn(|place| half(place).1));
     }
 }
