@@ -36,7 +36,11 @@ fn load(worst: u16, period: u32) -> u32
     let whole = x / period;
     let rest = x % period;
     let odd = whole % 2;
-    if 2 * rest + odd <= period { whole } else { whole + 1 }
+    if 2 * rest + odd <= period {
+        whole
+    } else {
+        whole + 1
+    }
 }
 
 // The worst time of flow f, 0 past the end.

@@ -84,7 +84,7 @@ fn halves_of_the_largest_time() {
     let halves = (1..=4095).filter(|period| 131_070_000 % period == 0 && 131_070_000 / period % 2 == 1);
     assert!(halves.eq(loads.map(|(period, _)| period)));
     let line = |(flow, (period, load))| format!("{flow:>2} {period:>5}     0 0 {load:>8}");
-    let mut lines: Vec<String> = loads.iter().enumerate().map(line).collect();
+    let mut lines: Vec<String> = loads.into_iter().enumerate().map(line).collect();
     lines.push("total             7190218".to_string());
     prints(&loads.map(|(period, _)| at(period, 0)), &[65_535; 11], &lines);
 }

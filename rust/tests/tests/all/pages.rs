@@ -223,12 +223,17 @@ fn every_time() {
     }
 }
 
-/// Every half there is, as many above even numbers as above odd ones but for a few, 64 on a page.
+/// Every half there is, 64 on a page.
 #[test]
 fn every_half() {
-    let with_halves = (1..=4095).filter(|&period| (0..period as u16).any(|worst| from_half(worst, period) == 0));
-    let at_halves = |period| (0..=65_535).filter(move |&worst| from_half(worst, period) == 0);
-    let halves: Vec<(u32, u16)> = with_halves.flat_map(|period| at_halves(period).map(move |worst| (period, worst))).collect();
+    let mut halves: Vec<(u32, u16)> = Vec::new();
+    for period in 1..=4095 {
+        // Loads of worst times that are a period apart differ by 1000: if one is at a half, one of the first period is.
+        if (0..period as u16).any(|worst| from_half(worst, period) == 0) {
+            let times = (0..=65_535).filter(|&worst| from_half(worst, period) == 0);
+            halves.extend(times.map(|worst| (period, worst)));
+        }
+    }
     let above_odd = halves.iter().filter(|&&(period, worst)| is_half_above(1, worst, period)).count();
     assert_eq!((halves.len(), above_odd), (435_114, 217_494));
     for first in (0..halves.len()).step_by(64) {
