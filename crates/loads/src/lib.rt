@@ -35,6 +35,7 @@ fn load(worst: u16, period: u32) -> u32
     let x = 1000 * (worst as u32);
     let whole = x / period;
     let rest = x % period;
+    // One more where more than half of the period is left, or half and the whole is odd.
     let odd = whole % 2;
     if 2 * rest + odd <= period {
         whole
