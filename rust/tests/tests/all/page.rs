@@ -17,6 +17,11 @@ fn at(period: u32, phase: u32) -> [u32; 4] {
     [1, 7, period, phase]
 }
 
+/// The line of a flow from tick 0 on, under no condition.
+fn line(flow: usize, period: u32, load: u32) -> String {
+    format!("{flow:>2} {period:>5}     0 0 {load:>8}")
+}
+
 /// One flow: its load, and a total that is the same.
 #[test]
 fn loads() {
@@ -58,7 +63,7 @@ fn loads() {
         (65_535, 1, 65_535_000),
         (65_535, 2, 32_767_500),
     ] {
-        let lines = [format!(" 0 {period:>5}     0 0 {load:>8}"), format!("total{load:>20}")];
+        let lines = [line(0, period, load), format!("total{load:>20}")];
         prints(&[at(period, 0)], &[worst], &lines);
     }
 }
@@ -83,8 +88,8 @@ fn halves_of_the_largest_time() {
     ];
     let halves = (1..=4095).filter(|period| 131_070_000 % period == 0 && 131_070_000 / period % 2 == 1);
     assert!(halves.eq(loads.map(|(period, _)| period)));
-    let line = |(flow, (period, load))| format!("{flow:>2} {period:>5}     0 0 {load:>8}");
-    let mut lines: Vec<String> = loads.into_iter().enumerate().map(line).collect();
+    let of_flow = |(flow, (period, load))| line(flow, period, load);
+    let mut lines: Vec<String> = loads.into_iter().enumerate().map(of_flow).collect();
     lines.push("total             7190218".to_string());
     prints(&loads.map(|(period, _)| at(period, 0)), &[65_535; 11], &lines);
 }
@@ -175,14 +180,14 @@ fn order_at_the_limits() {
 /// 375, three times 333 where thirds are 1000.
 #[test]
 fn totals_of_printed_loads() {
-    let line = " 0    16     0 0       62";
-    prints(&[at(16, 0); 2], &[1; 2], &[line, " 1    16     0 0       62", "total                 124"]);
-    let line = " 0    16     0 0      188";
-    prints(&[at(16, 0); 2], &[3; 2], &[line, " 1    16     0 0      188", "total                 376"]);
-    let thirds = [0, 1, 2].map(|flow| format!(" {flow}     3     0 0      333"));
+    let lines = [" 0    16     0 0       62", " 1    16     0 0       62", "total                 124"];
+    prints(&[at(16, 0); 2], &[1; 2], &lines);
+    let lines = [" 0    16     0 0      188", " 1    16     0 0      188", "total                 376"];
+    prints(&[at(16, 0); 2], &[3; 2], &lines);
+    let thirds = [0, 1, 2].map(|flow| line(flow, 3, 333));
     let lines = [&thirds[0], &thirds[1], &thirds[2], "total                 999"];
     prints(&[at(3, 0); 3], &[1; 3], &lines);
-    let none = [0, 1, 2, 3].map(|flow| format!(" {flow}  4001     0 0        0"));
+    let none = [0, 1, 2, 3].map(|flow| line(flow, 4001, 0));
     let lines = [&none[0], &none[1], &none[2], &none[3], "total                   0"];
     prints(&[at(4001, 0); 4], &[2; 4], &lines);
 }
@@ -190,7 +195,7 @@ fn totals_of_printed_loads() {
 /// 64 flows, forwards and backwards, and the greatest total there is.
 #[test]
 fn the_longest_page() {
-    let mut lines: Vec<String> = (0..64).map(|flow| format!("{flow:>2}     1     0 0 65535000")).collect();
+    let mut lines: Vec<String> = (0..64).map(|flow| line(flow, 1, 65_535_000)).collect();
     lines.push("total          4194240000".to_string());
     prints(&[at(1, 0); 64], &[65_535; 64], &lines);
 
