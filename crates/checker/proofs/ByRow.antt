@@ -17,7 +17,7 @@ use Rattle.checker.specs.declared.Verdict.{Verdict}
 use Rattle.checker.specs.declared.Verdict.the-variants.{Is, Refused}
 use Rattle.checker.specs.Private.Kept as Kept
 use Rattle.checker.proofs.Agree.{Agrees, agree-guard, guard-both, plain-count, agree-every, agree-limited, same-kept, agree-under, agree-viewed, extends-kept}
-use Rattle.checker.proofs.RuleLaws.{limits}
+use Rattle.checker.proofs.RuleLaws.{limits, written-fits}
 use Rattle.checker.proofs.CheckLaws.{first-snoc}
 
 -- A rule over a clock k within the limits.
@@ -53,19 +53,19 @@ module _ (m f : ℕ) (small : f < maxFlows) (clk : ℕ → Clock) (h : ℕ → K
     (within : (g : ℕ) → g < f → Within (clk g)) where
   rule-agrees : (r : Row) → Fits m f r → Agrees f (Kept.ruleOf h r) (clockOf clk f r)
   unfolding Kept.ruleOf clockOf
-  rule-agrees (input n p) t = agree-every f n p (t .0 .upto) (t .1)
-  rule-agrees (constant v n p) t = agree-every f n p (t .0 .upto) (t .1)
+  rule-agrees (input n p) t = agree-every f n p (written-fits (t .0 .upto)) (written-fits (t .1))
+  rule-agrees (constant v n p) t = agree-every f n p (written-fits (t .0 .upto)) (written-fits (t .1))
   rule-agrees (combine op a b) t =
       rw (held a (t .0), held b (t .1)) (beside f (clk a) (within a (t .0)) (clk b) (within b (t .1)) (Is (Kept.kept (clk a))) (good (clk a)) (refl, within a (t .0)))
   rule-agrees (register v b a) t = (rw (held b (t .0)), within b (t .0))
   rule-agrees (faster a k g) t =
       let w = within a (t .0) in
-      rw (held a (t .0)) (over-plain f (clk a) w _ _ (fitting f (clk a) w (clk a .period) (k * g) g (clk a .phase) (t .2 .upto) (limits (clk a) (w .0) .phase-fits)))
+      rw (held a (t .0)) (over-plain f (clk a) w _ _ (fitting f (clk a) w (clk a .period) (k * g) g (clk a .phase) (written-fits (t .2 .upto)) (limits (clk a) (w .0) .phase-fits)))
   rule-agrees (slower a k) t = rw (held a (t .0)) (over-plain f (clk a) (within a (t .0)) _ _ (agree-limited f (k * clk a .period) (clk a .phase)))
   rule-agrees (later a d) t = rw (held a (t .0)) (over-plain f (clk a) (within a (t .0)) _ _ (agree-limited f (clk a .period) (clk a .phase + d)))
   rule-agrees (head a v s) t =
       let w = within a (t .0) in
-      rw (held a (t .0)) (over-plain f (clk a) w _ _ (fitting f (clk a) w (clk a .phase) (s + clk a .period) (clk a .period) s (limits (clk a) (w .0) .period-fits) (t .1)))
+      rw (held a (t .0)) (over-plain f (clk a) w _ _ (fitting f (clk a) w (clk a .phase) (s + clk a .period) (clk a .period) s (limits (clk a) (w .0) .period-fits) (written-fits (t .1))))
   rule-agrees (tail a) t = rw (held a (t .0)) (over-plain f (clk a) (within a (t .0)) _ _ (agree-limited f (clk a .period) (clk a .phase + clk a .period)))
   rule-agrees (sample u a c) t =
       rw (held a (t .0), held c (t .1))

@@ -19,7 +19,7 @@ use Rattle.checker.specs.Clocks.{Condition, Clock, every, under}
 use Rattle.checker.specs.Rules.{maxDerived, maxConditions, clockOf, clockAt, clocksFrom, sourced, sourceFits, clocksOf, Every, Below, Direct, FirstViewed}
 use Rattle.checker.proofs.ClockLaws.{plain-empty}
 use Rattle.checker.proofs.RuleLaws.{Rule, by-input, by-constant, by-combine, by-register, by-faster, by-slower, by-later, by-head}
-use Rattle.checker.proofs.RuleLaws.{by-tail, by-sample, by-merge, by-view, rule-of}
+use Rattle.checker.proofs.RuleLaws.{by-tail, by-sample, by-merge, by-view, rule-of, written-fits}
 
 -- a rule reads the clocks of lower flows only
 pub clock-local : (clk clk′ : ℕ → Clock) (m f : ℕ) (r : Row) → Fits m f r → ((a : ℕ) → a < f → clk a ≡ clk′ a) → clockOf clk f r ≡ clockOf clk′ f r
@@ -198,14 +198,14 @@ module _ (clk : ℕ → Clock) (m : ℕ) where
       }
 
   sane-row : (f : ℕ) (r : Row) (k : Clock) → Rule clk r k → Fits m f r → AllSane clk f → Sane clk f k
-  sane-row f r k by-input w s = periodic f _ _ (w .0 .from) (omega (arith, w .0 .upto)) (omega (arith, w .1))
-  sane-row f r k by-constant w s = periodic f _ _ (w .0 .from) (omega (arith, w .0 .upto)) (omega (arith, w .1))
+  sane-row f r k by-input w s = periodic f _ _ (w .0 .from) (written-fits (w .0 .upto)) (written-fits (w .1))
+  sane-row f r k by-constant w s = periodic f _ _ (w .0 .from) (written-fits (w .0 .upto)) (written-fits (w .1))
   sane-row f r k (by-combine {a = a} x) w s = of-lower f a s (w .0)
   sane-row f r k (by-register {b = b}) w s = of-lower f b s (w .0)
-  sane-row f r k (by-faster {a = a} x y) w s = periodic f _ _ (w .2 .from) (omega (arith, w .2 .upto)) (s a (w .0) .phase-fits)
+  sane-row f r k (by-faster {a = a} x y) w s = periodic f _ _ (w .2 .from) (written-fits (w .2 .upto)) (s a (w .0) .phase-fits)
   sane-row f r k (by-slower {a = a} x l) w s = periodic f _ _ (omega (arith, mul-le-mul (w .1 .from) (s a (w .0) .positive))) (l .period-fits) (l .phase-fits)
   sane-row f r k (by-later {a = a} x l) w s = periodic f _ _ (s a (w .0) .positive) (l .period-fits) (l .phase-fits)
-  sane-row f r k (by-head {a = a} x y) w s = periodic f _ _ (s a (w .0) .positive) (s a (w .0) .period-fits) (omega (arith, w .1))
+  sane-row f r k (by-head {a = a} x y) w s = periodic f _ _ (s a (w .0) .positive) (s a (w .0) .period-fits) (written-fits (w .1))
   sane-row f r k (by-tail {a = a} x l) w s = periodic f _ _ (s a (w .0) .positive) (l .period-fits) (l .phase-fits)
   sane-row f r k (by-sample {u = u} {a = a} {c = c} x l) w s =
       one-more f a c u 0 s (w .0) (w .1) (l .few) (first-snoc (clk a .conditions) _ (s a (w .0) .viewed) refl) (λ v. absurd (omega arith))

@@ -1,16 +1,21 @@
 -- What a rule that gives a clock has found. Assumes nothing.
 use mathlib.Core.Path.{_≡_, refl, subst}
 use Prim.Native.Nat.{ℕ, _+_, _*_, _%_, _≤_}
+use native.Mathlib.Omega.{arith}
 use mathlib.Core.Bool.{Bool, true, false, _&&_}
 use lib.ListN.{length}
 use lib.Dec.{eqb, leb}
 use borrow.Author.Tests.{eqb-true, leb-true, le-leb}
 use Rattle.table.specs.Answers.{Refusal, Result, good, refused, unless, clocksDiffer, beyondLimits, notPlain, badView}
-use Rattle.table.specs.Rows.{Row, Op, input, constant, combine, register, faster, slower, later, head, tail, sample, merge, unrated, view}
+use Rattle.table.specs.Rows.{Row, Op, input, constant, combine, register, faster, slower, later, head, tail, sample, merge, unrated, view, maxField}
 use Rattle.table.proofs.Tests.{and-left, and-right, and-both, good-inj, not-good, unless-good}
 use Rattle.checker.specs.Clocks.{Clock, every, plain, sameClock, under}
 use Rattle.checker.specs.Rules.{maxDerived, maxConditions, withinLimits, limited, multiple, viewFits, clockOf}
 use Rattle.checker.proofs.ClockLaws.{same-clock}
+
+-- a period or phase that is written is within the limits of derived ones
+pub written-fits : {n : ℕ} → n ≤ maxField → n ≤ maxDerived
+written-fits l = omega arith
 
 -- the limits, kept
 pub record Limited (k : Clock) : Type 0 where
