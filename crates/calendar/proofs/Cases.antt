@@ -1,4 +1,4 @@
--- The plans A to K and the views, computed. Assumes nothing.
+-- The plans A to K, the views and the longest clocks, computed. Assumes nothing.
 use mathlib.Core.Path.{refl}
 use Rattle.table.specs.Rows.{kinds, ranged, placed, fieldsOf, rowOf, badRegister}
 use Rattle.table.specs.Plain.{split, joined, rowsFrom, tableBy}

@@ -86,7 +86,7 @@ Free m words = (f : ℕ) → f < m → Samples (rowWords words f .kind) → ⊥
 abbrev pub Judged : ℕ → List ℕ → List ℕ → Type 0
 Judged m words clocks = Accepts m words clocks ⊎ (checkAnswer m words (length clocks) .number ≡ number clocksDiffer)
 
--- so many ticks show every difference of plain clocks: 8,191
+-- so many ticks show every difference of plain clocks: 131,071
 abbrev pub judgingTicks : ℕ
 judgingTicks = 2 * maxDerived + 1
 
@@ -97,7 +97,7 @@ pub record SharedCalendar : Type 0 where
       (m : ℕ) (words clocks : List ℕ) → Accepts m words clocks
       → (log : List ℕ) (ticks : ℕ) (marks values : List ℕ) → ticks ≤ maxTicks → Asked m words log ticks marks values
       → Ends m words log ticks marks values × OnCalendar m words clocks log ticks marks values
-  -- a table free of sampling, merging and views that the check answers with 0 or 21 is accepted exactly when its run of 8,191
+  -- a table free of sampling, merging and views that the check answers with 0 or 21 is accepted exactly when its run of 131,071
   -- ticks over any one log ends without a clash
   pub one-run-judges :
       (m : ℕ) (words clocks : List ℕ) → Free m words → Judged m words clocks

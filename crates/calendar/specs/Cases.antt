@@ -1,4 +1,4 @@
--- The paper's plans A to K, and views: what check and run come to, and the numbers that they should come to. Proved in proofs/Cases.
+-- The paper's plans A to K, views, and the longest clocks: what check and run come to, and the numbers that they should come to. Proved in proofs/Cases.
 use mathlib.Core.Path.{_≡_}
 use Prim.Native.Nat.{ℕ, _*_, _-_}
 use mathlib.Core.List.{List, [], _∷_, _++_, map}
@@ -78,6 +78,10 @@ planEach = row 0 1 0 0 ∷ row 0 1 0 0 ∷ row 13 1 0 0 ∷ row 17 1 0 1 ∷ row
 abbrev pub planUneven : List Words
 planUneven = row 0 1 0 0 ∷ row 0 2 0 0 ∷ row 17 1 0 3 ∷ []
 
+-- a slow recorder: an input (3855, 0), every 17th of it, and those from the second on, with the longest period and phase
+abbrev pub planSlow : List Words
+planSlow = row 0 3855 0 0 ∷ row 9 0 17 0 ∷ row 12 1 0 0 ∷ []
+
 abbrev pub cases : List Case
 cases =
     -- A
@@ -95,13 +99,13 @@ cases =
     ∷ refuses (row 0 11 0 0 ∷ row 8 0 2 5 ∷ []) 21 1
     -- F
     ∷ checked (row 0 65 0 0 ∷ row 9 0 63 0 ∷ []) 0 0 0 2 (plainly 65 0 ++ plainly 4095 0)
-    ∷ refuses (row 0 66 0 0 ∷ row 9 0 63 0 ∷ []) 22 1
+    ∷ checked (row 0 66 0 0 ∷ row 9 0 63 0 ∷ []) 0 0 0 2 (plainly 66 0 ++ plainly 4158 0)
     -- G
     ∷ checked (row 0 5 10 0 ∷ row 11 0 0 5 ∷ []) 0 0 0 2 (plainly 5 10 ++ plainly 5 5)
     ∷ refuses (row 0 5 9 0 ∷ row 11 0 0 5 ∷ []) 21 1
     -- H
     ∷ checked (row 0 1 0 0 ∷ row 10 0 4095 0 ∷ []) 0 0 0 2 (plainly 1 0 ++ plainly 1 4095)
-    ∷ refuses (row 0 1 1 0 ∷ row 10 0 4095 0 ∷ []) 22 1
+    ∷ checked (row 0 1 1 0 ∷ row 10 0 4095 0 ∷ []) 0 0 0 2 (plainly 1 1 ++ plainly 1 4096)
     -- I
     ∷ checked (planI ++ (row 15 1 2 3 ∷ [])) 0 0 0 5
     (plainly 4 0 ++ plainly 4 0 ++ underOne 4 0 3 0 ++ underOne 4 0 2 0 ++ plainly 4 0)
@@ -111,6 +115,11 @@ cases =
     -- K
     ∷ ran (row 0 2 0 0 ∷ row 7 7 0 0 ∷ []) (10 ∷ 11 ∷ 12 ∷ 13 ∷ 14 ∷ []) 5 0 0 0 5
     (1 ∷ 1 ∷ 0 ∷ 0 ∷ 1 ∷ 1 ∷ 0 ∷ 0 ∷ 1 ∷ 1 ∷ []) (10 ∷ 7 ∷ 0 ∷ 0 ∷ 12 ∷ 10 ∷ 0 ∷ 0 ∷ 14 ∷ 12 ∷ [])
+    -- the slow recorder; copies of it that do not fill its period; a period and a phase of 65,536
+    ∷ checked planSlow 0 0 0 3 (plainly 3855 0 ++ plainly 65535 0 ++ plainly 65535 65535)
+    ∷ refuses (planSlow ++ (row 8 2 1 1 ∷ [])) 21 3
+    ∷ refuses (row 0 2048 0 0 ∷ row 9 0 32 0 ∷ []) 22 1
+    ∷ refuses (row 0 3855 1 0 ∷ row 9 0 17 0 ∷ row 12 1 0 0 ∷ []) 22 2
     -- the mode switch, and when over a clock with a viewed condition: its own is direct, and last
     ∷ checked (planSwitch ++ (row 13 2 2 0 ∷ [])) 0 0 0 5
     (plainly 15 0 ++ plainly 10 0 ++ underOne 10 0 1 30 ++ underOne 10 0 0 30 ++ (10 ∷ 0 ∷ 2 ∷ 1 ∷ 5 ∷ 0 ∷ 0 ∷ 30 ∷ 0 ∷ 0 ∷ 0 ∷ []))

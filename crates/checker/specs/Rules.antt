@@ -12,7 +12,7 @@ use Rattle.checker.specs.Clocks.{Condition, Clock, every, plain, sameClo
 
 -- the limits of what a rule derives
 abbrev pub maxDerived : ℕ
-maxDerived = 4095
+maxDerived = 65535
 
 abbrev pub maxConditions : ℕ
 maxConditions = 4

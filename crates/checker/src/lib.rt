@@ -45,7 +45,7 @@ enum Verdict {
 }
 
 // The largest period or phase of a clock, its most conditions, how many words it has, and the clocks of the most flows.
-pub const MAX_DERIVED: u64 = 4095;
+pub const MAX_DERIVED: u64 = 65535;
 
 pub const MAX_CONDITIONS: u32 = 4;
 

@@ -75,7 +75,7 @@ fn refusals() {
     shown(b"accepted\n", 2, &words[..8]);
     let conditional = [0, 1, 0, 0, 13, 0, 0, 0, 12, 1, 0, 0];
     shown(b"not plain\n", 3, &conditional);
-    let beyond = [0, 4095, 0, 0, 9, 0, 2, 0, 8, 0, 2, 2];
+    let beyond = [0, 4095, 0, 0, 9, 0, 17, 0, 8, 0, 2, 2];
     shown(b"beyond the limits\n", 3, &beyond);
 }
 

@@ -24,7 +24,7 @@ use Rattle.checker.proofs.Agree.{few}
 use Rattle.checker.proofs.WordLaws.{viewOf, clock-words}
 use Rattle.lister.specs.declared.Listed.the-variants.{Bytes, NoRoom}
 use Rattle.lister.specs.Listing.{letterC, sign, viewText, field, okay, conditionText, conditionsFrom, conditionsText, lineText, linesFrom, okText, refusalText}
-use Rattle.lister.specs.Listing.{checked, listingOf, longestView, longestLine, longest, listing, parts, listingAnswer, textAfter}
+use Rattle.lister.specs.Listing.{checked, listingOf, longestTime, longestView, longestLine, longest, listing, parts, listingAnswer, textAfter}
 use Rattle.lister.specs.Private.Words.{wordText, wordsText, countedText, clockText, clocksText, tableText}
 use Rattle.lister.proofs.Joined.{checked-clocks}
 
@@ -111,8 +111,8 @@ line-length f k l w =
     omega (
       arith,
       field-length f 2 (digits-fit 1 f (omega arith)),
-      field-length (k .period) 4 (digits-fit 3 (k .period) (omega (arith, fit .period-fits))),
-      field-length (k .phase) 4 (digits-fit 3 (k .phase) (omega (arith, fit .phase-fits))),
+      field-length (k .period) longestTime (digits-fit 4 (k .period) (omega (arith, fit .period-fits))),
+      field-length (k .phase) longestTime (digits-fit 4 (k .phase) (omega (arith, fit .phase-fits))),
       conditions-short (k .conditions) (few k w) (w .1) (w .2),
       length-append (field f) (field (k .period) ++ (field (k .phase) ++ t)),
       length-append (field (k .period)) (field (k .phase) ++ t),

@@ -87,13 +87,16 @@ checked packed = then (unpacked packed) λ ws. checking (length ws) (joined ws) 
 unfoldable pub listingOf : List ℕ → List ℕ
 listingOf packed = resultText (checked packed)
 
--- Room for every listing: `ok 64` and its line feed, and a line for each flow. Of a clock's conditions only the first can be viewed, so the
--- longest line is one such as `63 4095 4095 c10+@4095c11-c12+c13-` and its line feed.
+-- Room for every listing: `ok 64` and its line feed, and a line for each flow. Of a clock's conditions only the first can be viewed, so a line has
+-- no more bytes than `63 65535 65535 c10+@4095c11-c12+c13-` and its line feed: the longest period or phase, and the longest view period.
+abbrev pub longestTime : ℕ
+longestTime = 5
+
 abbrev pub longestView : ℕ
 longestView = 5
 
 abbrev pub longestLine : ℕ
-longestLine = 14 + 4 * maxConditions + longestView
+longestLine = 6 + 2 * longestTime + 4 * maxConditions + longestView
 
 abbrev pub longest : ℕ
 longest = 6 + longestLine * maxFlows

@@ -23,10 +23,14 @@ const MAX_FLOWS: usize = table::MAX_FLOWS as usize;
 
 const MAX_CONDITIONS: usize = checker::MAX_CONDITIONS as usize;
 
-// Room for every listing: a first line of six bytes, and a line for each flow, in which one condition can be viewed.
+// Room for every listing: a first line of six bytes, and a line for each flow, with period, phase and conditions, of which one can be viewed.
+const LONGEST_TIME: usize = 5;
+
 const LONGEST_VIEW: usize = 5;
 
-pub const LONGEST: usize = 6 + (14 + 4 * MAX_CONDITIONS + LONGEST_VIEW) * MAX_FLOWS;
+const LONGEST_LINE: usize = 6 + 2 * LONGEST_TIME + 4 * MAX_CONDITIONS + LONGEST_VIEW;
+
+pub const LONGEST: usize = 6 + LONGEST_LINE * MAX_FLOWS;
 
 // What the listing answers: how many bytes it wrote, or that the text has too little room.
 pub enum Listed {

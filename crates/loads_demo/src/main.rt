@@ -45,10 +45,11 @@ fn order() {
     shown(b"order\n", 5, &words, &times, &mut [b'.'; 6 * LINE]);
 }
 
-// The largest period and phase, the largest load, and 0 to 3 conditions.
+// The longest period and phase, the largest load, and 0 to 3 conditions.
 fn widest() {
-    let words = [0, 4095, 4095, 0];
-    shown(b"one flow\n", 1, &words, &[65535], &mut [b'.'; 2 * LINE]);
+    let words = [0, 3855, 0, 0, 9, 0, 17, 0, 12, 1, 0, 0];
+    let times = [65535, 65534, 1];
+    shown(b"slow\n", 3, &words, &times, &mut [b'.'; 4 * LINE]);
     let words = [0, 1, 0, 0, 13, 0, 0, 0, 14, 1, 1, 0, 13, 2, 2, 0];
     let times = [65535, 65534, 0, 1];
     shown(b"conditions\n", 4, &words, &times, &mut [b'.'; 5 * LINE]);

@@ -11,7 +11,8 @@ ghost use Rattle.table.specs.Plain.{wordsOf};
 ghost use Rattle.rates.specs.Fillings.{filledRow};
 ghost use Rattle.rates.specs.Private.Spread.{given, rise, fall, rowMade, span, word, rateOf, begun};
 
-const SPAN: u64 = 65536;
+// Periods and phases are below this.
+const SPAN: u64 = MAX_DERIVED + 1;
 
 // The period of a rate.
 fn period_of(x: u64) -> u64

@@ -16,7 +16,7 @@ use Rattle.semantics.specs.Windows.{workedOut, Windowed, tallySize, Tallied}
 
 -- the ticks of the window, and the most ticks of a long run
 abbrev pub windowTicks : ℕ
-windowTicks = 8192
+windowTicks = 131072
 
 abbrev pub maxLongTicks : ℕ
 maxLongTicks = 4194303

@@ -28,12 +28,12 @@ use crate::ticks::Ticked;
 use table::Answer;
 use table::MAX_FLOWS;
 
-const MOST_TICKS: u32 = 65535;
+const MOST_TICKS: u32 = 131071;
 
 const MOST_LONG_TICKS: u32 = 4194303;
 
 // The ticks of a long run's window, a power of 2.
-const WINDOW: u32 = 8192;
+const WINDOW: u32 = 131072;
 
 // The mask that leaves every tick as it is: a run's that has room for all.
 const WHOLE: u32 = 4294967295;

@@ -7,7 +7,7 @@ use table::Answer;
 const ROOM: usize = 36;
 
 // Room for the window of two flows, and a cell more.
-const WINDOW: usize = 2 * 8192 + 1;
+const WINDOW: usize = 2 * 131072 + 1;
 
 // Some text, and a number after it.
 fn part(before: &[u8], n: u32) {
@@ -69,22 +69,30 @@ fn plan_k() {
     shown(b"K\n", 2, &words, &log, 5, 0, 11);
 }
 
-// Plan K for a tick more than the window has: tick 8,192 stands where tick 0 stood.
+// Plan K for a tick more than the window has: tick 131,072 stands where tick 0 stood.
 fn long_k() {
     let words = [0, 2, 0, 0, 7, 7, 0, 0];
-    let mut log = [0u32; 8193];
+    let mut log = [0u32; 131073];
     log[0] = 3;
-    log[8190] = 4;
-    log[8192] = 5;
+    log[131070] = 4;
+    log[131072] = 5;
     let mut marks = [9u8; WINDOW];
     let mut values = [9u32; WINDOW];
     let mut tallies = [9u32; 5];
-    let a = runner::long_run(2, &words, &log, 8193, &mut marks, &mut values, &mut tallies);
-    io::write_all(STDOUT_FILENO, b"K, long, 8193 ticks\n");
+    let a = runner::long_run(
+        2,
+        &words,
+        &log,
+        131073,
+        &mut marks,
+        &mut values,
+        &mut tallies,
+    );
+    io::write_all(STDOUT_FILENO, b"K, long, 131073 ticks\n");
     answer(a);
     io::write_all(STDOUT_FILENO, b"\n");
     cells(&marks, &values, 0, 6);
-    cells(&marks, &values, 16380, 16385);
+    cells(&marks, &values, 262140, 262145);
     part(b"\n ", tallies[0]);
     part(b" ", tallies[1]);
     part(b" ", tallies[2]);

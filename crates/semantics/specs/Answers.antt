@@ -12,7 +12,7 @@ use Rattle.semantics.specs.Cells.{Cell, mark, value}
 use Rattle.semantics.specs.Runs.{inputs, Ran, done, clashed, run, trace}
 
 abbrev pub maxTicks : ℕ
-maxTicks = 65535
+maxTicks = 131071
 
 -- what a run comes to over traces of so many marks and values
 unfoldable pub running : ℕ → List ℕ → List ℕ → ℕ → ℕ → ℕ → Result Ran

@@ -61,9 +61,9 @@ rowMade w = decode (w .kind) (w .one) (w .two) (w .three)
 abbrev pub written : Words → Rate
 written w = cond (eqb (w .kind) 0) (given true (w .one) (w .two)) (given true (w .two) (w .three))
 
--- A rate as one word, not 0; 0 stands for a rate that is not known yet.
+-- A rate as one word, not 0; 0 stands for a rate that is not known yet. Periods and phases are below the span.
 abbrev pub span : ℕ
-span = 65536
+span = maxDerived + 1
 
 abbrev pub word : Rate → ℕ
 word q = 1 + (span * q .period + q .phase)

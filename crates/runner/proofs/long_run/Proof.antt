@@ -48,7 +48,7 @@ replay-requires c κs =
       clocked then1 .0,
       omega arith,
       window-fits windowTicks (a .count) (a .ticks) (windowTicks * a .count) (omega arith) (omega arith),
-      record { width = 13; is = refl },
+      record { width = 17; is = refl },
       omega arith,
       omega arith,
       close-by (a .count) (a .words .now) (a .log .now) (clocked then1 .0) (clocked then1 .1),
