@@ -1,7 +1,7 @@
 //! The check: a clock for each flow.
 
 use crate::plan::{rows, Row};
-use crate::{Answer, LIMIT, MOST_FLOWS};
+use crate::{Answer, MOST_DERIVED, MOST_FLOWS};
 
 /// The most conditions a clock has.
 const MOST_CONDITIONS: usize = 4;
@@ -98,10 +98,10 @@ fn clock(&[kind, x, y, z]: &Row, clocks: &[Clock; MOST_FLOWS]) -> Result<Clock, 
         7 => Ok(of(y)),
         8..=12 if of(x).depth > 0 => Err(23),
         8 if of(x).period == y * z => Ok(Clock::plain(z, of(x).phase)),
-        9 if of(x).period * y <= LIMIT => Ok(Clock::plain(of(x).period * y, of(x).phase)),
-        10 if of(x).phase + y <= LIMIT => Ok(Clock::plain(of(x).period, of(x).phase + y)),
+        9 if of(x).period * y <= MOST_DERIVED => Ok(Clock::plain(of(x).period * y, of(x).phase)),
+        10 if of(x).phase + y <= MOST_DERIVED => Ok(Clock::plain(of(x).period, of(x).phase + y)),
         11 if of(x).phase == z + of(x).period => Ok(Clock::plain(of(x).period, z)),
-        12 if of(x).phase + of(x).period <= LIMIT => Ok(Clock::plain(of(x).period, of(x).phase + of(x).period)),
+        12 if of(x).phase + of(x).period <= MOST_DERIVED => Ok(Clock::plain(of(x).period, of(x).phase + of(x).period)),
         9 | 10 | 12 => Err(22),
         13 | 14 if of(x) == of(y) => of(x).plus(y, kind == 13).ok_or(22),
         15 if of(x).plus(x, true) == Some(of(y)) && of(x).plus(x, false) == Some(of(z)) => Ok(of(x)),

@@ -7,7 +7,7 @@
 use crate::check::{derive, Clock};
 use crate::least::{fields, members, Set};
 use crate::plan::{unfilled, Row, UNRATED};
-use crate::{Answer, LIMIT, MOST_FLOWS};
+use crate::{Answer, MOST_DERIVED, MOST_FLOWS, MOST_WRITTEN};
 
 /// A period and a phase.
 type Rate = (u32, u32);
@@ -32,6 +32,9 @@ pub fn fill_rates(plan_count: u32, words: &[u32], filled: &mut [u32]) -> Answer 
             return Answer::at(21, 0);
         }
         for (row, &(period, phase)) in plan.iter_mut().zip(&rates).filter(|(row, _)| row[0] == UNRATED) {
+            if period > MOST_WRITTEN || phase > MOST_WRITTEN {
+                return Answer::at(21, 0);
+            }
             *row = [0, period, phase, 0];
         }
     }
@@ -121,5 +124,5 @@ fn backward(&[kind, _, y, z]: &Row, (period, phase): Rate) -> Option<Rate> {
 
 /// A rate that a clock may have. Periods are positive as they come.
 fn within(rate: Rate) -> Option<Rate> {
-    (rate.0 <= LIMIT && rate.1 <= LIMIT).then_some(rate)
+    (rate.0 <= MOST_DERIVED && rate.1 <= MOST_DERIVED).then_some(rate)
 }

@@ -59,7 +59,8 @@ impl Answer {
 const MOST_FLOWS: usize = 64;
 
 /// The ticks of a long run's window.
-const WINDOW: u32 = 8_192;
+const WINDOW: u32 = 131_072;
 
-/// The greatest period and phase.
-const LIMIT: u32 = 4095;
+/// The greatest period and phase of a field, and of a clock.
+const MOST_WRITTEN: u32 = 4095;
+const MOST_DERIVED: u32 = 65_535;

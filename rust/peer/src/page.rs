@@ -62,10 +62,10 @@ fn put_lines(clocks: &[Clock], times: &[u16], lines: &mut [Line]) {
     put(last, 25, total);
 }
 
-/// The place of a flow among the others: period, phase and flow side by side, the last two in 12 and 6 bits.
+/// The place of a flow among the others: period, phase and flow side by side, the last two in 16 and 6 bits.
 #[inline]
-fn place(flow: usize, clock: &Clock) -> u32 {
-    clock.period << 18 | clock.phase << 6 | flow as u32
+fn place(flow: usize, clock: &Clock) -> u64 {
+    u64::from(clock.period) << 22 | u64::from(clock.phase) << 6 | flow as u64
 }
 
 /// 1000 times the worst time divided by the period, the half going to the even number.

@@ -1,10 +1,10 @@
 //! The tests that every plain table has to pass: numbers 11, 13, 14 and 15.
 
 use crate::check::{derive, Clock};
-use crate::{Answer, LIMIT, MOST_FLOWS, WINDOW};
+use crate::{Answer, MOST_FLOWS, MOST_WRITTEN, WINDOW};
 
 /// The most ticks of a run, and of a long run.
-const MOST_TICKS: u32 = 65_535;
+const MOST_TICKS: u32 = 131_071;
 const MOST_LONG_TICKS: u32 = 4_194_303;
 
 /// A row in plain form: kind and three fields.
@@ -53,8 +53,8 @@ fn tested<const MAY_LACK: bool>(plan_count: u32, words: &[u32]) -> Result<&[Row]
 pub fn test_row<const MAY_LACK: bool>(flow: usize, flows: usize, &[kind, x, y, z]: &Row) -> Result<(), Answer> {
     let is_flow = |word: u32| word < MOST_FLOWS as u32;
     let is_copies = |word: u32| (1..=63).contains(&word);
-    let is_period = |word: u32| (1..=LIMIT).contains(&word);
-    let is_phase = |word: u32| word <= LIMIT;
+    let is_period = |word: u32| (1..=MOST_WRITTEN).contains(&word);
+    let is_phase = |word: u32| word <= MOST_WRITTEN;
     let lower = |word: u32| (word as usize) < flow;
     // In range, and then the operands lower.
     let (fits, known) = match kind {

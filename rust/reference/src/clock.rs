@@ -45,9 +45,12 @@ impl Clock {
     }
 }
 
-/// A derived period or phase above 4095, or a fifth condition, is beyond the limits.
+/// The greatest derived period and phase.
+pub const DERIVED: u32 = 65_535;
+
+/// A derived period or phase above 65,535, or a fifth condition, is beyond the limits.
 fn within_limits(clock: Clock) -> Result<Clock, Wrong> {
-    if clock.period > 4095 || clock.phase > 4095 || clock.conditions.len() > 4 {
+    if clock.period > DERIVED || clock.phase > DERIVED || clock.conditions.len() > 4 {
         return Err(BEYOND);
     }
     Ok(clock)

@@ -1,6 +1,7 @@
 //! Inputs with no rate written: the filling that the check accepts, looked for among all fillings.
 
 use crate::check::clocks_of;
+use crate::clock::DERIVED;
 use crate::rows::{needed, row, table, test_table, Known, Row, UNRATED};
 use crate::{answer, refuse, refuse_at, success, Answer, Refused};
 
@@ -16,8 +17,9 @@ pub struct Limits {
     pub phase: u32,
 }
 
-/// The limits of fields that are written.
-const WRITTEN: Limits = Limits { period: 4095, phase: 4095 };
+/// The limits of the rates that clocks have. Those of fields that are written are narrower, and are tested with the
+/// filled table.
+const CLOCKS: Limits = Limits { period: DERIVED, phase: DERIVED };
 
 impl Limits {
     fn periods(self) -> impl Iterator<Item = u32> {
@@ -125,7 +127,7 @@ fn accepted(words: &[u32], rates: &[Vec<Rate>]) -> Vec<Vec<u32>> {
 /// An accepted filling gives each flow a clock within the limits, and so a rate; a rated row's is the one that is
 /// written. Conditions aside, a row's rule gives the result's rate from that of any flow that the row joins with it. So a
 /// flow that a row joins with another whose rates are known has a rate to which the rule leads from one of these, or one
-/// from which it leads to one of these. The latter are found by trying every rate.
+/// from which it leads to one of these. The latter are found by trying rates.
 fn possible(words: &[u32]) -> Vec<Vec<Rate>> {
     let mut rates: Vec<Option<Vec<Rate>>> = words.chunks(4).map(|row| written(row).map(|rate| vec![rate])).collect();
     while rates.contains(&None) {
@@ -145,15 +147,19 @@ fn possible(words: &[u32]) -> Vec<Vec<Rate>> {
 /// The rates of a row's result, those of a flow that the row joins with it being known.
 fn led_to(row: &Row, known: &[Rate]) -> Vec<Rate> {
     let result = |&(n, p): &Rate| Some((result_period(row, n)?, result_phase(row, n, p)?));
-    known.iter().filter_map(result).filter(|&rate| WRITTEN.have(rate)).collect()
+    known.iter().filter_map(result).filter(|&rate| CLOCKS.have(rate)).collect()
 }
 
-/// The rates of a flow that a row joins with its result, those of the result being known.
+/// The rates of a flow that a row joins with its result, those of the result being known. Longer or later ones need not be
+/// tried: faster alone gives a shorter period, that of k × gap, and head alone an earlier phase, by one period.
 fn leading_to(row: &Row, known: &[Rate]) -> Vec<Rate> {
     let mut rates = Vec::new();
     for &(period, phase) in known {
-        for n in WRITTEN.periods().filter(|&n| result_period(row, n) == Some(period)) {
-            rates.extend(WRITTEN.phases().filter(|&p| result_phase(row, n, p) == Some(phase)).map(|p| (n, p)));
+        let longest = if let Row::Faster { k, gap, .. } = *row { k * gap } else { period };
+        let periods = CLOCKS.periods().take_while(|&n| n <= longest);
+        for n in periods.filter(|&n| result_period(row, n) == Some(period)) {
+            let phases = CLOCKS.phases().take_while(|&p| p <= phase + n);
+            rates.extend(phases.filter(|&p| result_phase(row, n, p) == Some(phase)).map(|p| (n, p)));
         }
     }
     rates

@@ -2,7 +2,7 @@
 //! filled in, each rule one function.
 //!
 //! Nothing here is quick. Packed tables are read and written bit by bit, and the run keeps no state: it looks
-//! through the history of the trace for everything it needs. The least part is looked for among all sets of flows, and
+//! into the history of the trace for everything it needs. The least part is looked for among all sets of flows, and
 //! rates among all fillings within given limits. It is what the other implementations are held against.
 
 mod bits;

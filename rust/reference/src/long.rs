@@ -7,7 +7,7 @@ use crate::run::{put, run_ticks, test_ticks_and_log};
 use crate::{answer, refuse, success, Answer};
 
 /// The ticks of a window.
-const WINDOW: usize = 8_192;
+const WINDOW: usize = 131_072;
 
 /// Checks a plain table and runs it over a log for up to 4,194,303 ticks. The count of the answer is that of the ticks.
 pub fn long_run(
@@ -27,7 +27,7 @@ pub fn long_run(
             return refuse(35);
         }
         let (history, ended) = run_ticks(&rows, log, ticks);
-        // Tick t at place t modulo 8,192: the last cell of a place stays.
+        // Tick t at place t modulo 131,072: the last cell of a place stays.
         for (tick, flow, cell) in history.cells() {
             put(cell, tick % WINDOW * rows.len() + flow, marks, values);
         }

@@ -10,10 +10,32 @@ pub struct Clash;
 
 /// The cells worked out so far, tick after tick; the last tick may be incomplete.
 pub struct History {
-    pub ticks: Vec<Vec<Cell>>,
+    ticks: Vec<Vec<Cell>>,
+    /// The ticks at which each flow was present, in order.
+    presences: Vec<Vec<usize>>,
 }
 
 impl History {
+    /// That of so many flows before their first tick.
+    pub fn new(flows: usize) -> Self {
+        History { ticks: Vec::new(), presences: vec![Vec::new(); flows] }
+    }
+
+    /// Begins a tick.
+    pub fn begin_tick(&mut self) {
+        self.ticks.push(Vec::new());
+    }
+
+    /// Adds the cell of the next flow.
+    pub fn push(&mut self, cell: Cell) {
+        let tick = self.ticks.len() - 1;
+        let flow = self.ticks[tick].len();
+        if cell.is_some() {
+            self.presences[flow].push(tick);
+        }
+        self.ticks[tick].push(cell);
+    }
+
     /// The cell of a flow at a tick.
     pub fn cell(&self, a: usize, t: usize) -> Cell {
         self.ticks[t][a]
@@ -31,18 +53,19 @@ impl History {
     }
 
     /// The ticks before t at which a flow was present, in order.
-    fn earlier_presences(&self, a: usize, t: usize) -> impl DoubleEndedIterator<Item = usize> + '_ {
-        (0..t).filter(move |&earlier| self.present(a, earlier))
+    fn earlier_presences(&self, a: usize, t: usize) -> &[usize] {
+        let until = self.presences[a].partition_point(|&tick| tick < t);
+        &self.presences[a][..until]
     }
 
     /// The tick of a flow's first presence, if it has begun by tick t, t included.
     fn first_presence(&self, a: usize, t: usize) -> Option<usize> {
-        (0..=t).find(|&tick| self.present(a, tick))
+        self.presences[a].first().copied().filter(|&first| first <= t)
     }
 
     /// The tick of a flow's latest earlier presence.
     fn latest_earlier_presence(&self, a: usize, t: usize) -> Option<usize> {
-        self.earlier_presences(a, t).next_back()
+        self.earlier_presences(a, t).last().copied()
     }
 }
 
@@ -122,7 +145,7 @@ fn faster(history: &History, a: usize, k: usize, gap: usize, t: usize) -> Result
 
 /// Presences number 0, k, 2k, .. of a.
 fn slower(history: &History, a: usize, k: usize, t: usize) -> Cell {
-    let number = history.earlier_presences(a, t).count();
+    let number = history.earlier_presences(a, t).len();
     if number.is_multiple_of(k) {
         history.cell(a, t)
     } else {
@@ -145,8 +168,7 @@ fn head(history: &History, a: usize, value: u32, s: usize, t: usize) -> Result<C
     if t <= s && history.present(a, t) {
         return Err(Clash);
     }
-    let earlier: Vec<usize> = history.earlier_presences(a, t).collect();
-    if let (true, [t1]) = (history.present(a, t), &earlier[..]) {
+    if let (true, [t1]) = (history.present(a, t), history.earlier_presences(a, t)) {
         if t1 - s != t - t1 {
             return Err(Clash);
         }
@@ -162,7 +184,7 @@ fn head(history: &History, a: usize, value: u32, s: usize, t: usize) -> Result<C
 
 /// a without its first presence.
 fn tail(history: &History, a: usize, t: usize) -> Cell {
-    if history.earlier_presences(a, t).count() == 0 {
+    if history.earlier_presences(a, t).is_empty() {
         None
     } else {
         history.cell(a, t)

@@ -7,7 +7,7 @@ use crate::{answer, refuse, success, Answer, Refused};
 /// Runs a plain table over a log for some ticks. The count of the answer is that of the ticks.
 pub fn run(plan_count: u32, words: &[u32], log: &[u32], ticks: u32, marks: &mut [u8], values: &mut [u32]) -> Answer {
     answer(table(plan_count, words).and_then(|rows| {
-        let ticks = test_ticks_and_log(&rows, log, ticks, 65_535)?;
+        let ticks = test_ticks_and_log(&rows, log, ticks, 131_071)?;
         let cells = ticks * rows.len();
         if marks.len() < cells || values.len() < cells {
             return refuse(33);
@@ -46,7 +46,7 @@ pub fn put(cell: Cell, place: usize, marks: &mut [u8], values: &mut [u32]) {
 
 /// All cells that are worked out in some ticks, and the clash that ended them if there was one.
 pub fn run_ticks(rows: &[Row], log: &[u32], ticks: usize) -> (History, Refused<()>) {
-    let mut history = History { ticks: Vec::new() };
+    let mut history = History::new(rows.len());
     let ended = (0..ticks).try_for_each(|tick| run_tick(rows, log, tick, &mut history));
     (history, ended)
 }
@@ -58,14 +58,14 @@ fn clash<T>(tick: usize, flow: usize) -> Refused<T> {
 
 /// One tick: every flow in ascending order, then the registers.
 fn run_tick(rows: &[Row], log: &[u32], tick: usize, history: &mut History) -> Refused<()> {
-    history.ticks.push(Vec::new());
+    history.begin_tick();
     for (flow, row) in rows.iter().enumerate() {
         let logged = match row {
             Row::Input { .. } => log[tick * inputs(rows) + inputs(&rows[..flow])],
             _ => 0,
         };
         let Ok(cell) = work_out(row, tick, logged, history) else { return clash(tick, flow) };
-        history.ticks[tick].push(cell);
+        history.push(cell);
     }
     match lowest_register_in_clash(rows, tick, history) {
         Some(register) => clash(tick, register),
