@@ -46,13 +46,16 @@
 extern "C" {
 #endif
 
+/* The greatest period and phase of a clock. Those that are written, in rows, are at most 4095. */
+#define BAARQIDHO_MAX_DERIVED 65535
+
 /* The most flows of a table, and the most ticks of a run and of a long run. */
 #define BAARQIDHO_MAX_FLOWS 64
-#define BAARQIDHO_MAX_TICKS 65535
+#define BAARQIDHO_MAX_TICKS 131071
 #define BAARQIDHO_MAX_LONG_TICKS 4194303
 
 /* The ticks of a long run's window. */
-#define BAARQIDHO_WINDOW_TICKS 8192
+#define BAARQIDHO_WINDOW_TICKS 131072
 
 /* The words of a row in plain form, of a clock, and of a flow's tally. */
 #define BAARQIDHO_ROW_WORDS 4
@@ -63,7 +66,7 @@ extern "C" {
 #define BAARQIDHO_PACKED_MAX 489
 
 /* The bytes that a text buffer needs before any listing is made. */
-#define BAARQIDHO_LISTING_MAX 2246
+#define BAARQIDHO_LISTING_MAX 2374
 
 /* The bytes of a load page's line, its line feed too, and of the longest page. */
 #define BAARQIDHO_PAGE_LINE 26
@@ -80,13 +83,13 @@ enum baarqidho_number {
     BAARQIDHO_BAD_OPERAND = 15,        /* operand not a lower flow, or source not in the table; the row in flow */
     BAARQIDHO_NOT_THE_END = 16,        /* filling bit not 0, or a further byte */
     BAARQIDHO_CLOCKS_DIFFER = 21,      /* clocks not as the rules need; names the flow, 0 where rates are filled in */
-    BAARQIDHO_BEYOND_LIMITS = 22,      /* derived period or phase above 4095, or a fifth condition; names the flow */
+    BAARQIDHO_BEYOND_LIMITS = 22,      /* derived period or phase above 65,535, or a fifth condition; names flow */
     BAARQIDHO_NOT_PLAIN = 23,          /* kinds 8 to 12, 17 and 18 over a clock with conditions; names the flow */
-    BAARQIDHO_TOO_MANY_TICKS = 31,     /* more than 65,535 ticks, or 4,194,303 in a long run */
+    BAARQIDHO_TOO_MANY_TICKS = 31,     /* more than 131,071 ticks, or 4,194,303 in a long run */
     BAARQIDHO_BAD_LOG_LENGTH = 32,     /* log length not ticks x inputs */
     BAARQIDHO_TRACE_TOO_SHORT = 33,    /* mark or value trace below ticks x flows */
     BAARQIDHO_CLASH = 34,              /* operands do not fit together; names tick and flow */
-    BAARQIDHO_WINDOW_TOO_SHORT = 35,   /* marks or values below 8,192 x flows, or tallies below 2 x flows */
+    BAARQIDHO_WINDOW_TOO_SHORT = 35,   /* marks or values below 131,072 x flows, or tallies below 2 x flows */
     BAARQIDHO_BAD_TIMES_LENGTH = 36,   /* worst times not one a flow */
     BAARQIDHO_PAGE_TOO_SHORT = 37,     /* page below 26 x (flows + 1) bytes */
     BAARQIDHO_NOT_DIFFERING = 38,      /* the check does not answer the plan with 21 */
@@ -137,8 +140,8 @@ uint32_t baarqidho_write(uint32_t plan_count, const uint32_t *words, size_t word
  *   11, then row by row 13, 14, 15, as in baarqidho_write, but 13 for kind 16 too
  *   10  `clocks` has fewer than 11 words a flow
  *   row by row, the flow named: 23 kinds 8 to 12 over a clock with conditions, kinds 17 and 18 where a or c has one,
- *       21 the clocks are not as the rules need, 22 a derived period or phase above 4095 or a fifth condition, 40 kinds
- *       17 and 18 where w is not a multiple of both periods or c's phase is above a's
+ *       21 the clocks are not as the rules need, 22 a derived period or phase above BAARQIDHO_MAX_DERIVED or a fifth
+ *       condition, 40 kinds 17 and 18 where w is not a multiple of both periods or c's phase is above a's
  *   21  a register whose source has another clock than its beat, lowest register first, the register named
  */
 uint32_t baarqidho_check(uint32_t plan_count, const uint32_t *words, size_t words_len,
@@ -157,7 +160,7 @@ uint32_t baarqidho_check(uint32_t plan_count, const uint32_t *words, size_t word
  * Success: count is `ticks`; exactly ticks x plan_count cells are written in each trace, later ones are left as they
  * were. Refusals, in this order:
  *   11, then row by row 13, 14, 15, as in baarqidho_check
- *   31  more than 65,535 ticks
+ *   31  more than BAARQIDHO_MAX_TICKS ticks
  *   32  log_len is not ticks x the number of input rows
  *   33  marks_len or values_len is below ticks x plan_count
  *   34  a clash: tick and flow are named
@@ -182,7 +185,7 @@ uint32_t baarqidho_run(uint32_t plan_count, const uint32_t *words, size_t words_
  * tally is written, 0 and 0 after no ticks. Refusals, in this order:
  *   11, then row by row 13, 14, 15, as in baarqidho_check
  *   row by row 23, 21, 22, 40, then 21 of a register's source, as in baarqidho_check
- *   31  more than 4,194,303 ticks
+ *   31  more than BAARQIDHO_MAX_LONG_TICKS ticks
  *   32  log_len is not ticks x the number of input rows
  *   35  marks_len or values_len is below BAARQIDHO_WINDOW_TICKS x plan_count, however few the ticks, or tallies_len is
  *       below BAARQIDHO_TALLY_WORDS x plan_count

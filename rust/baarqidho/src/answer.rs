@@ -98,7 +98,8 @@ pub enum Refusal {
         /// The flow whose rule is broken; 0 where rates are filled in, as no flow is named then.
         flow: u32,
     },
-    /// 22: a derived period or phase above 4095, or more than [`MAX_CONDITIONS`](crate::MAX_CONDITIONS) conditions.
+    /// 22: a derived period or phase above [`MAX_DERIVED`](crate::MAX_DERIVED), or more than
+    /// [`MAX_CONDITIONS`](crate::MAX_CONDITIONS) conditions.
     BeyondLimits {
         /// The flow that would have that clock.
         flow: u32,
@@ -188,9 +189,9 @@ impl Refusal {
             Refusal::BadOperand { .. } => "an operand is not a lower flow, or a source is not in the table",
             Refusal::NotTheEnd => "a filling bit is not 0, or a further byte follows",
             Refusal::ClocksDiffer { .. } => "the clocks are not as the rules need",
-            Refusal::BeyondLimits { .. } => "a period or phase above 4095, or a fifth condition",
+            Refusal::BeyondLimits { .. } => "a period or phase above 65,535, or a fifth condition",
             Refusal::NotPlain { .. } => "this kind needs clocks without conditions",
-            Refusal::TooManyTicks => "more than 65,535 ticks, or 4,194,303 in a long run",
+            Refusal::TooManyTicks => "more than 131,071 ticks, or 4,194,303 in a long run",
             Refusal::BadLogLength => "the log has not one word per tick and input",
             Refusal::TraceTooShort => "a trace has less than one cell per tick and flow",
             Refusal::Clash { .. } => "its operands do not fit together: clash",

@@ -65,14 +65,17 @@ pub const MAX_CONDITIONS: usize = 4;
 /// The words of a clock: period, phase, how many conditions, the conditions, and their view periods.
 pub const CLOCK_WORDS: usize = 3 + 2 * MAX_CONDITIONS;
 
+/// The greatest period and phase of a clock. Those that are written, in a [`Row`], are at most 4095.
+pub const MAX_DERIVED: u32 = 65_535;
+
 /// The most ticks of a run.
-pub const MAX_TICKS: u32 = 65_535;
+pub const MAX_TICKS: u32 = 131_071;
 
 /// The most ticks of a long run.
 pub const MAX_LONG_TICKS: u32 = 4_194_303;
 
 /// The ticks of a long run's window.
-pub const WINDOW_TICKS: usize = 8_192;
+pub const WINDOW_TICKS: usize = 131_072;
 
 /// The words of a flow's tally in a long run: how many values it had, and its last one.
 pub const TALLY_WORDS: usize = 2;

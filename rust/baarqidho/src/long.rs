@@ -10,13 +10,13 @@ use crate::{TALLY_WORDS, WINDOW_TICKS};
 ///
 /// // A reading every second tick from tick 0 on, and each of them 4095 ticks later.
 /// let plan = Plan::from_rows([Row::Input { period: 2, phase: 0 }, Row::Later { a: 0, d: 4095 }]);
-/// let log: Vec<u32> = (0..100_000).collect();
-/// let run = plan.long_run(&log, 100_000)?;
-/// assert_eq!((run.ticks(), run.first_tick()), (100_000, 91_808));
-/// assert_eq!((run.count(0), run.last(0)), (50_000, Some(99_998)));
-/// assert_eq!((run.count(1), run.last(1)), (47_953, Some(95_904)));
-/// assert_eq!((run.value(91_808, 0), run.value(91_809, 0)), (Some(91_808), None));
-/// assert!(run.has(91_808, 1) && !run.has(91_807, 1));
+/// let log: Vec<u32> = (0..500_000).collect();
+/// let run = plan.long_run(&log, 500_000)?;
+/// assert_eq!((run.ticks(), run.first_tick()), (500_000, 368_928));
+/// assert_eq!((run.count(0), run.last(0)), (250_000, Some(499_998)));
+/// assert_eq!((run.count(1), run.last(1)), (247_953, Some(495_904)));
+/// assert_eq!((run.value(368_928, 0), run.value(368_929, 0)), (Some(368_928), None));
+/// assert!(run.has(368_928, 1) && !run.has(368_927, 1));
 /// # Ok::<(), baarqidho::Refusal>(())
 /// ```
 #[derive(Clone, Debug, PartialEq, Eq)]
