@@ -13,9 +13,12 @@
 #define LENGTH(array) (sizeof(array) / sizeof((array)[0]))
 #define FILLING 0xA5
 
+/* Room for all ticks of four flows. */
+#define ROOM (4 * (BAARQIDHO_MAX_TICKS + 1))
+
 /* What the calls write into; each uses one of the first two, or both, and the long run all three. */
-static uint8_t bytes[BAARQIDHO_MAX_TICKS + 1];
-static uint32_t words[BAARQIDHO_MAX_TICKS + 1];
+static uint8_t bytes[ROOM];
+static uint32_t words[ROOM];
 static uint32_t tallies[BAARQIDHO_MAX_FLOWS];
 
 /* The answer of the last call, and what it was. */

@@ -3,7 +3,7 @@
 use std::fmt::Debug;
 
 use crate::implementation::{Implementation, Parts, REFERENCE};
-use crate::{Plan, CLOCK_WORDS};
+use crate::{Plan, CLOCK_WORDS, WINDOW};
 
 /// The cells behind a lent buffer that no call may touch.
 const GUARD: usize = 8;
@@ -220,7 +220,7 @@ pub fn run_exactly(of: &[&Implementation], plan: &Plan, log: &[u32], ticks: u32)
 
 /// The buffers that a long run of so many flows needs: marks, values and tallies.
 pub fn window(flows: usize) -> Lengths {
-    Lengths { bytes: 8_192 * flows, words: 8_192 * flows, tallies: 2 * flows }
+    Lengths { bytes: WINDOW * flows, words: WINDOW * flows, tallies: 2 * flows }
 }
 
 /// Makes a long run of a plan over a log with buffers of these lengths.
@@ -252,13 +252,13 @@ pub fn written_up_to(outcome: &Outcome, cells: usize) -> bool {
 }
 
 /// A long run left in buffers of these lengths what it has to keep of a trace of all its ticks: tick t at place t
-/// modulo 8,192, and for each flow how many values it had and its last one.
+/// modulo 131,072, and for each flow how many values it had and its last one.
 pub fn keeps(long: &Outcome, lengths: Lengths, trace: &Outcome, flows: usize, ticks: usize) {
     let mut expected = Outcome { parts: trace.parts, ..Outcome::before(lengths) };
     expected.tallies[..2 * flows].fill(0);
     for tick in 0..ticks {
         for flow in 0..flows {
-            let (from, to) = (tick * flows + flow, tick % 8_192 * flows + flow);
+            let (from, to) = (tick * flows + flow, tick % WINDOW * flows + flow);
             let (mark, value) = (trace.bytes[from], trace.words[from]);
             (expected.bytes[to], expected.words[to]) = (mark, value);
             if mark == 1 {

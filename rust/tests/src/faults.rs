@@ -114,13 +114,19 @@ fn other_source(rng: &mut Rng, plan: &mut Plan) {
     }
 }
 
-/// The greatest copies, delay, period or phase that a field has, or a long delay where there was another row.
-fn beyond(rng: &mut Rng, plan: &mut Plan) {
-    let flow = some_row(rng, plan).unwrap_or(0) / 4;
-    if flow > 0 && rng.percent(50) {
-        let a = rng.below(flow) as u32;
-        let row = rng.pick(&[[9, a, 63, 0], [10, a, 4095, 0], [10, a, 4090, 0]]);
-        plan.words[4 * flow..][..4].copy_from_slice(&row);
+/// The greatest copies, delay, period or phase that a field has; or a chain of rows, each with one over the row before,
+/// where there were others. Three slower rows are beyond the limits whatever they stand on, or seventeen later ones.
+pub fn beyond(rng: &mut Rng, plan: &mut Plan) {
+    let rows = plan.words.len() / 4;
+    let first = some_row(rng, plan).unwrap_or(0) / 4;
+    if first > 0 && rng.percent(60) {
+        let (kind, most) = rng.pick(&[(9, 63), (9, 63), (9, 41), (10, 4095), (10, 4094)]);
+        let last = rows.min(first + rng.pick(&[1, 2, 3, 3, 17]));
+        let mut a = rng.below(first) as u32;
+        for flow in first..last {
+            plan.words[4 * flow..][..4].copy_from_slice(&[kind, a, most, 0]);
+            a = flow as u32;
+        }
     } else if let Some((_, place, sort)) = some_field(rng, plan, "kpt") {
         plan.words[place] = match sort {
             'k' => 63,

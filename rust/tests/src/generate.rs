@@ -1,7 +1,7 @@
 //! Random plans that the check accepts: each row is derived from the clocks of the flows before it.
 
 use crate::rng::Rng;
-use crate::{Plan, CLOCK_WORDS};
+use crate::{Plan, CLOCK_WORDS, DERIVED, WRITTEN};
 
 /// A condition of a clock.
 #[derive(Clone, Copy, Debug, PartialEq, Eq)]
@@ -28,6 +28,11 @@ impl Clock {
         Clock { period, phase, conditions: Vec::new() }
     }
 
+    /// Whether it can be written as the clock of an input.
+    pub fn is_written(&self) -> bool {
+        self.conditions.is_empty() && self.period <= WRITTEN && self.phase <= WRITTEN
+    }
+
     /// With one more condition, 2 × flow + truth, that is sampled directly.
     pub fn plus(&self, word: u32) -> Self {
         let mut clock = self.clone();
@@ -51,7 +56,8 @@ impl Clock {
 pub struct Shape {
     /// How many flows.
     pub flows: usize,
-    /// The greatest period, phase and delay that are chosen: small, and much happens in a short run.
+    /// The greatest period, phase and delay that are chosen: small, and much happens in a short run; the greatest there
+    /// is, and clocks come up to their limits.
     pub scale: u32,
     /// Whether rows of kinds 13 to 15, 17 and 18 may occur.
     pub sampling: bool,
@@ -73,7 +79,7 @@ impl Shape {
     pub fn long(rng: &mut Rng) -> Self {
         Shape {
             flows: 1 + rng.below(rng.clone().pick(&[8, 16, 64])),
-            scale: rng.pick(&[6, 100, 4095]),
+            scale: rng.pick(&[6, 100, WRITTEN]),
             sampling: rng.percent(60),
         }
     }
@@ -161,6 +167,18 @@ impl Draft<'_> {
         self.flow_where(|clock| clock.conditions.is_empty() && test(clock))
     }
 
+    /// Any flow with a plain clock from which a phase up to the limit is derived, or now and then the one with the greatest:
+    /// so phases come up to it.
+    fn plain_or_latest(&mut self, derived: impl Fn(&Clock) -> u32) -> Option<u32> {
+        let fits = |clock: &Clock| derived(clock) <= DERIVED;
+        let any = self.plain_where(fits)?;
+        if self.rng.percent(60) {
+            return Some(any);
+        }
+        let plain = (0..).zip(&self.clocks).filter(|(_, clock)| clock.conditions.is_empty() && fits(clock));
+        plain.max_by_key(|(_, clock)| derived(clock)).map(|(flow, _)| flow)
+    }
+
     /// Two flows with equal clocks, perhaps the same.
     fn pair(&mut self) -> Option<(u32, u32)> {
         let a = self.any()?;
@@ -171,7 +189,7 @@ impl Draft<'_> {
     /// An input or constant, often on the clock of an earlier flow so that the two go together.
     fn source(&mut self, kind: u32) -> ([u32; 4], Clock) {
         let known = match self.rng.percent(60) {
-            true => self.plain_where(|_| true),
+            true => self.flow_where(Clock::is_written),
             false => None,
         };
         let clock = match known {
@@ -188,7 +206,9 @@ impl Draft<'_> {
     /// A period; large ones are often rich in divisors, or at the edge.
     fn period(&mut self) -> u32 {
         match self.scale {
-            4095 if self.rng.percent(60) => self.rng.pick(&[1, 63, 64, 65, 420, 720, 2520, 3780, 4094, 4095]),
+            WRITTEN if self.rng.percent(60) => {
+                self.rng.pick(&[1, 63, 64, 65, 420, 720, 1285, 2520, 3780, 3855, 4094, 4095])
+            }
             scale => self.rng.range(1, scale),
         }
     }
@@ -196,42 +216,53 @@ impl Draft<'_> {
     /// A phase, or a delay.
     fn phase(&mut self) -> u32 {
         match self.scale {
-            4095 if self.rng.percent(30) => self.rng.pick(&[0, 1, 4094, 4095]),
+            WRITTEN if self.rng.percent(30) => self.rng.pick(&[0, 1, 4094, 4095]),
             scale => self.rng.range(0, scale),
+        }
+    }
+
+    /// The greatest period of a slower row: the clocks' own limit where periods are written up to theirs.
+    fn limit(&self) -> u32 {
+        match self.scale {
+            WRITTEN => DERIVED,
+            scale => 4 * scale,
         }
     }
 
     fn faster(&mut self) -> Option<([u32; 4], Clock)> {
         let a = self.plain_where(|_| true)?;
         let Clock { period, phase, .. } = self.clock(a);
-        let k = 1 + self.rng.pick_where(63, |k| period % (k as u32 + 1) == 0)? as u32;
+        let fits = |k: u32| period.is_multiple_of(k) && period / k <= WRITTEN;
+        let k = 1 + self.rng.pick_where(63, |k| fits(k as u32 + 1))? as u32;
         Some(([8, a, k, period / k], Clock::plain(period / k, phase)))
     }
 
     fn slower(&mut self) -> Option<([u32; 4], Clock)> {
-        let limit = (4 * self.scale).min(4095);
+        let limit = self.limit();
         let a = self.plain_where(|clock| clock.period <= limit)?;
         let Clock { period, phase, .. } = self.clock(a);
-        let k = self.rng.range(1, (limit / period).min(63));
+        let most = (limit / period).min(63);
+        let k = if self.rng.percent(20) { most } else { self.rng.range(1, most) };
         Some(([9, a, k, 0], Clock::plain(period * k, phase)))
     }
 
     fn later(&mut self) -> Option<([u32; 4], Clock)> {
-        let a = self.plain_where(|_| true)?;
+        let a = self.plain_or_latest(|clock| clock.phase)?;
         let Clock { period, phase, .. } = self.clock(a);
-        let d = self.phase().min(4095 - phase);
+        let most = WRITTEN.min(DERIVED - phase);
+        let d = if self.rng.percent(30) { most.min(self.scale) } else { self.phase().min(most) };
         Some(([10, a, d, 0], Clock::plain(period, phase + d)))
     }
 
     fn head(&mut self) -> Option<([u32; 4], Clock)> {
-        let a = self.plain_where(|clock| clock.phase >= clock.period)?;
+        let a = self.plain_where(|clock| clock.phase >= clock.period && clock.phase - clock.period <= WRITTEN)?;
         let Clock { period, phase, .. } = self.clock(a);
         let s = phase - period;
         Some(([11, a, self.rng.value(), s], Clock::plain(period, s)))
     }
 
     fn tail(&mut self) -> Option<([u32; 4], Clock)> {
-        let a = self.plain_where(|clock| clock.phase + clock.period <= 4095)?;
+        let a = self.plain_or_latest(|clock| clock.phase + clock.period)?;
         let Clock { period, phase, .. } = self.clock(a);
         Some(([12, a, 0, 0], Clock::plain(period, phase + period)))
     }
@@ -284,7 +315,7 @@ impl Draft<'_> {
     fn seen_anew(&mut self, kind: u32) -> Option<([u32; 4], Clock)> {
         let a = self.plain_where(|_| true)?;
         let Clock { period, phase, .. } = self.clock(a);
-        let can_be_seen = |c: &Clock| c.phase <= phase && common(period, c.period) <= 4095;
+        let can_be_seen = |c: &Clock| c.phase <= phase && common(period, c.period) <= WRITTEN;
         let other = match self.rng.percent(70) {
             true => self.plain_where(|c| can_be_seen(c) && (c.period, c.phase) != (period, phase)),
             false => None,
@@ -295,9 +326,9 @@ impl Draft<'_> {
         Some(([kind, a, c, w], Clock { period, phase, conditions }))
     }
 
-    /// A multiple of a number up to 4095: mostly a small one, now and then the greatest or any.
+    /// A multiple of a number that a field has: mostly a small one, now and then the greatest or any.
     fn multiple(&mut self, of: u32) -> u32 {
-        let most = 4095 / of;
+        let most = WRITTEN / of;
         of * match self.rng.below(8) {
             0 => most,
             1 => self.rng.range(1, most),

@@ -16,6 +16,18 @@ pub use baarqidho::LISTING_MAX;
 /// The words of a clock: period, phase, how many conditions, the four of them, and their view periods.
 pub const CLOCK_WORDS: usize = 11;
 
+/// The greatest period or phase that is written.
+pub const WRITTEN: u32 = 4_095;
+
+/// The greatest period or phase of a clock.
+pub const DERIVED: u32 = 65_535;
+
+/// The most ticks of a run.
+pub const TICKS: u32 = 131_071;
+
+/// The ticks of a long run's window.
+pub const WINDOW: usize = 131_072;
+
 /// The repository's root.
 pub fn root() -> PathBuf {
     Path::new(env!("CARGO_MANIFEST_DIR")).join("../..")

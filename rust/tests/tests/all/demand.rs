@@ -5,7 +5,7 @@ use tests::faults::{any_rows, disturb, plant};
 use tests::generate::{accepted, Shape};
 use tests::implementation::{Implementation, ALL, LIBRARY, QUICK};
 use tests::rng::Rng;
-use tests::{rounds, Plan, CLOCK_WORDS};
+use tests::{rounds, Plan, CLOCK_WORDS, TICKS, WRITTEN};
 
 use crate::rates::erased;
 
@@ -79,10 +79,11 @@ fn marks_are_the_calendar_short() {
 fn marks_are_the_calendar_long() {
     let mut rng = Rng::new(52);
     let mut viewed = 0;
-    for _ in 0..rounds(300) {
+    for round in 0..rounds(160) {
         let shape = Shape::long(&mut rng);
         let (plan, _) = accepted(&mut rng, shape);
-        viewed += first_half(&mut rng, &QUICK, &plan, 8_191).expect("an accepted plan");
+        let ticks = if round % 8 == 0 { TICKS } else { 8_191 };
+        viewed += first_half(&mut rng, &QUICK, &plan, ticks).expect("an accepted plan");
     }
     assert!(viewed > 10_000, "{viewed} cells that are seen at other ticks");
 }
@@ -108,15 +109,15 @@ fn marks_are_the_calendar_of_filled_plans() {
     assert!(lacking > plans / 4, "{lacking} of {plans}");
 }
 
-/// A plan without sampling, views and merging that the check answers by 0 or 21: accepted exactly when a run of 8,191
-/// ticks ends. Gives the answer's number, if the plan is such a one.
+/// A plan without sampling, views and merging that the check answers by 0 or 21: accepted exactly when a run of
+/// 131,071 ticks ends. Gives the answer's number, if the plan is such a one.
 fn second_half(rng: &mut Rng, plan: &Plan) -> Option<u32> {
     let number = check(&ALL, plan, CLOCK_WORDS * plan.words.len() / 4).parts.0;
     if !plan.free_of_sampling() || !matches!(number, 0 | 21) {
         return None;
     }
-    let log = rng.log(8_191 * plan.inputs());
-    let ended = run_exactly(&[&LIBRARY], plan, &log, 8_191).parts.0;
+    let log = rng.log(TICKS as usize * plan.inputs());
+    let ended = run_exactly(&[&LIBRARY], plan, &log, TICKS).parts.0;
     assert!(matches!(ended, 0 | 34));
     assert_eq!(number == 0, ended == 0, "{plan:?}");
     Some(number)
@@ -126,9 +127,10 @@ fn second_half(rng: &mut Rng, plan: &Plan) -> Option<u32> {
 fn accepted_exactly_when_the_run_ends() {
     let mut rng = Rng::new(53);
     let (mut yes, mut no) = (0, 0);
-    for round in 0..rounds(20_000) {
+    let plans = rounds(3_000);
+    for round in 0..plans {
         let flows = 1 + rng.below(9);
-        let scale = rng.pick(&[2, 6, 100, 4095, 4095]);
+        let scale = rng.pick(&[2, 6, 100, WRITTEN, WRITTEN]);
         let (mut plan, _) = accepted(&mut rng, Shape { flows, scale, sampling: false });
         match round % 8 {
             0 => {}
@@ -142,28 +144,31 @@ fn accepted_exactly_when_the_run_ends() {
             None => {}
         }
     }
-    assert!(yes > 2_000 && no > 2_000, "{yes} accepted, {no} refused by 21");
+    assert!(yes > plans / 10 && no > plans / 10, "{yes} accepted, {no} refused by 21");
 }
 
-/// 8,191 ticks are needed: these clash in the last of them.
+/// 131,071 ticks are needed: these clash in the last of them, or where two periods differ by one, in the one before.
 #[test]
-fn the_last_of_8191_ticks() {
-    let latest = [0, 4095, 4095, 0];
-    let constant = |period| [1, 3, period, 4095];
+fn the_last_of_131071_ticks() {
+    // Every 17th reading from the second on: (65535, 65535). Beside it a constant that is as late: (65534, 65535).
+    let slow = [[0, 3855, 0, 0], [9, 0, 17, 0], [12, 1, 0, 0]];
+    let beside = [[1, 3, 1057, 1], [9, 3, 62, 0], [12, 4, 0, 0]];
     let plans = [
-        vec![latest, [8, 0, 1, 4094]],
-        vec![latest, [8, 0, 63, 64]],
-        vec![latest, [11, 0, 5, 1]],
-        vec![latest, constant(4094), [2, 0, 1, 0]],
-        vec![latest, constant(4094), [7, 5, 0, 1]],
+        (&[][..], [8, 2, 1, 1], 131_070),
+        (&[][..], [8, 2, 1, 4095], 131_070),
+        (&[][..], [8, 2, 63, 1040], 131_070),
+        (&[][..], [8, 2, 63, 4095], 131_070),
+        (&[][..], [11, 2, 5, 1], 131_070),
+        (&[][..], [11, 2, 5, 4095], 131_070),
+        (&beside[..], [2, 2, 5, 0], 131_069),
+        (&beside[..], [7, 5, 2, 5], 131_069),
     ];
-    for rows in plans {
-        let last = rows.len() as u32 - 1;
-        let tick = if rows.len() == 2 { 8_190 } else { 8_189 };
-        let plan = Plan::of(&rows);
-        assert_eq!(check(&ALL, &plan, CLOCK_WORDS * rows.len()).parts, (21, last, 0, 0));
+    for (others, row, tick) in plans {
+        let plan = Plan::of(&[&slow[..], others, &[row]].concat());
+        let last = plan.count - 1;
+        assert_eq!(check(&ALL, &plan, CLOCK_WORDS * plan.count as usize).parts, (21, last, 0, 0), "{plan:?}");
         let log = vec![1; tick as usize + 1];
-        assert_eq!(run_exactly(&QUICK, &plan, &log, tick + 1).parts, (34, last, tick, 0));
-        assert_eq!(run_exactly(&QUICK, &plan, &log[1..], tick).parts, (0, 0, 0, tick));
+        assert_eq!(run_exactly(&ALL, &plan, &log, tick + 1).parts, (34, last, tick, 0), "{plan:?}");
+        assert_eq!(run_exactly(&ALL, &plan, &log[1..], tick).parts, (0, 0, 0, tick), "{plan:?}");
     }
 }

@@ -6,7 +6,7 @@ use tests::generate::{accepted, Shape};
 use tests::implementation::{Implementation, ALL, LIBRARY, MIRROR, PEER, REFERENCE};
 use tests::rng::Rng;
 use tests::tally::Tally;
-use tests::{rounds, Plan, CLOCK_WORDS};
+use tests::{rounds, Plan, CLOCK_WORDS, TICKS, WINDOW, WRITTEN};
 
 use crate::short::{faulty, sound, ticks_and_log};
 use crate::views::viewing;
@@ -17,13 +17,35 @@ pub static FOUR: [&Implementation; 4] = [&REFERENCE, &LIBRARY, &PEER, &MIRROR];
 /// Those that are quick enough for thousands of ticks.
 pub static THREE: [&Implementation; 3] = [&PEER, &LIBRARY, &MIRROR];
 
-/// A long run that has to be accepted, and that keeps of the library's own trace what it has to keep.
+/// The trace of an accepted plan over any count of ticks: the library's own run as far as it goes, and from there on the
+/// windows of its long runs, one after the other.
+fn traced(plan: &Plan, log: &[u32], ticks: u32) -> Outcome {
+    let (flows, inputs) = (plan.words.len() / 4, plan.inputs());
+    let until = |ticks: u32| &log[..ticks as usize * inputs];
+    let mut trace = run_exactly(&[&LIBRARY], plan, until(ticks.min(TICKS)), ticks.min(TICKS));
+    for first in (0..ticks).step_by(WINDOW).filter(|_| ticks > TICKS) {
+        let end = ticks.min(first + WINDOW as u32);
+        let window = long_run_exactly(&[&LIBRARY], plan, until(end), end);
+        let cells = (end - first) as usize * flows;
+        // The first window has one tick more than the run.
+        let is_run = if first == 0 { TICKS as usize * flows } else { 0 };
+        assert!(window.bytes[..is_run] == trace.bytes[..is_run] && window.words[..is_run] == trace.words[..is_run]);
+        trace.bytes.truncate(first as usize * flows);
+        trace.words.truncate(first as usize * flows);
+        trace.bytes.extend(&window.bytes[..cells]);
+        trace.words.extend(&window.words[..cells]);
+    }
+    trace.parts = (0, 0, 0, ticks);
+    trace
+}
+
+/// A long run that has to be accepted, and that keeps of the trace what it has to keep. Gives the trace.
 pub fn ends(of: &[&Implementation], plan: &Plan, log: &[u32], ticks: u32) -> Outcome {
     let (flows, outcome) = (plan.words.len() / 4, long_run_exactly(of, plan, log, ticks));
     assert_eq!(outcome.parts, (0, 0, 0, ticks), "{plan:?}");
-    let trace = run_exactly(&[&LIBRARY], plan, log, ticks);
+    let trace = traced(plan, log, ticks);
     keeps(&outcome, window(flows), &trace, flows, ticks as usize);
-    outcome
+    trace
 }
 
 /// Few ticks of sound plans, plans with faults and rows that were not made to fit, with logs and buffers of right and
@@ -32,7 +54,7 @@ pub fn ends(of: &[&Implementation], plan: &Plan, log: &[u32], ticks: u32) -> Out
 fn few_ticks() {
     let mut rng = Rng::new(101);
     let mut tally = Tally::default();
-    let (mut clashed, plans) = (0, rounds(15_000));
+    let (mut clashed, plans) = (0, rounds(2_000));
     for round in 0..plans {
         let plan = match round % 4 {
             0 | 1 => sound(&mut rng).0,
@@ -74,27 +96,27 @@ fn few_ticks() {
 #[test]
 fn round_the_window() {
     let mut rng = Rng::new(102);
-    for _ in 0..rounds(150) {
+    for _ in 0..rounds(40) {
         let shape = Shape::long(&mut rng);
         let (plan, _) = accepted(&mut rng, shape);
         let ticks = match rng.below(3) {
-            0 => rng.pick(&[8_191, 8_192, 8_193, 12_287, 12_288, 16_383, 16_384, 16_385]),
-            1 => rng.range(8_193, 20_000),
-            _ => rng.range(20_001, 65_535),
+            0 => rng.pick(&[131_071, 131_072, 131_073, 196_607, 196_608, 262_143, 262_144, 262_145]),
+            1 => rng.range(10_000, 131_071),
+            _ => rng.range(131_072, 300_000),
         };
         let log = rng.log(ticks as usize * plan.inputs());
         ends(&THREE, &plan, &log, ticks);
     }
 }
 
-/// The paper word by word, whose work grows with the square of the ticks: long clocks, once and twice round the window.
+/// The paper word by word, whose work grows with the square of the ticks: long clocks, around the window's end.
 #[test]
 fn round_the_window_word_by_word() {
     let mut rng = Rng::new(103);
-    for _ in 0..rounds(40) {
+    for _ in 0..rounds(10) {
         let flows = 2 + rng.below(4);
-        let (plan, _) = accepted(&mut rng, Shape { flows, scale: 4095, sampling: true });
-        let ticks = rng.pick(&[8_191, 8_192, 8_193, 12_289, 16_384, 16_385]);
+        let (plan, _) = accepted(&mut rng, Shape { flows, scale: WRITTEN, sampling: true });
+        let ticks = rng.pick(&[131_071, 131_072, 131_073, 150_000]);
         let log = rng.log(ticks as usize * plan.inputs());
         ends(&ALL, &plan, &log, ticks);
     }
@@ -104,7 +126,7 @@ fn round_the_window_word_by_word() {
 #[test]
 fn millions_of_ticks() {
     let mut rng = Rng::new(104);
-    for (flows, scale) in [(3, 2), (5, 6), (8, 100), (16, 4095)] {
+    for (flows, scale) in [(3, 2), (5, 6), (8, 100), (16, WRITTEN)] {
         let (plan, _) = viewing(&mut rng, |_| Shape { flows, scale, sampling: true });
         let ticks = rng.range(1_000_000, 4_194_303);
         let log = rng.log(ticks as usize * plan.inputs());

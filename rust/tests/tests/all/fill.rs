@@ -138,7 +138,7 @@ fn conditions() {
     are_filled(&[&[at(4, 1), OPEN, OPEN][..], &sampled, &further].concat(), &[(4, 1), (4, 1), (4, 0)]);
 }
 
-/// Periods and phases at the limits, and one past them: above 4095, below 0, and fractions.
+/// Periods and phases at the limits of what is filled in, and one past them: above 4095, below 0, and fractions.
 #[test]
 fn limits() {
     for rate in [(1, 0), (1, 4095), (4095, 0), (4095, 4095)] {
@@ -182,13 +182,30 @@ fn limits() {
     downwards_none([11, 0, 9, 5], (5, 9));
 }
 
-/// A way to a rate within the limits that leads past them.
+/// A way to a rate that can be filled in which leads past those that can: up to the limits of clocks, and past them too.
 #[test]
 fn beyond_on_the_way() {
-    are_filled(&[at(2000, 0), [9, 0, 2, 0], OPEN, [9, 2, 2, 0], [2, 1, 3, 0]], &[(2000, 0)]);
-    has_none(&[at(2048, 0), [9, 0, 2, 0], OPEN, [9, 2, 2, 0], [2, 1, 3, 0]]);
+    for (period, k) in [(2000, 2), (2048, 2), (4095, 16), (3855, 17), (1285, 51)] {
+        are_filled(&[at(period, 0), [9, 0, k, 0], OPEN, [9, 2, k, 0], [2, 1, 3, 0]], &[(period, 0)]);
+    }
+    for (period, k) in [(4095, 17), (2048, 32), (1041, 63)] {
+        has_none(&[at(period, 0), [9, 0, k, 0], OPEN, [9, 2, k, 0], [2, 1, 3, 0]]);
+    }
     are_filled(&[at(1, 2), [10, 0, 4093, 0], OPEN, [10, 2, 4094, 0], [2, 1, 3, 0]], &[(1, 1)]);
-    has_none(&[at(1, 2), [10, 0, 4094, 0], OPEN, [10, 2, 4095, 0], [2, 1, 3, 0]]);
+    are_filled(&[at(1, 2), [10, 0, 4094, 0], OPEN, [10, 2, 4095, 0], [2, 1, 3, 0]], &[(1, 1)]);
+    // Up to (65535, 65535) and down again, from the rated row and from the open one; and a tick too late.
+    let there = |phase| vec![[9, 0, 17, 0], [12, 1, 0, 0], [11, 2, 9, phase], [8, 3, 17, 3855]];
+    let joined = |first, phase, last| [&[first][..], &there(phase), &[last, [2, 4, 5, 0]]].concat();
+    are_filled(&joined(at(3855, 0), 0, OPEN), &[(3855, 0)]);
+    are_filled(&joined(OPEN, 0, at(3855, 0)), &[(3855, 0)]);
+    has_none(&joined(at(3855, 1), 1, OPEN));
+    has_none(&joined(OPEN, 1, at(3855, 1)));
+    // The open row itself would be past what can be filled in, although a clock may be there.
+    for row in [[9, 0, 17, 0], [9, 0, 2, 0], [12, 0, 0, 0], [10, 0, 4095, 0]] {
+        has_none(&[at(3855, 2000), row, OPEN, [2, 1, 2, 0]]);
+    }
+    has_none(&[OPEN, [8, 0, 17, 3855], at(3855, 0), [2, 1, 2, 0]]);
+    has_none(&[OPEN, [11, 0, 9, 4095], at(3855, 4095), [2, 1, 2, 0]]);
     // The open row would be faster than that, or would begin before tick 0.
     has_none(&[OPEN, [9, 0, 2, 0], [9, 1, 2, 0], at(6, 0), [2, 2, 3, 0]]);
     has_none(&[OPEN, [12, 0, 0, 0], [8, 1, 2, 3], at(3, 5), [2, 2, 3, 0]]);
@@ -229,8 +246,10 @@ fn other_causes() {
     has_none(&rows);
     rows[7] = [9, 2, 63, 0];
     are_filled(&rows, &[(4, 0)]);
-    rows[7] = [10, 2, 4095, 0];
-    rows[1] = at(4, 1);
+    rows[7] = [9, 2, 17, 0];
+    rows[1] = at(3855, 0);
+    are_filled(&rows, &[(3855, 0)]);
+    rows[1] = at(3856, 0);
     has_none(&rows);
     // Case I with an open row, its last two swapped, and one of them twice.
     let merged = |row| [OPEN, at(4, 0), [13, 0, 1, 0], [14, 0, 1, 0], row];
@@ -253,7 +272,8 @@ fn nothing_to_fill_in() {
     are_filled(&[[1, 9, 4, 0]; 64], &[]);
     has_none(&[at(10, 0), at(20, 0), [2, 0, 1, 0]]);
     has_none(&[at(10, 0), at(20, 0), [7, 5, 0, 1]]);
-    has_none(&[at(66, 0), [9, 0, 63, 0]]);
+    are_filled(&[at(66, 0), [9, 0, 63, 0]], &[]);
+    has_none(&[at(2048, 0), [9, 0, 32, 0]]);
     has_none(&[at(4, 0), [13, 0, 0, 0], [12, 1, 0, 0]]);
 }
 

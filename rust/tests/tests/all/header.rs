@@ -27,6 +27,7 @@ fn constants_agree() {
     assert_eq!(constant("BAARQIDHO_PAGE_LINE"), baarqidho::PAGE_LINE);
     assert_eq!(constant("BAARQIDHO_PAGE_MAX"), baarqidho::PAGE_MAX);
     assert_eq!(constant("BAARQIDHO_MAX_FLOWS"), baarqidho::MAX_FLOWS);
+    assert_eq!(constant("BAARQIDHO_MAX_DERIVED"), baarqidho::MAX_DERIVED as usize);
     assert_eq!(constant("BAARQIDHO_MAX_TICKS"), baarqidho::MAX_TICKS as usize);
     assert_eq!(constant("BAARQIDHO_MAX_LONG_TICKS"), baarqidho::MAX_LONG_TICKS as usize);
     assert_eq!(constant("BAARQIDHO_WINDOW_TICKS"), baarqidho::WINDOW_TICKS);

@@ -6,7 +6,7 @@ use tests::compare::{
 use tests::compare::{write, written_up_to, Lengths, Outcome};
 use tests::implementation::{Parts, ALL, QUICK};
 use tests::rng::Rng;
-use tests::{Plan, LISTING_MAX};
+use tests::{Plan, DERIVED, LISTING_MAX, TICKS};
 
 mod views;
 
@@ -142,7 +142,7 @@ fn inputs_without_a_rate() {
         is_table(&rows);
         let plan = Plan::of(&rows);
         refused_by_check(&plan, 13, row);
-        all_refuse([check(&ALL, &plan, 0), run(&ALL, &plan, &[], 65_536, (0, 0))], &plan, 13, row);
+        all_refuse([check(&ALL, &plan, 0), run(&ALL, &plan, &[], TICKS + 1, (0, 0))], &plan, 13, row);
         let written = write(&ALL, &plan, 489);
         let listed = listing(&ALL, &written.bytes[..written.parts.3 as usize], LISTING_MAX);
         let text = format!("no 13 {row}\n");
@@ -209,25 +209,88 @@ fn counts_and_lengths() {
     refused_plan(&Plan { count: 2, words: [words, vec![0]].concat() }, 11, 0);
 }
 
+/// An input, and each of the other rows over the one before, which they name as flow 0.
+fn chain(period: u32, phase: u32, others: &[[u32; 4]]) -> Vec<[u32; 4]> {
+    let over = |(before, &[kind, _, y, z]): (u32, &[u32; 4])| [kind, before, y, z];
+    [[0, period, phase, 0]].into_iter().chain((0..).zip(others).map(over)).collect()
+}
+
+/// The last clock of a chain, which is accepted.
+fn last_clock(rows: &[[u32; 4]]) -> (u32, u32) {
+    assert_eq!(checked(rows), (0, 0, 0, rows.len() as u32), "{rows:?}");
+    let words = check(&ALL, &Plan::of(rows), 11 * rows.len()).words;
+    let last = 11 * (rows.len() - 1);
+    (words[last], words[last + 1])
+}
+
+/// A chain is beyond the limits in its last row, and not before.
+fn beyond(rows: &[[u32; 4]]) {
+    assert_eq!(checked(rows), (22, rows.len() as u32 - 1, 0, 0), "{rows:?}");
+    assert_eq!(checked(&rows[..rows.len() - 1]).0, 0, "{rows:?}");
+}
+
+/// What one row derives from a clock that is written.
 #[test]
 fn derived_clocks() {
-    let two = |period, phase, row| checked(&[[0, period, phase, 0], row]).0;
-    assert_eq!(two(4095, 0, [9, 0, 1, 0]), 0);
-    assert_eq!(two(2048, 0, [9, 0, 2, 0]), 22);
-    assert_eq!(two(4095, 0, [9, 0, 63, 0]), 22);
-    assert_eq!(two(1, 1, [10, 0, 4094, 0]), 0);
-    assert_eq!(two(1, 4095, [10, 0, 0, 0]), 0);
-    assert_eq!(two(1, 4095, [10, 0, 1, 0]), 22);
-    assert_eq!(two(4095, 0, [12, 0, 0, 0]), 0);
-    assert_eq!(two(4095, 1, [12, 0, 0, 0]), 22);
-    assert_eq!(two(1, 4094, [12, 0, 0, 0]), 0);
-    assert_eq!(two(1, 4095, [12, 0, 0, 0]), 22);
-    assert_eq!(two(4032, 0, [8, 0, 63, 64]), 0);
-    assert_eq!(two(4095, 4095, [8, 0, 1, 4095]), 0);
-    assert_eq!(two(4095, 4095, [8, 0, 63, 4095]), 21);
-    assert_eq!(two(4095, 4095, [11, 0, 9, 0]), 0);
-    assert_eq!(two(1, 4095, [11, 0, 9, 4094]), 0);
-    assert_eq!(two(1, 4095, [11, 0, 9, 4095]), 21);
+    let slower = |k| [9, 0, k, 0];
+    assert_eq!(last_clock(&chain(4095, 0, &[slower(16)])), (65_520, 0));
+    beyond(&chain(4095, 0, &[slower(17)]));
+    beyond(&chain(4095, 4095, &[slower(63)]));
+    assert_eq!(last_clock(&chain(3855, 9, &[slower(17)])), (DERIVED, 9));
+    assert_eq!(last_clock(&chain(1285, 4095, &[slower(51)])), (DERIVED, 4095));
+    beyond(&chain(2048, 0, &[slower(32)]));
+    beyond(&chain(1024, 0, &[slower(32), slower(2)]));
+    assert_eq!(last_clock(&chain(1057, 0, &[slower(62)])), (65_534, 0));
+    assert_eq!(last_clock(&chain(66, 0, &[slower(63)])), (4158, 0));
+    assert_eq!(last_clock(&chain(4095, 4095, &[[10, 0, 4095, 0]])), (4095, 8190));
+    assert_eq!(last_clock(&chain(4095, 4095, &[[12, 0, 0, 0]])), (4095, 8190));
+    assert_eq!(last_clock(&chain(4032, 0, &[[8, 0, 63, 64]])), (64, 0));
+    assert_eq!(last_clock(&chain(4095, 4095, &[[8, 0, 1, 4095]])), (4095, 4095));
+    assert_eq!(checked(&chain(4095, 4095, &[[8, 0, 63, 4095]])), (21, 1, 0, 0));
+    assert_eq!(last_clock(&chain(4095, 4095, &[[11, 0, 9, 0]])), (4095, 0));
+    assert_eq!(last_clock(&chain(1, 4095, &[[11, 0, 9, 4094]])), (1, 4094));
+    assert_eq!(checked(&chain(1, 4095, &[[11, 0, 9, 4095]])), (21, 1, 0, 0));
+}
+
+/// Chains that come up to the limits of clocks, and one past them.
+#[test]
+fn chains_of_derived_clocks() {
+    let (slower, later, tail) = (|k| [9, 0, k, 0], |d| [10, 0, d, 0], [12, 0, 0, 0]);
+    // Periods: 257 × 5 × 51, 63 × 63 × 16, and three times 41.
+    assert_eq!(last_clock(&chain(257, 3, &[slower(5), slower(51)])), (DERIVED, 3));
+    beyond(&chain(257, 3, &[slower(5), slower(51), slower(2)]));
+    assert_eq!(last_clock(&chain(1, 0, &[slower(63), slower(63), slower(16)])), (63_504, 0));
+    beyond(&chain(1, 0, &[slower(63), slower(63), slower(17)]));
+    beyond(&chain(1, 0, &[slower(41), slower(41), slower(41)]));
+    // Phases by delays: 15 × 4095 and 15 after 4095.
+    let delays = [&[later(4095); 15][..], &[later(15)]].concat();
+    assert_eq!(last_clock(&chain(1, 4095, &delays)), (1, DERIVED));
+    assert_eq!(last_clock(&chain(1, 4095, &[&delays[..], &[later(0)]].concat())), (1, DERIVED));
+    beyond(&chain(1, 4095, &[&delays[..], &[later(1)]].concat()));
+    beyond(&chain(1, 4095, &[&delays[..], &[tail]].concat()));
+    beyond(&chain(4095, 4095, &[&delays[..15], &[later(16)]].concat()));
+    // By tails: 16 × 4095 after 15, and once the longest period, of 131,070 after the second.
+    assert_eq!(last_clock(&chain(4095, 15, &[tail; 16])), (4095, DERIVED));
+    beyond(&chain(4095, 16, &[tail; 16]));
+    assert_eq!(last_clock(&chain(3855, 0, &[slower(17), tail])), (DERIVED, DERIVED));
+    beyond(&chain(3855, 0, &[slower(17), tail, tail]));
+    beyond(&chain(3855, 0, &[slower(17), later(1), tail]));
+    beyond(&chain(3855, 1, &[slower(17), tail]));
+    assert_eq!(last_clock(&chain(1057, 1, &[slower(62), tail])), (65_534, DERIVED));
+    beyond(&chain(1057, 2, &[slower(62), tail]));
+    // What can be done with them: no more than copies, heads and delays by nothing.
+    let slow = [slower(17), tail];
+    let with = |row| chain(3855, 0, &[&slow[..], &[row]].concat());
+    assert_eq!(last_clock(&with([11, 0, 9, 0])), (DERIVED, 0));
+    assert_eq!(last_clock(&with([8, 0, 17, 3855])), (3855, DERIVED));
+    assert_eq!(last_clock(&with(later(0))), (DERIVED, DERIVED));
+    assert_eq!(last_clock(&with(slower(1))), (DERIVED, DERIVED));
+    for row in [[8, 0, 1, 4095], [8, 0, 63, 1040], [11, 0, 9, 1], [11, 0, 9, 4095]] {
+        assert_eq!(checked(&with(row)), (21, 3, 0, 0));
+    }
+    beyond(&with(slower(2)));
+    beyond(&with(slower(63)));
+    beyond(&with(later(4095)));
 }
 
 #[test]
@@ -275,7 +338,7 @@ fn sources_after_all_rows() {
     let base = [[0, 2, 0, 0], [0, 3, 0, 0], [7, 0, 0, 1]];
     assert_eq!(checked(&base), (21, 2, 0, 0));
     assert_eq!(checked(&[base.to_vec(), vec![[2, 0, 1, 0]]].concat()), (21, 3, 0, 0));
-    assert_eq!(checked(&[base.to_vec(), vec![[10, 0, 4095, 0], [12, 3, 0, 0]]].concat()), (22, 4, 0, 0));
+    assert_eq!(checked(&[base.to_vec(), vec![[9, 0, 63, 0], [9, 3, 63, 0], [9, 4, 63, 0]]].concat()), (22, 5, 0, 0));
     assert_eq!(checked(&[base.to_vec(), vec![[7, 0, 1, 0]]].concat()), (21, 2, 0, 0));
     // A register's clock is its beat's, so that a source above it may rest on it.
     assert_eq!(checked(&[[0, 2, 0, 0], [7, 5, 0, 2], [2, 0, 1, 0]]), (0, 0, 0, 3));
@@ -326,39 +389,59 @@ fn logs_and_traces_one_short_exact_and_one_long() {
         }
     }
     // 31 before 32 before 33.
-    for (log, ticks, number) in [(1, 65_536, 31), (1, u32::MAX, 31), (1, 65_535, 32), (2, 1, 33)] {
+    for (log, ticks, number) in [(1, TICKS + 1, 31), (1, u32::MAX, 31), (1, TICKS, 32), (2, 1, 33)] {
         let outcome = run(&ALL, &plan, &vec![1; log], ticks, (2, 2));
         assert_eq!(outcome.parts, (number, 0, 0, 0));
         assert!(outcome.is_untouched());
     }
 }
 
-/// 64 inputs over 65,535 ticks, each buffer one short, exact, and one long; and one tick more.
+/// 64 inputs over 131,071 ticks, each buffer one short, exact, and one long; and one tick more.
 #[test]
 fn the_greatest_run() {
     let mut rng = Rng::new(61);
     let plan = Plan::of(&[[0, 1, 0, 0]; 64]);
-    let cells = 64 * 65_535;
+    let cells = 64 * TICKS as usize;
     let log = rng.log(cells);
-    let outcome = run(&QUICK, &plan, &log, 65_535, (cells, cells + 1));
-    assert_eq!(outcome.parts, (0, 0, 0, 65_535));
+    let outcome = run(&QUICK, &plan, &log, TICKS, (cells, cells + 1));
+    assert_eq!(outcome.parts, (0, 0, 0, TICKS));
     assert_eq!(outcome.words[..cells], log);
-    assert_eq!(run(&QUICK, &plan, &log, 65_535, (cells - 1, cells)).parts, (33, 0, 0, 0));
-    assert_eq!(run(&QUICK, &plan, &log, 65_535, (cells, cells - 1)).parts, (33, 0, 0, 0));
-    assert_eq!(run(&QUICK, &plan, &log[1..], 65_535, (cells, cells)).parts, (32, 0, 0, 0));
+    assert_eq!(run(&QUICK, &plan, &log, TICKS, (cells - 1, cells)).parts, (33, 0, 0, 0));
+    assert_eq!(run(&QUICK, &plan, &log, TICKS, (cells, cells - 1)).parts, (33, 0, 0, 0));
+    assert_eq!(run(&QUICK, &plan, &log[1..], TICKS, (cells, cells)).parts, (32, 0, 0, 0));
     let log = rng.log(cells + 64);
-    assert_eq!(run(&QUICK, &plan, &log, 65_536, (cells + 64, cells + 64)).parts, (31, 0, 0, 0));
-    assert_eq!(run(&QUICK, &plan, &log[..cells + 1], 65_535, (cells, cells)).parts, (32, 0, 0, 0));
+    assert_eq!(run(&QUICK, &plan, &log, TICKS + 1, (cells + 64, cells + 64)).parts, (31, 0, 0, 0));
+    assert_eq!(run(&QUICK, &plan, &log[..cells + 1], TICKS, (cells, cells)).parts, (32, 0, 0, 0));
 }
 
-/// The whole count of ticks against the paper word by word, with the longest period.
+/// The whole count of ticks against the paper word by word, with the longest clocks: a recorder, what each kind of row makes
+/// of its values from the second on, and readings that begin as late as they may.
 #[test]
 fn all_ticks_word_by_word() {
-    let plan = Plan::of(&[[0, 4095, 4095, 0], [10, 0, 0, 0]]);
-    let log: Vec<u32> = (0..65_535).collect();
-    let outcome = run_exactly(&ALL, &plan, &log, 65_535);
-    assert_eq!(outcome.parts, (0, 0, 0, 65_535));
-    assert_eq!((outcome.bytes[2 * 61_425], outcome.words[2 * 61_425 + 1]), (1, 61_425));
+    let mut rows = vec![[0, 3855, 0, 0], [9, 0, 17, 0], [12, 1, 0, 0], [11, 2, 7, 0], [7, 5, 2, 2], [8, 2, 17, 3855]];
+    rows.push([0, 4095, 4095, 0]);
+    rows.extend((6..21).map(|before| [10, before, 4095, 0]));
+    rows.push([10, 21, 15, 0]);
+    let (plan, flows) = (Plan::of(&rows), rows.len());
+    let log: Vec<u32> = (0..TICKS).flat_map(|tick| [tick, 1_000_000 + tick]).collect();
+    let outcome = run_exactly(&ALL, &plan, &log, TICKS);
+    assert_eq!(outcome.parts, (0, 0, 0, TICKS));
+    let values = |flow: usize| -> Vec<(usize, u32)> {
+        let places = (0..TICKS as usize).map(|tick| (tick, tick * flows + flow));
+        places
+            .filter(|&(_, place)| outcome.bytes[place] == 1)
+            .map(|(tick, place)| (tick, outcome.words[place]))
+            .collect()
+    };
+    assert_eq!(values(1), [(0, 0), (65_535, 65_535), (131_070, 131_070)]);
+    assert_eq!(values(2), [(65_535, 65_535), (131_070, 131_070)]);
+    assert_eq!(values(3), [(0, 7), (65_535, 65_535), (131_070, 131_070)]);
+    assert_eq!(values(4), [(65_535, 5), (131_070, 65_535)]);
+    let copies = (0..18).map(|copy| (65_535 + 3_855 * copy, if copy < 17 { 65_535 } else { 131_070 }));
+    assert_eq!(values(5), copies.collect::<Vec<_>>());
+    // 65,535 ticks after tick 0, and every 4,095 from there on.
+    let latest = values(flows - 1);
+    assert_eq!((latest.len(), latest[0], latest[16]), (17, (65_535, 1_004_095), (131_055, 1_069_615)));
 }
 
 /// The longest packed table and the longest listing.
@@ -368,21 +451,21 @@ fn the_longest_forms() {
     let outcome = write(&ALL, &Plan::of(&rows), 489);
     assert_eq!(outcome.parts, (0, 0, 0, 489));
     assert_eq!(write(&ALL, &Plan::of(&rows), 488).parts, (10, 0, 0, 0));
-    let mut rows = vec![[0, 4095, 4095, 0]; 11];
-    rows.push([17, 10, 10, 4095]);
-    rows.extend((11..14).map(|flow| [13, flow, flow, 0]));
-    rows.extend([[2, 14, 14, 0]; 49]);
+    // Fifteen delays of 4095 after an input, each line with a phase of 5 digits but the first two; one of 15; lines of 1 to
+    // 4 conditions, and 43 more of 4: the first condition of each has a view period, so that its period has 4 digits.
+    let mut rows = chain(4095, 4095, &[[10, 0, 4095, 0]; 15]);
+    rows.extend([[10, 15, 15, 0], [17, 16, 16, 4095]]);
+    rows.extend((17..20).map(|flow| [13, flow, flow, 0]));
+    rows.extend([[2, 20, 20, 0]; 43]);
     let written = write(&ALL, &Plan::of(&rows), 489);
     let packed = &written.bytes[..written.parts.3 as usize];
-    // A line `ok 64`, 10 inputs below 10 and one above, lines of 1 to 4 conditions, and 49 more of 4: the first condition
-    // of each has a view period.
-    let length = 6 + 10 * 14 + 15 + (23 + 27 + 31 + 35) + 49 * 35;
+    let length = 6 + 2 * 14 + 8 * 15 + 7 * 16 + (24 + 28 + 32 + 36) + 43 * 36;
     let outcome = listing(&ALL, packed, LISTING_MAX);
     assert_eq!(outcome.parts, (0, 0, 0, length));
-    let last = b"63 4095 4095 c10+@4095c11+c12+c13+\n";
-    assert_eq!((last.len(), &outcome.bytes[length as usize - 35..length as usize]), (35, &last[..]));
+    let last = b"63 4095 65535 c16+@4095c17+c18+c19+\n";
+    assert_eq!((last.len(), &outcome.bytes[length as usize - 36..length as usize]), (36, &last[..]));
     assert_eq!(listing(&ALL, packed, LISTING_MAX + 1).parts, (0, 0, 0, length));
     assert_eq!(listing(&ALL, packed, LISTING_MAX - 1).parts, (10, 0, 0, 0));
     assert_eq!(listing(&ALL, &[], LISTING_MAX - 1).parts, (10, 0, 0, 0));
-    assert_eq!(LISTING_MAX, 2_246);
+    assert_eq!(LISTING_MAX, 2_374);
 }

@@ -5,8 +5,8 @@ use tests::faults::plant;
 use tests::generate::{accepted, Shape};
 use tests::implementation::{ALL, QUICK};
 use tests::rng::Rng;
-use tests::rounds;
 use tests::tally::Tally;
+use tests::{rounds, TICKS, WRITTEN};
 
 /// Thousands of ticks, sound plans and plans with faults.
 #[test]
@@ -32,11 +32,11 @@ fn thousands_of_ticks() {
 fn all_ticks() {
     let mut rng = Rng::new(22);
     for flows in [1, 2, 7, 16, 33, 64, 64] {
-        for scale in [6, 4095] {
+        for scale in [6, WRITTEN] {
             let (plan, _) = accepted(&mut rng, Shape { flows, scale, sampling: true });
-            let log = rng.log(65_535 * plan.inputs());
-            let outcome = run_exactly(&QUICK, &plan, &log, 65_535);
-            assert_eq!(outcome.parts, (0, 0, 0, 65_535));
+            let log = rng.log(TICKS as usize * plan.inputs());
+            let outcome = run_exactly(&QUICK, &plan, &log, TICKS);
+            assert_eq!(outcome.parts, (0, 0, 0, TICKS));
         }
     }
 }

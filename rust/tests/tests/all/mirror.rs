@@ -6,7 +6,7 @@ use tests::faults::{any_rows, plant};
 use tests::generate::{accepted, Shape};
 use tests::implementation::{Implementation, MIRROR, PEER, REFERENCE};
 use tests::rng::Rng;
-use tests::{rounds, Plan};
+use tests::{rounds, Plan, TICKS};
 
 use crate::short::{faulty, sound};
 
@@ -69,9 +69,9 @@ fn longer_runs() {
     }
     for flows in [1, 16, 64] {
         let (plan, _) = accepted(&mut rng, Shape { flows, scale: 40, sampling: true });
-        let log = rng.log(65_535 * plan.inputs());
-        assert_eq!(run_exactly(&[&PEER, &MIRROR], &plan, &log, 65_535).parts, (0, 0, 0, 65_535));
+        let log = rng.log(TICKS as usize * plan.inputs());
+        assert_eq!(run_exactly(&[&PEER, &MIRROR], &plan, &log, TICKS).parts, (0, 0, 0, TICKS));
     }
     let plan = Plan::of(&[[0, 1, 0, 0]]);
-    assert_eq!(run(&BOTH, &plan, &[], 65_536, (0, 0)).parts, (31, 0, 0, 0));
+    assert_eq!(run(&BOTH, &plan, &[], TICKS + 1, (0, 0)).parts, (31, 0, 0, 0));
 }

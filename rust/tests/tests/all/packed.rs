@@ -1,7 +1,7 @@
 //! Packed bytes: valid, damaged, cut, lengthened, and any.
 
 use tests::compare::{check, listing, read, write};
-use tests::faults::damage;
+use tests::faults::{beyond, damage};
 use tests::generate::erase_rates;
 use tests::implementation::{Implementation, ALL};
 use tests::rng::Rng;
@@ -29,11 +29,14 @@ pub fn read_and_back(rng: &mut Rng, of: &[&Implementation], packed: &[u8], tally
     assert_eq!(&written.bytes[..packed.len()], packed);
 }
 
-/// The packed bytes of a sound plan, now and then with some rates erased.
+/// The packed bytes of a sound plan, now and then with some rates erased, or beyond the limits.
 pub fn packed(rng: &mut Rng) -> Vec<u8> {
     let (mut plan, _) = sound(rng);
     if rng.percent(15) {
         erase_rates(rng, &mut plan, 60);
+    }
+    if rng.percent(5) {
+        beyond(rng, &mut plan);
     }
     let written = write(&ALL[..1], &plan, 520);
     written.bytes[..written.parts.3 as usize].to_vec()

@@ -68,7 +68,35 @@ fn loads() {
     }
 }
 
-/// The largest worst time at every period where its load is at a half: to the even neighbour. All other periods are
+/// Periods above those that are written: every sixteenth of 4095 ticks, every 62nd of 1057, every 17th of 3855.
+#[test]
+fn slow_loads() {
+    for (worst, part, k, period, load) in [
+        // 62.5 and 187.5, and next to them.
+        (4_095, 4_095, 16, 65_520, 62),
+        (12_285, 4_095, 16, 65_520, 188),
+        (4_094, 4_095, 16, 65_520, 62),
+        (4_096, 4_095, 16, 65_520, 63),
+        (12_284, 4_095, 16, 65_520, 187),
+        // 0.5, 1.5 and 2.5.
+        (32, 4_000, 16, 64_000, 0),
+        (96, 4_000, 16, 64_000, 2),
+        (160, 4_000, 16, 64_000, 2),
+        (161, 4_000, 16, 64_000, 3),
+        // The largest worst time: 1000.02, and 1000.
+        (65_535, 1_057, 62, 65_534, 1_000),
+        (65_535, 3_855, 17, 65_535, 1_000),
+        // 0.488 and 0.504.
+        (32, 3_855, 17, 65_535, 0),
+        (33, 3_855, 17, 65_535, 1),
+        (0, 3_855, 17, 65_535, 0),
+    ] {
+        let lines = [line(0, part, 0), line(1, period, load), format!("total{load:>20}")];
+        prints(&[at(part, 0), [9, 0, k, 0]], &[0, worst], &lines);
+    }
+}
+
+/// The largest worst time at every written period where its load is at a half: to the even neighbour. All other periods are
 /// tried in `pages.rs`.
 #[test]
 fn halves_of_the_largest_time() {
@@ -94,7 +122,7 @@ fn halves_of_the_largest_time() {
     prints(&loads.map(|(period, _)| at(period, 0)), &[65_535; 11], &lines);
 }
 
-/// The README's worked example; period, phase, conditions and load at their widest; and 0 to 4 conditions.
+/// The README's worked example; period, phase, conditions and load at their widest under conditions; 0 to 4 of these.
 #[test]
 fn by_hand() {
     let rows = [[0, 2, 0, 0], [9, 0, 2, 0], [7, 20, 1, 1], [4, 2, 1, 0], [13, 1, 3, 0]];
@@ -166,6 +194,28 @@ fn order_at_the_limits() {
         "total               11336",
     ];
     prints(&rows, &[4; 8], &lines);
+
+    // A constant and sixteen flows later than it, each by 4095 ticks but the last two, which come up to the limit; and two
+    // of the longest periods, each from tick 0 on and a period later.
+    let mut rows = vec![at(1, 4095)];
+    rows.extend((0..15).map(|before| [10, before, 4095, 0]));
+    rows.extend([[10, 15, 15, 0], [10, 15, 14, 0], at(2, 0)]);
+    rows.extend([at(3855, 0), [9, 19, 17, 0], [12, 20, 0, 0], at(1057, 0), [9, 22, 62, 0], [12, 23, 0, 0]]);
+    let mut lines: Vec<String> =
+        (0..16).map(|flow| format!("{flow:>2}     1 {:>5} 0     4000", 4_095 * (flow + 1))).collect();
+    lines.extend([
+        "17     1 65534 0     4000".to_string(),
+        "16     1 65535 0     4000".to_string(),
+        "18     2     0 0     2000".to_string(),
+        "22  1057     0 0        4".to_string(),
+        "19  3855     0 0        1".to_string(),
+        "23 65534     0 0        0".to_string(),
+        "24 65534 65534 0        0".to_string(),
+        "20 65535     0 0        0".to_string(),
+        "21 65535 65535 0        0".to_string(),
+        "total               74005".to_string(),
+    ]);
+    prints(&rows, &[4; 25], &lines);
 
     // The last flow of 64 is the only one that starts at once.
     let mut rows = [at(1, 1); 64];
@@ -254,7 +304,7 @@ fn order_of_refusals() {
         refused(&[], times, page_len, (11, 0, 0, 0));
         refused(&[input; 65], times, page_len, (11, 0, 0, 0));
         refused(&differ, times, page_len, (21, 2, 0, 0));
-        refused(&[input, [10, 0, 4095, 0], [10, 1, 1, 0]], times, page_len, (22, 2, 0, 0));
+        refused(&[input, [0, 2048, 0, 0], [9, 1, 32, 0]], times, page_len, (22, 2, 0, 0));
         refused(&[input, [13, 0, 0, 0], [12, 1, 0, 0]], times, page_len, (23, 2, 0, 0));
         refused(&[input, [0, 2, 0, 0], [17, 0, 1, 1]], times, page_len, (40, 2, 0, 0));
         refused(&[input, [0, 2, 0, 0], [7, 5, 0, 1]], times, page_len, (21, 2, 0, 0));

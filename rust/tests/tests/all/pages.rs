@@ -4,7 +4,7 @@ use tests::compare::{check, load_page, load_page_exactly, page_bytes, pattern_by
 use tests::generate::{accepted, Clock, Shape};
 use tests::implementation::{ALL, LIBRARY};
 use tests::rng::Rng;
-use tests::{rounds, Plan};
+use tests::{rounds, Plan, DERIVED, WRITTEN};
 
 /// How far twice the load is from an odd number, in parts of the period: none where the load is at a half.
 fn from_half(worst: u16, period: u32) -> u32 {
@@ -39,7 +39,7 @@ fn crowded(clocks: &[Clock]) -> bool {
 type Sort = (&'static str, fn(&[Clock], &[u16]) -> bool);
 
 /// The sorts that have to occur, each at least once in a hundred pages.
-static SORTS: [Sort; 18] = [
+static SORTS: [Sort; 20] = [
     ("one flow", |clocks, _| clocks.len() == 1),
     ("64 flows", |clocks, _| clocks.len() == 64),
     ("a later flow that comes first", |clocks, _| some_pair(clocks, |clock, later| later.period < clock.period)),
@@ -63,7 +63,9 @@ static SORTS: [Sort; 18] = [
     ("period 1 and time 65,535", |clocks, times| {
         some(clocks, times, |clock, worst| (clock.period, worst) == (1, 65_535))
     }),
-    ("period 4095", |clocks, _| clocks.iter().any(|clock| clock.period == 4095)),
+    ("period 4095", |clocks, _| clocks.iter().any(|clock| clock.period == WRITTEN)),
+    ("a period above it", |clocks, _| clocks.iter().any(|clock| clock.period > WRITTEN)),
+    ("a phase above it", |clocks, _| clocks.iter().any(|clock| clock.phase > WRITTEN)),
     ("time 0", |_, times| times.contains(&0)),
     ("1 condition", |clocks, _| clocks.iter().any(|clock| clock.conditions.len() == 1)),
     ("2 conditions", |clocks, _| clocks.iter().any(|clock| clock.conditions.len() == 2)),
@@ -85,14 +87,14 @@ fn shape(rng: &mut Rng) -> Shape {
         2 => 17 + rng.below(47),
         _ => 2 + rng.below(12),
     };
-    Shape { flows, scale: rng.pick(&[1, 4, 12, 100, 4095, 4095]), sampling: rng.percent(70) }
+    Shape { flows, scale: rng.pick(&[1, 4, 12, 100, WRITTEN, WRITTEN]), sampling: rng.percent(70) }
 }
 
 /// A plan of inputs on few clocks: two periods that are neighbours and one more, and up to four phases.
 fn few_clocks(rng: &mut Rng) -> (Plan, Vec<Clock>) {
     let first = rng.range(1, 4094);
-    let periods = [first, first + 1, rng.range(1, 4095)];
-    let any = rng.range(0, 4095);
+    let periods = [first, first + 1, rng.range(1, WRITTEN)];
+    let any = rng.range(0, WRITTEN);
     let phases: [u32; 4] = std::array::from_fn(|_| rng.pick(&[0, 1, 4094, 4095, any]));
     let flows = rng.range(2, 64);
     let clock = |_| Clock { period: rng.pick(&periods), phase: rng.pick(&phases), conditions: Vec::new() };
@@ -115,7 +117,11 @@ fn sample(plan: &mut Plan, clocks: &mut Vec<Clock>) {
 /// A worst time for a period: any, or an odd number of its sixteenths where it has them, whose load is at a half.
 fn time(rng: &mut Rng, period: u32) -> u16 {
     match period % 16 {
-        0 if rng.percent(40) => (period / 16 * (2 * rng.range(0, 128) + 1)) as u16,
+        0 if rng.percent(40) => {
+            let sixteenth = period / 16;
+            let most = 65_535 / sixteenth;
+            (sixteenth * (2 * rng.range(0, (most - 1) / 2) + 1)) as u16
+        }
         _ => rng.time(),
     }
 }
@@ -172,11 +178,10 @@ fn printed(outcome: &Outcome) -> (Vec<[u64; 4]>, u64) {
     (lines[..64].iter().map(line).collect(), number(&lines[64][5..]))
 }
 
-/// 64 flows of these clocks and worst times: each load is the nearest whole, of two that are equally near the even one,
-/// the lines are in order, each flow once, and the total is the sum of the loads.
-fn page_is_right(clocks: &[(u32, u32); 64], times: &[u16; 64]) {
-    let rows = clocks.map(|(period, phase)| [1, 7, period, phase]);
-    let (lines, total) = printed(&load_page_exactly(&ALL, &Plan::of(&rows), times));
+/// 64 rows of these clocks, with these worst times: each load is the nearest whole, of two that are equally near the even
+/// one, the lines are in order, each flow once, and the total is the sum of the loads.
+fn rows_are_right(rows: &[[u32; 4]; 64], clocks: &[(u32, u32); 64], times: &[u16; 64]) {
+    let (lines, total) = printed(&load_page_exactly(&ALL, &Plan::of(rows), times));
     for &[flow, period, phase, load] in &lines {
         let worst = u64::from(times[flow as usize]);
         let twice_away = (2 * load * period).abs_diff(2_000 * worst);
@@ -187,7 +192,32 @@ fn page_is_right(clocks: &[(u32, u32); 64], times: &[u16; 64]) {
     assert_eq!(lines.iter().map(|[.., load]| load).sum::<u64>(), total);
 }
 
-/// Every period there is, with times at the edges, any, and at halves.
+/// The same of constants on these clocks.
+fn page_is_right(clocks: &[(u32, u32); 64], times: &[u16; 64]) {
+    rows_are_right(&clocks.map(|(period, phase)| [1, 7, period, phase]), clocks, times);
+}
+
+/// The least copies of a period that a field has which make up a period above those, if there are any.
+fn part_of(period: u32) -> Option<(u32, u32)> {
+    let fits = |k: &u32| period.is_multiple_of(*k) && period / k <= WRITTEN;
+    (2..=63).find(fits).map(|k| (period / k, k))
+}
+
+/// The same of 32 constants and, over each of them, a slower row with one of these periods.
+fn slow_page_is_right(periods: &[u32; 32], phases: &[u32; 32], times: &[u16; 64]) {
+    let parts = periods.map(|period| part_of(period).expect("copies that make up the period"));
+    let row = |flow: usize| match flow.checked_sub(32) {
+        None => [1, 7, parts[flow].0, phases[flow]],
+        Some(part) => [9, part as u32, parts[part].1, 0],
+    };
+    let clock = |flow: usize| match flow.checked_sub(32) {
+        None => (parts[flow].0, phases[flow]),
+        Some(part) => (periods[part], phases[part]),
+    };
+    rows_are_right(&std::array::from_fn(row), &std::array::from_fn(clock), times);
+}
+
+/// Every period that is written, with times at the edges, any, and at halves.
 #[test]
 fn every_period() {
     let mut rng = Rng::new(113);
@@ -202,13 +232,52 @@ fn every_period() {
     }
 }
 
-/// Every phase there is, at each of two flows, in mixed order.
+/// Every longer period that a slower row gives, likewise.
+#[test]
+fn every_slow_period() {
+    let mut rng = Rng::new(114);
+    let slow: Vec<u32> = (WRITTEN + 1..=DERIVED).filter(|&period| part_of(period).is_some()).collect();
+    assert_eq!((slow.len(), slow[0], slow[slow.len() - 1]), (41_320, 4_096, DERIVED));
+    for first in (0..slow.len()).step_by(32) {
+        let periods = std::array::from_fn(|place| slow[(first + place).min(slow.len() - 1)]);
+        let phases = std::array::from_fn(|_| rng.range(0, WRITTEN));
+        for worst in [1, 65_535] {
+            slow_page_is_right(&periods, &phases, &[worst; 64]);
+        }
+        for _ in 0..rounds(2) {
+            let times = std::array::from_fn(|flow| time(&mut rng, periods[flow % 32]));
+            slow_page_is_right(&periods, &phases, &times);
+        }
+    }
+}
+
+/// Every phase that is written, at each of two flows, in mixed order.
 #[test]
 fn every_phase() {
     for period in [1, 2, 7, 4095] {
         for first in (0..=4095).step_by(32) {
             let clocks = std::array::from_fn(|place| (period, first + 5 * place as u32 % 32));
             page_is_right(&clocks, &[3; 64]);
+        }
+    }
+}
+
+/// Every later phase there is, in mixed order: 48 rows over a constant and fifteen rows that are 4095 ticks later each.
+#[test]
+fn every_late_phase() {
+    for period in [1, 4095] {
+        for first in (WRITTEN + 1..=DERIVED).step_by(48) {
+            let phase = |flow: usize| match flow as u32 {
+                flow @ 0..16 => WRITTEN * (flow + 1),
+                flow => DERIVED.min(first + 5 * flow % 48),
+            };
+            let row = |flow: usize| match flow as u32 {
+                0 => [1, 7, period, WRITTEN],
+                flow @ 1..16 => [10, flow - 1, WRITTEN, 0],
+                _ => [10, phase(flow) / WRITTEN - 1, phase(flow) % WRITTEN, 0],
+            };
+            let clocks = std::array::from_fn(|flow| (period, phase(flow)));
+            rows_are_right(&std::array::from_fn(row), &clocks, &[3; 64]);
         }
     }
 }
@@ -223,7 +292,23 @@ fn every_time() {
     }
 }
 
-/// Every half there is, 64 on a page.
+/// Every half over a longer period that a slower row gives, 32 on a page. Only multiples of 16 have them.
+#[test]
+fn every_slow_half() {
+    let mut halves: Vec<(u32, u16)> = Vec::new();
+    for period in (WRITTEN + 1..=DERIVED).filter(|period| period.is_multiple_of(16) && part_of(*period).is_some()) {
+        halves.extend((0..=65_535).filter(|&worst| from_half(worst, period) == 0).map(|worst| (period, worst)));
+    }
+    let above_odd = halves.iter().filter(|&&(period, worst)| is_half_above(1, worst, period)).count();
+    assert_eq!((halves.len(), above_odd), (302_474, 150_280));
+    for first in (0..halves.len()).step_by(32) {
+        let half = |place: usize| halves[(first + place % 32).min(halves.len() - 1)];
+        let periods = std::array::from_fn(|place| half(place).0);
+        slow_page_is_right(&periods, &[0; 32], &std::array::from_fn(|place| half(place).1));
+    }
+}
+
+/// Every half over a period that is written, 64 on a page.
 #[test]
 fn every_half() {
     let mut halves: Vec<(u32, u16)> = Vec::new();

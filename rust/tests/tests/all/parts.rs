@@ -8,7 +8,7 @@ use tests::generate::{accepted, Shape};
 use tests::implementation::{Implementation, ALL, LIBRARY, QUICK};
 use tests::rng::Rng;
 use tests::tally::Tally;
-use tests::{is_view, rounds, Plan, CLOCK_WORDS};
+use tests::{is_view, rounds, Plan, CLOCK_WORDS, TICKS, WRITTEN};
 
 /// What the check answers: number and flow.
 fn checked(plan: &Plan) -> (u32, u32) {
@@ -224,7 +224,7 @@ pub fn every_plan(
 pub fn of_several(a: u32, flow: u32, count: u32) -> Vec<[u32; 4]> {
     let mut rows: Vec<[u32; 4]> = (0..count).map(|source| [7, 5, a, source]).collect();
     for b in 0..flow {
-        rows.extend([[2, a, b, 0], [13, a, b, 0], [14, a, b, 0], [17, a, b, 2], [18, a, b, 4]]);
+        rows.extend([[2, a, b, 0], [13, a, b, 0], [14, a, b, 0], [17, a, b, 17], [18, a, b, 4095]]);
         rows.extend((0..flow).map(|c| [15, c, a, b]));
     }
     rows
@@ -233,9 +233,9 @@ pub fn of_several(a: u32, flow: u32, count: u32) -> Vec<[u32; 4]> {
 /// All rows over lower flows, with two inputs and one choice of copies, gaps, delays and ticks: 21, 22, 23 and 40 are all
 /// within reach of few of them.
 fn any_kind(flow: u32, count: u32) -> Vec<[u32; 4]> {
-    let mut rows = vec![[0, 1, 0, 0], [0, 2, 2, 0]];
+    let mut rows = vec![[0, 1, 0, 0], [0, 4095, 4095, 0]];
     for a in 0..flow {
-        rows.extend([[8, a, 2, 1], [9, a, 2, 0], [10, a, 4094, 0], [11, a, 9, 0], [12, a, 0, 0]]);
+        rows.extend([[8, a, 17, 1], [9, a, 17, 0], [10, a, 4095, 0], [11, a, 9, 0], [12, a, 0, 0]]);
         rows.extend(of_several(a, flow, count));
     }
     rows
@@ -276,7 +276,7 @@ fn every_plan_of_five_rows() {
 /// A plan of up to so many flows that was sound and is broken, or now and then still sound.
 fn broken(rng: &mut Rng, most: usize) -> Plan {
     let shape =
-        Shape { flows: 2 + rng.below(most - 1), scale: rng.pick(&[1, 2, 4, 12, 4095]), sampling: rng.percent(60) };
+        Shape { flows: 2 + rng.below(most - 1), scale: rng.pick(&[1, 2, 4, 12, WRITTEN]), sampling: rng.percent(60) };
     let (mut plan, _) = accepted(rng, shape);
     if rng.percent(95) {
         break_clocks(rng, &mut plan);
@@ -337,18 +337,18 @@ fn random_plans_up_to_64_flows() {
     random_plans(132, &QUICK, 30_000, 64, &[]);
 }
 
-/// A least part without sampling and merging clashes in a run of 8,191 ticks, whatever the log.
+/// A least part without sampling and merging clashes in a run of 131,071 ticks, whatever the log.
 #[test]
 fn least_parts_that_run() {
     let mut rng = Rng::new(134);
-    let (mut clashed, plans) = (0, rounds(20_000));
+    let (mut clashed, plans) = (0, rounds(3_000));
     for _ in 0..plans {
-        let shape = Shape { flows: 2 + rng.below(30), scale: rng.pick(&[2, 6, 100, 4095]), sampling: false };
+        let shape = Shape { flows: 2 + rng.below(30), scale: rng.pick(&[2, 6, 100, WRITTEN]), sampling: false };
         let (mut plan, _) = accepted(&mut rng, shape);
         break_clocks(&mut rng, &mut plan);
         if let Some(Least { part, .. }) = least(&QUICK, &plan).filter(|least| least.part.free_of_sampling()) {
-            let log = rng.log(8_191 * part.inputs());
-            assert_eq!(run_exactly(&[&LIBRARY], &part, &log, 8_191).parts.0, 34, "{part:?}");
+            let log = rng.log(TICKS as usize * part.inputs());
+            assert_eq!(run_exactly(&[&LIBRARY], &part, &log, TICKS).parts.0, 34, "{part:?}");
             clashed += 1;
         }
     }

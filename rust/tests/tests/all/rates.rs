@@ -7,7 +7,7 @@ use tests::generate::{accepted, erase_rates, Shape};
 use tests::implementation::{Implementation, ALL, LIBRARY, QUICK};
 use tests::rng::Rng;
 use tests::tally::Tally;
-use tests::{is_view, rounds, Plan, CLOCK_WORDS};
+use tests::{is_view, rounds, Plan, CLOCK_WORDS, WRITTEN};
 
 /// An input without a rate.
 pub const OPEN: [u32; 4] = [16, 0, 0, 0];
@@ -203,7 +203,7 @@ impl Seen {
 /// A sound plan of up to so many flows, most constants made inputs. Mostly rows are added that join flows on one clock.
 fn sound(rng: &mut Rng, most: usize) -> Plan {
     let (flows, is_joined) = (1 + rng.below(most), rng.percent(80));
-    let shape = Shape { flows, scale: rng.pick(&[1, 2, 4, 12, 4095]), sampling: rng.percent(50) };
+    let shape = Shape { flows, scale: rng.pick(&[1, 2, 4, 12, WRITTEN]), sampling: rng.percent(50) };
     let (mut plan, mut clocks) = accepted(rng, shape);
     for row in plan.words.chunks_exact_mut(4).filter(|row| row[0] == 1 && rng.percent(80)) {
         row.copy_from_slice(&[0, row[2], row[3], 0]);
@@ -245,10 +245,10 @@ fn chain(rng: &mut Rng, most: usize) -> (Plan, Plan) {
         let (a, k, d) = (flow - 1, rng.range(1, 4), rng.range(0, 60));
         let row = match rng.below(8) {
             0 if period.is_multiple_of(k) => [8, a, k, period / k],
-            1 if period * k <= 4095 => [9, a, k, 0],
-            2 | 3 if phase + d <= 4095 => [10, a, d, 0],
+            1 if period * k <= WRITTEN => [9, a, k, 0],
+            2 | 3 if phase + d <= WRITTEN => [10, a, d, 0],
             4 | 5 if phase >= period => [11, a, 9, phase - period],
-            6 if phase + period <= 4095 => [12, a, 0, 0],
+            6 if phase + period <= WRITTEN => [12, a, 0, 0],
             7 => [7, 9, a, flow],
             _ => [2, a, a, 0],
         };

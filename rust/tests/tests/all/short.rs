@@ -2,12 +2,12 @@
 
 use tests::compare::{check, fill_rates, least_flows, least_part, listing, load_page, long_run, page_bytes, read};
 use tests::compare::{run, window, write, Lengths};
-use tests::faults::{any_rows, disturb, plant};
+use tests::faults::{any_rows, beyond, disturb, plant};
 use tests::generate::{accepted, erase_rates, Clock, Shape};
 use tests::implementation::{Implementation, ALL};
 use tests::rng::Rng;
 use tests::tally::Tally;
-use tests::{rounds, Plan, CLOCK_WORDS, LISTING_MAX};
+use tests::{rounds, Plan, CLOCK_WORDS, DERIVED, LISTING_MAX, WRITTEN};
 
 /// A plan that is meant to be accepted, with its clocks.
 pub fn sound(rng: &mut Rng) -> (Plan, Vec<Clock>) {
@@ -62,7 +62,7 @@ pub fn ticks_and_log(rng: &mut Rng, plan: &Plan, others: &[u32]) -> (u32, Vec<u3
 
 /// A run of few ticks, its log and traces now and then of the wrong length, its ticks now and then too many.
 fn short_run(rng: &mut Rng, of: &[&Implementation], plan: &Plan, tally: &mut Tally) {
-    let (ticks, log) = ticks_and_log(rng, plan, &[65_535, 65_536, 65_537, u32::MAX]);
+    let (ticks, log) = ticks_and_log(rng, plan, &[131_071, 131_072, 131_073, u32::MAX]);
     let cells = ticks.min(64) as usize * (plan.words.len() / 4);
     let lengths = match rng.percent(80) {
         true => (cells, cells),
@@ -77,7 +77,7 @@ fn short_run(rng: &mut Rng, of: &[&Implementation], plan: &Plan, tally: &mut Tal
 /// `endurance` has the others.
 fn short_long_run(rng: &mut Rng, of: &[&Implementation], plan: &Plan, tally: &mut Tally) {
     let (ticks, log) = ticks_and_log(rng, plan, &[4_194_304, 4_194_305, u32::MAX]);
-    let lengths = match rng.below(400) {
+    let lengths = match rng.below(4_000) {
         0 => window(plan.words.len() / 4),
         _ => Lengths { bytes: rng.below(64), words: rng.below(64), tallies: rng.below(130) },
     };
@@ -195,17 +195,24 @@ fn any_plans_second() {
     any_plans(6, 120_000);
 }
 
-/// Periods, phases and delays up to 4095, where clocks come close to the limits: sound, or with one number changed.
+/// Periods, phases and delays as great as fields have them, where clocks come up to their limits: sound, with one number
+/// changed, or led past them.
 #[test]
 fn large_numbers() {
     let mut rng = Rng::new(7);
     let mut tally = Tally::default();
     let plans = 60_000;
+    // The periods and the phases at their limit, of plans as they were made.
+    let (mut periods, mut phases) = (0, 0);
     for round in 0..rounds(plans) {
         let flows = 1 + rng.below(16);
-        let (mut plan, _) = accepted(&mut rng, Shape { flows, scale: 4095, sampling: round % 4 == 0 });
-        if round % 2 == 0 {
-            disturb(&mut rng, &mut plan);
+        let (mut plan, clocks) = accepted(&mut rng, Shape { flows, scale: WRITTEN, sampling: round % 4 == 0 });
+        periods += clocks.iter().filter(|clock| clock.period == DERIVED).count();
+        phases += clocks.iter().filter(|clock| clock.phase == DERIVED).count();
+        match round % 16 {
+            0 => beyond(&mut rng, &mut plan),
+            place if place % 2 == 0 => disturb(&mut rng, &mut plan),
+            _ => {}
         }
         if let Some(packed) = every_call(&mut rng, &ALL, &plan, &mut tally) {
             assert_eq!(read(&ALL, &packed, plan.words.len()).parts, (0, 0, 0, plan.count));
@@ -215,4 +222,5 @@ fn large_numbers() {
     for number in [21, 22] {
         assert!(tally.count("check", number) > plans / 500, "number {number} occurs: {tally}");
     }
+    assert!(periods > plans / 500 && phases > plans / 5_000, "{periods} and {phases} of {plans} plans");
 }

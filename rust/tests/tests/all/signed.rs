@@ -61,14 +61,14 @@ fn random_plans() {
     assert!(less > plans / 4 && larger > plans / 4, "{less} and {larger} cells of {plans} plans");
 }
 
-/// Long runs, some times round the window.
+/// Long runs, once and more often round the window.
 #[test]
 fn long_runs() {
     let mut rng = Rng::new(122);
-    for _ in 0..rounds(60) {
+    for _ in 0..rounds(10) {
         let shape = Shape::long(&mut rng);
         let (plan, _) = accepted(&mut rng, shape);
-        let ticks = rng.range(8_193, 30_000);
+        let ticks = rng.range(131_073, 300_000);
         let log = log(&mut rng, ticks as usize * plan.inputs());
         ends(&THREE, &plan, &log, ticks);
     }

@@ -4,9 +4,9 @@
 use tests::compare::{check, run_exactly, words_are, Outcome};
 use tests::faults::{any_rows, any_views, disturb};
 use tests::generate::{accepted, Clock, Shape};
-use tests::implementation::{ALL, LIBRARY};
+use tests::implementation::ALL;
 use tests::rng::Rng;
-use tests::{is_view, rounds, Plan, CLOCK_WORDS};
+use tests::{is_view, rounds, Plan, CLOCK_WORDS, WINDOW, WRITTEN};
 
 use crate::endurance::{ends, FOUR, THREE};
 use crate::short::faulty;
@@ -169,7 +169,7 @@ fn is_viewed(clock: &Clock) -> bool {
 /// The sorts of accepted plans.
 static ACCEPTED: [Sort<Accepted>; 21] = [
     ("w 1", |plan| some_view(plan, |_, _, w| w == 1)),
-    ("w 4095", |plan| some_view(plan, |_, _, w| w == 4095)),
+    ("w 4095", |plan| some_view(plan, |_, _, w| w == WRITTEN)),
     ("a period above c's", |plan| some_view(plan, |a, c, _| a.period > c.period)),
     ("a period below c's", |plan| some_view(plan, |a, c, _| a.period < c.period)),
     ("two periods of which neither is w", |plan| some_view(plan, |a, c, w| a.period.max(c.period) < w)),
@@ -204,7 +204,7 @@ fn accepted_plans() {
     let (mut seen, mut looked, plans) = (Seen::new(&ACCEPTED), Seen::new(&LOOKS), rounds(40_000));
     for round in 0..plans {
         let (plan, clocks) = viewing(&mut rng, |rng| match round % 4 {
-            0 => Shape { flows: 3 + rng.below(14), scale: 4095, sampling: true },
+            0 => Shape { flows: 3 + rng.below(14), scale: WRITTEN, sampling: true },
             1 => Shape { flows: 17 + rng.below(24), scale: rng.pick(&[1, 2, 4]), sampling: true },
             _ => Shape::short(rng),
         });
@@ -361,15 +361,14 @@ fn beside_when() {
 #[test]
 fn long_runs() {
     let mut rng = Rng::new(155);
-    let (mut looked, mut over, plans) = (Seen::new(&LOOKS), 0, rounds(120));
+    let (mut looked, mut over, plans) = (Seen::new(&LOOKS), 0, rounds(20));
     for _ in 0..plans {
         let (plan, _) = viewing(&mut rng, Shape::long);
-        let ticks = rng.range(8_193, 40_000);
+        let ticks = rng.range(131_073, 400_000);
         let log = rng.log(ticks as usize * plan.inputs());
-        ends(&THREE, &plan, &log, ticks);
-        let trace = run_exactly(&[&LIBRARY], &plan, &log, ticks);
+        let trace = ends(&THREE, &plan, &log, ticks);
         for look in looks(&plan, &trace, ticks as usize) {
-            over += usize::from(look.read.is_some_and(|read| read / 8_192 < look.start / 8_192));
+            over += usize::from(look.read.is_some_and(|read| read / WINDOW < look.start / WINDOW));
             looked.add(&look);
         }
     }

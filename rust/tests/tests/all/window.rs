@@ -2,7 +2,7 @@
 
 use tests::compare::{keeps, long_run, long_run_exactly, pattern_byte, pattern_word, run_exactly, window, Lengths};
 use tests::implementation::{Implementation, Parts, ALL, LIBRARY};
-use tests::Plan;
+use tests::{Plan, TICKS, WINDOW};
 
 use crate::endurance::{FOUR, THREE};
 use crate::traces::in_writing;
@@ -22,8 +22,8 @@ fn leaves(
     assert_eq!(outcome.parts, (0, 0, 0, ticks as u32), "{rows:?}");
     for place in 0..outcome.bytes.len() {
         let (first, flow) = (place / flows, place % flows);
-        let expected = match first < ticks.min(8_192) {
-            true => cell(first + (ticks - 1 - first) / 8_192 * 8_192, flow).map_or((0, 0), |value| (1, value)),
+        let expected = match first < ticks.min(WINDOW) {
+            true => cell(first + (ticks - 1 - first) / WINDOW * WINDOW, flow).map_or((0, 0), |value| (1, value)),
             false => (pattern_byte(place), pattern_word(place)),
         };
         let found = (outcome.bytes[place], outcome.words[place]);
@@ -65,17 +65,35 @@ fn by_hand() {
 #[test]
 fn edges() {
     let rows = [[0, 1, 0, 0], [1, 9, 3, 1], [10, 0, 5, 0]];
-    for ticks in [0, 1, 2, 8_191, 8_192, 8_193, 16_383, 16_384, 16_385] {
+    for ticks in [0, 1, 2, 131_071, 131_072, 131_073, 262_143, 262_144, 262_145] {
         let log = counting(ticks);
         let last = |back: usize| if ticks > back { log[ticks - 1 - back] } else { 0 };
         let (threes, later) = ((ticks + 1) / 3, ticks.saturating_sub(5));
         let third = if threes > 0 { 9 } else { 0 };
         let tallies = [ticks as u32, last(0), threes as u32, third, later as u32, last(5)];
-        leaves(&FOUR, &rows, &log, ticks, &tallies, |tick, flow| match flow {
+        let of = if ticks < 100 { &FOUR[..] } else { &THREE };
+        leaves(of, &rows, &log, ticks, &tallies, |tick, flow| match flow {
             0 => Some(log[tick]),
             1 => (tick % 3 == 1).then_some(9),
             _ => tick.checked_sub(5).map(|tick| log[tick]),
         });
+    }
+}
+
+/// The same edges with long clocks, which the paper word by word takes too: a recorder, its values from the second on, and
+/// all of them 4095 ticks later.
+#[test]
+fn edges_of_long_clocks() {
+    let rows = [[0, 3855, 0, 0], [9, 0, 17, 0], [12, 1, 0, 0], [10, 1, 4095, 0]];
+    for ticks in [131_070, 131_071, 131_072, 131_073, 262_140, 262_141, 262_144, 262_145] {
+        let log = counting(ticks);
+        let cell = |tick: usize, flow: usize| match flow {
+            0 => tick.is_multiple_of(3_855).then(|| log[tick]),
+            1 => tick.is_multiple_of(65_535).then(|| log[tick]),
+            2 => (tick > 0 && tick.is_multiple_of(65_535)).then(|| log[tick]),
+            _ => tick.checked_sub(4_095).filter(|tick| tick.is_multiple_of(65_535)).map(|tick| log[tick]),
+        };
+        leaves(&FOUR, &rows, &log, ticks, &counted(rows.len(), ticks, cell), cell);
     }
 }
 
@@ -108,13 +126,12 @@ fn delays_over_the_edge() {
     for delays in [&[4_095][..], &[1, 4_095, 4_094], &widest] {
         let mut rows = vec![[0, 1, 0, 0]];
         rows.extend(delays.iter().map(|&d| [10, 0, d, 0]));
-        for ticks in [8_193, 12_286, 12_287, 12_288, 16_384, 20_000] {
+        for ticks in [131_073, 135_166, 135_167, 135_168, 262_144, 280_000] {
             let log = counting(ticks);
             let delay = |flow: usize| if flow == 0 { 0 } else { delays[flow - 1] as usize };
             let tally = |flow| [(ticks - delay(flow)) as u32, log[ticks - 1 - delay(flow)]];
             let tallies: Vec<u32> = (0..rows.len()).flat_map(tally).collect();
-            let of = if rows.len() == 2 { &FOUR[..] } else { &THREE };
-            leaves(of, &rows, &log, ticks, &tallies, |tick, flow| Some(log[tick.checked_sub(delay(flow))?]));
+            leaves(&THREE, &rows, &log, ticks, &tallies, |tick, flow| Some(log[tick.checked_sub(delay(flow))?]));
         }
     }
 }
@@ -138,8 +155,7 @@ fn views_over_the_edge() {
         let mut rows = vec![[0, 1, 0, 0]];
         rows.extend(views.iter().map(|&(d, _)| [10, 0, d, 0]));
         rows.extend((1..).zip(views).map(|(a, &(_, w))| [18 - w % 2, a, 0, w]));
-        let of = if rows.len() == 3 { &FOUR[..] } else { &THREE };
-        for ticks in [8_193, 12_287, 12_288, 20_000, 24_577] {
+        for ticks in [131_073, 135_167, 135_168, 262_145, 280_000] {
             let log: Vec<u32> = (0..ticks as u32).map(|tick| tick / 5 % 3 * (1_000 + tick)).collect();
             let later = |tick: usize, view: usize| Some(log[tick.checked_sub(views[view].0 as usize)?]);
             let cell = |tick: usize, flow: usize| match (flow, flow.checked_sub(1 + views.len())) {
@@ -151,8 +167,40 @@ fn views_over_the_edge() {
                     later(tick, view).filter(|_| (seen != 0) == (w % 2 == 1))
                 }
             };
-            leaves(of, &rows, &log, ticks, &counted(rows.len(), ticks, cell), cell);
+            leaves(&THREE, &rows, &log, ticks, &counted(rows.len(), ticks, cell), cell);
         }
+    }
+}
+
+/// The longest look back, 65,535 ticks: readings that begin so late, under a switch that began at once. Long clocks, which
+/// the paper word by word takes too, and every tick.
+#[test]
+fn the_longest_look_back() {
+    for (of, period, w, ticks) in [
+        (&FOUR[..], 195, 4_095, 131_073),
+        (&FOUR[..], 4_095, 4_095, 200_000),
+        (&THREE[..], 1, 1, 131_073),
+        (&THREE[..], 1, 4_095, 196_608),
+        (&THREE[..], 5, 35, 196_609),
+        (&THREE[..], 45, 4_095, 4_194_303),
+    ] {
+        let mut rows = vec![[0, period, 0, 0]];
+        rows.extend((0..16).map(|before| [10, before, 4095, 0]));
+        rows.extend([[10, 16, 15, 0], [17, 17, 0, w], [18, 17, 0, w]]);
+        let log: Vec<u32> = (0..ticks as u32).map(|tick| tick / w % 3 * (1_000 + tick)).collect();
+        let later = |tick: usize, back: usize| {
+            tick.checked_sub(back).filter(|tick| tick.is_multiple_of(period as usize)).map(|tick| log[tick])
+        };
+        let cell = |tick: usize, flow: usize| match flow {
+            0..=16 => later(tick, 4_095 * flow),
+            17 => later(tick, 65_535),
+            _ => {
+                let value = later(tick, 65_535)?;
+                let seen = log[(tick - 65_535) / w as usize * w as usize];
+                Some(value).filter(|_| (seen != 0) == (flow == 18))
+            }
+        };
+        leaves(of, &rows, &log, ticks, &counted(rows.len(), ticks, cell), cell);
     }
 }
 
@@ -193,10 +241,11 @@ fn far_apart(of: &[&Implementation], ticks: usize, holds: &[usize]) {
 
 #[test]
 fn sources_of_long_ago() {
-    far_apart(&FOUR, 40_000, &[30, 20_030, 20_040, 37_000]);
-    far_apart(&FOUR, 20_001, &[0, 8_200, 20_000]);
+    far_apart(&FOUR, 140_000, &[30, 131_110, 131_120, 137_000]);
+    far_apart(&THREE, 600_000, &[30, 300_030, 300_040, 570_000]);
+    far_apart(&THREE, 280_001, &[0, 140_000, 280_000]);
     far_apart(&THREE, 4_194_291, &[0, 4_194_290]);
-    far_apart(&THREE, 4_194_303, &[8_190, 4_000_000]);
+    far_apart(&THREE, 4_194_303, &[131_070, 4_000_000]);
 }
 
 /// Each of the three buffers one short, exact and one long, however few the ticks.
@@ -204,14 +253,14 @@ fn sources_of_long_ago() {
 fn lengths() {
     let plan = Plan::of(&[[0, 4, 0, 0], [1, 7, 3, 2], [10, 0, 5, 0]]);
     let Lengths { bytes, words, tallies } = window(3);
-    for ticks in [0, 1, 9, 8_193] {
+    for ticks in [0, 1, 9, 131_071] {
         let log = counting(ticks as usize);
         let trace = run_exactly(&[&LIBRARY], &plan, &log, ticks);
         for case in 0..27 {
             let more = [case % 3, case / 3 % 3, case / 9];
             let lengths =
                 Lengths { bytes: bytes + more[0] - 1, words: words + more[1] - 1, tallies: tallies + more[2] - 1 };
-            let outcome = long_run(&FOUR, &plan, &log, ticks, lengths);
+            let outcome = long_run(if ticks < 100 { &FOUR[..] } else { &THREE }, &plan, &log, ticks, lengths);
             if more.contains(&0) {
                 assert_eq!(outcome.parts, (35, 0, 0, 0), "{lengths:?}");
                 assert!(outcome.is_untouched(), "{lengths:?}");
@@ -243,7 +292,7 @@ fn order_of_refusals() {
     refused(&[], 0, u32::MAX, none, (11, 0, 0, 0));
     for (log, ticks, lengths) in [(0, u32::MAX, none), (1, 1, window(3)), (2, 1, none), (2, 1, window(3))] {
         refused(&differ, log, ticks, lengths, (21, 2, 0, 0));
-        refused(&[input, [10, 0, 4095, 0], [10, 1, 1, 0]], log, ticks, lengths, (22, 2, 0, 0));
+        refused(&[input, [9, 0, 63, 0], [9, 1, 63, 0], [9, 2, 63, 0]], log, ticks, lengths, (22, 3, 0, 0));
         refused(&[input, [13, 0, 0, 0], [12, 1, 0, 0]], log, ticks, lengths, (23, 2, 0, 0));
         refused(&[[0, 2, 0, 0], [0, 3, 1, 0], [17, 0, 1, 6]], log, ticks, lengths, (40, 2, 0, 0));
         refused(&[input, [0, 2, 0, 0], [7, 5, 0, 1]], log, ticks, lengths, (21, 2, 0, 0));
@@ -266,7 +315,7 @@ fn order_of_refusals() {
 #[test]
 fn ticks_past_those_of_a_run() {
     let rows = [[0, 5, 2, 0], [9, 0, 2, 0]];
-    for ticks in [65_535, 65_536, 65_537] {
+    for ticks in [TICKS as usize, TICKS as usize + 1, TICKS as usize + 2] {
         let log = counting(ticks);
         let (fives, tens) = ((ticks + 2) / 5, (ticks + 7) / 10);
         let tallies = [fives, 5 * fives - 3 + 1_000, tens, 10 * tens - 8 + 1_000].map(|word| word as u32);

@@ -9,7 +9,7 @@ use tests::faults::any_rows;
 use tests::generate::erase_rates;
 use tests::implementation::LIBRARY;
 use tests::rng::Rng;
-use tests::rounds;
+use tests::{rounds, TICKS, WINDOW};
 
 use crate::short::faulty;
 
@@ -106,7 +106,7 @@ fn traces() {
     assert_eq!((trace.flows(), trace.cells()), (5, 50));
     assert!(trace.has(9, 4) && !trace.has(8, 5) && !trace.has(10, 0) && !trace.has(usize::MAX, 0));
     assert_eq!(plan.run(&log, 9), Err(Refusal::BadLogLength.into()));
-    assert_eq!(plan.run(&log, 65_536), Err(Refusal::TooManyTicks.into()));
+    assert_eq!(plan.run(&log, TICKS + 1), Err(Refusal::TooManyTicks.into()));
     assert_eq!(Plan::new([0; 4 * 65]).run(&log, 10), Err(Refusal::BadCount.into()));
     assert_eq!(Plan::new([]).run(&log, 10), Err(Refusal::BadCount.into()));
     assert_eq!(Plan::new([0, 1, 0]).clocks(), Err(Refusal::BadCount));
@@ -148,26 +148,26 @@ fn long_runs() {
     // Flow 0 has values at ticks 1, 4, 7 and so on, by turns 0 and 3; flows 2 and 3 where they are 3; flow 4 never.
     let rows = [[0, 3, 1, 0], [10, 0, 4, 0], [13, 0, 0, 0], [13, 2, 2, 0], [14, 3, 3, 0]];
     let plan = Plan::new(rows.concat());
-    let log: Vec<u32> = (0..20_000).map(|tick| if tick % 2 == 0 { 3 } else { 0 }).collect();
-    let run = plan.long_run(&log, 20_000).expect("accepted");
-    assert_eq!((run.flows(), run.ticks(), run.first_tick()), (5, 20_000, 11_808));
-    assert_eq!([0, 1, 2, 3, 4, 5].map(|flow| run.count(flow)), [6_667, 6_665, 3_333, 3_333, 0, 0]);
+    let log: Vec<u32> = (0..200_000).map(|tick| if tick % 2 == 0 { 3 } else { 0 }).collect();
+    let run = plan.long_run(&log, 200_000).expect("accepted");
+    assert_eq!((run.flows(), run.ticks(), run.first_tick()), (5, 200_000, 68_928));
+    assert_eq!([0, 1, 2, 3, 4, 5].map(|flow| run.count(flow)), [66_667, 66_665, 33_333, 33_333, 0, 0]);
     assert_eq!([0, 1, 2, 3].map(|flow| run.last(flow)), [Some(0), Some(0), Some(3), Some(3)]);
     assert_eq!((run.last(4), run.last(5), run.last(usize::MAX)), (None, None, None));
-    assert_eq!((run.value(19_999, 0), run.value(19_996, 0), run.value(19_998, 0)), (Some(0), Some(3), None));
-    assert_eq!((run.value(11_809, 0), run.value(11_810, 1), run.value(11_812, 2)), (Some(0), Some(3), Some(3)));
-    assert_eq!((run.value(11_808, 0), run.value(11_809, 2), run.value(11_806, 0)), (None, None, None));
-    assert!(run.has(11_808, 0) && run.has(19_999, 4) && !run.has(11_807, 0) && !run.has(20_000, 0));
-    assert!(!run.has(19_999, 5) && !run.has(usize::MAX, 0) && !run.has(12_000, usize::MAX));
+    assert_eq!((run.value(199_999, 0), run.value(199_996, 0), run.value(199_998, 0)), (Some(0), Some(3), None));
+    assert_eq!((run.value(68_929, 0), run.value(68_930, 1), run.value(68_932, 2)), (Some(0), Some(3), Some(3)));
+    assert_eq!((run.value(68_928, 0), run.value(68_929, 2), run.value(68_926, 0)), (None, None, None));
+    assert!(run.has(68_928, 0) && run.has(199_999, 4) && !run.has(68_927, 0) && !run.has(200_000, 0));
+    assert!(!run.has(199_999, 5) && !run.has(usize::MAX, 0) && !run.has(70_000, usize::MAX));
 
     let few = plan.long_run(&log[..5], 5).expect("accepted");
     assert_eq!((few.ticks(), few.first_tick(), few.count(0), few.last(1)), (5, 0, 2, None));
-    assert!(few.has(0, 0) && few.has(4, 4) && !few.has(5, 0) && !few.has(8_192, 0));
+    assert!(few.has(0, 0) && few.has(4, 4) && !few.has(5, 0) && !few.has(WINDOW, 0));
     let none = plan.long_run(&[], 0).expect("accepted");
     assert_eq!((none.ticks(), none.first_tick(), none.count(0), none.last(0)), (0, 0, 0, None));
     assert!(!none.has(0, 0));
     let all = Plan::new([1, 8, 1, 0]).long_run(&[], 4_194_303).expect("accepted");
-    assert_eq!((all.ticks(), all.first_tick(), all.count(0), all.last(0)), (4_194_303, 4_186_111, 4_194_303, Some(8)));
+    assert_eq!((all.ticks(), all.first_tick(), all.count(0), all.last(0)), (4_194_303, 4_063_231, 4_194_303, Some(8)));
 }
 
 #[test]
@@ -190,7 +190,7 @@ fn same_window(run: &LongRun, outcome: &Outcome) {
     let (flows, ticks) = (run.flows(), run.ticks());
     for tick in run.first_tick()..ticks {
         for flow in 0..flows {
-            let place = tick % 8_192 * flows + flow;
+            let place = tick % WINDOW * flows + flow;
             let value = (outcome.bytes[place] == 1).then_some(outcome.words[place]);
             assert_eq!((run.value(tick, flow), run.has(tick, flow)), (value, true), "tick {tick}, flow {flow}");
         }
@@ -199,18 +199,18 @@ fn same_window(run: &LongRun, outcome: &Outcome) {
         let tally = [run.count(flow) as u32, run.last(flow).unwrap_or(0)];
         assert_eq!(tally, outcome.tallies[2 * flow..][..2], "flow {flow}");
     }
-    assert!(ticks <= 8_192 || !run.has(ticks - 8_193, 0));
+    assert!(ticks <= WINDOW || !run.has(ticks - WINDOW - 1, 0));
     assert!(!run.has(ticks, 0) && !run.has(ticks.saturating_sub(1), flows));
 }
 
 #[test]
 fn long_runs_of_random_plans() {
     let mut rng = Rng::new(96);
-    let (mut ended, plans) = (0, rounds(2_000));
+    let (mut ended, plans) = (0, rounds(400));
     for round in 0..plans {
         let mut plan = if round % 2 == 0 { any_rows(&mut rng) } else { faulty(&mut rng) };
         plan.count = plan.words.len() as u32 / 4;
-        let ticks = if round % 20 == 0 { rng.range(8_190, 17_000) } else { rng.range(0, 20) };
+        let ticks = if round % 20 == 0 { rng.range(131_070, 270_000) } else { rng.range(0, 20) };
         let log = rng.log(ticks as usize * plan.inputs());
         let outcome = long_run_exactly(&[&LIBRARY], &plan, &log, ticks);
         let (number, flow, tick, count) = outcome.parts;
@@ -303,7 +303,7 @@ fn least_parts() {
 #[test]
 fn errors_of_a_least_part() {
     assert_eq!(merged().least_part(), Err(Refusal::NotDiffering));
-    assert_eq!(Plan::new([0, 1, 1, 0, 10, 0, 4095, 0]).least_part(), Err(Refusal::NotDiffering));
+    assert_eq!(Plan::new([0, 4095, 1, 0, 9, 0, 17, 0]).least_part(), Err(Refusal::NotDiffering));
     assert_eq!(Plan::new([0, 1, 1, 0, 13, 0, 0, 0, 12, 1, 0, 0]).least_part(), Err(Refusal::NotDiffering));
     assert_eq!(Plan::new([0; 4 * 65]).least_part(), Err(Refusal::BadCount));
     assert_eq!(Plan::new([]).least_part(), Err(Refusal::BadCount));

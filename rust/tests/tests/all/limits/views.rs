@@ -2,9 +2,9 @@
 
 use tests::compare::{read, run_exactly, write};
 use tests::implementation::ALL;
-use tests::Plan;
+use tests::{Plan, TICKS};
 
-use super::{checked, is_table, refused};
+use super::{chain, checked, is_table, refused};
 
 /// Operands are lower flows, at the table's first and last row; ranges come before places.
 #[test]
@@ -45,6 +45,16 @@ fn periods_and_phases() {
     assert_eq!([4095, 63 * 64].map(|w| seen([64, 0], [63, 0], w)), [40, 0]);
     assert_eq!([0, 4094, 4095].map(|phase| seen([4095, 4095], [4095, phase], 4095)), [0, 0, 0]);
     assert_eq!([0, 4094, 4095].map(|phase| seen([1, phase], [1, 4095], 1)), [40, 40, 0]);
+
+    // A phase of 65,535 after one of 0, of 65,534 and of its own; and before it. A period above w is no divisor of it.
+    let mut rows = chain(1, 4095, &[[10, 0, 4095, 0]; 15]);
+    rows.extend([[10, 15, 15, 0], [10, 15, 14, 0], [0, 1, 0, 0], [9, 0, 63, 0], [9, 19, 63, 0], [9, 20, 16, 0]]);
+    let with = |row| checked(&[&rows[..], &[row]].concat()).0;
+    for (a, c, number) in [(16, 18, 0), (16, 17, 0), (16, 16, 0), (17, 16, 40), (18, 16, 40)] {
+        assert_eq!([[17, a, c, 1], [18, a, c, 4095]].map(with), [number; 2]);
+    }
+    assert_eq!([[17, 19, 0, 63], [17, 19, 0, 62], [17, 20, 0, 3969], [17, 20, 0, 4095]].map(with), [0, 40, 0, 40]);
+    assert_eq!([[17, 21, 0, 4095], [18, 0, 21, 4095], [18, 0, 20, 3969]].map(with), [40, 40, 0]);
 }
 
 /// A view counts among the four conditions.
@@ -104,9 +114,27 @@ fn many_ticks() {
 
     // Values of flow 0 at 4095, 8190 and so on, each with what flow 1 has one period before.
     let plan = Plan::of(&[[0, 4095, 4095, 0], [0, 4095, 0, 0], [18, 0, 1, 4095]]);
-    let log: Vec<u32> = (0..65_535).flat_map(|tick| [tick, tick / 4_095 % 2]).collect();
-    let outcome = run_exactly(&ALL, &plan, &log, 65_535);
-    assert_eq!(outcome.parts, (0, 0, 0, 65_535));
-    let present: Vec<usize> = (0..65_535).filter(|tick| outcome.bytes[3 * tick + 2] == 1).collect();
-    assert_eq!(present, [1, 3, 5, 7, 9, 11, 13, 15].map(|period| 4_095 * period));
+    let log: Vec<u32> = (0..TICKS).flat_map(|tick| [tick, tick / 4_095 % 2]).collect();
+    let outcome = run_exactly(&ALL, &plan, &log, TICKS);
+    assert_eq!(outcome.parts, (0, 0, 0, TICKS));
+    let present: Vec<usize> = (0..TICKS as usize).filter(|tick| outcome.bytes[3 * tick + 2] == 1).collect();
+    assert_eq!(present, (0..16).map(|pair| 4_095 * (2 * pair + 1)).collect::<Vec<usize>>());
+}
+
+/// A look back by 65,535 ticks, the most there is: readings that begin so late, and a switch that began at once. It was off
+/// in every third of its views.
+#[test]
+fn the_longest_look_back() {
+    let mut rows = chain(45, 4095, &[[10, 0, 4095, 0]; 15]);
+    rows.extend([[10, 15, 15, 0], [0, 39, 0, 0], [17, 16, 17, 585], [18, 16, 17, 585]]);
+    let (plan, flows) = (Plan::of(&rows), rows.len());
+    let log: Vec<u32> = (0..TICKS).flat_map(|tick| [tick, tick / 585 % 3]).collect();
+    let outcome = run_exactly(&ALL, &plan, &log, TICKS);
+    assert_eq!(outcome.parts, (0, 0, 0, TICKS));
+    for tick in 0..TICKS as usize {
+        let since = tick.checked_sub(65_535).filter(|since| since.is_multiple_of(45));
+        let on = since.map(|since| since / 585 % 3 != 0);
+        let marks = [flows - 2, flows - 1].map(|flow| outcome.bytes[tick * flows + flow]);
+        assert_eq!(marks, [on == Some(true), on == Some(false)].map(u8::from), "tick {tick}");
+    }
 }
