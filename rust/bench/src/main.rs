@@ -37,7 +37,7 @@ use plans::{mixed, sparse, sums, unrated, upward, views, Plan};
 use runs::{LONG, LONG_AND_PLAIN, RUNS};
 
 /// As many ticks as a run may have, and a long run.
-const MOST_TICKS: usize = 65_535;
+const MOST_TICKS: usize = 131_071;
 const MOST_LONG_TICKS: usize = 4_194_303;
 
 /// Everything, in a few minutes.
@@ -60,8 +60,8 @@ fn report() {
     }
 
     runs::heading("Growth with ticks, a cell", &RUNS);
-    let growth = [1_000, 4_000, 16_000, 64_000].map(|ticks| runs::run(&RUNS, &mixed(16), ticks));
-    runs::linear("64 times the ticks", &growth);
+    let growth = [1_024, 8_192, 32_768, MOST_TICKS].map(|ticks| runs::run(&RUNS, &mixed(16), ticks));
+    runs::linear("128 times the ticks", &growth);
 
     runs::heading("Growth with flows, a cell", &RUNS);
     let growth = [16, 32, 48, 64].map(|flows| runs::run(&RUNS, &mixed(flows), 8_000));
@@ -80,8 +80,8 @@ fn report() {
     }
 
     runs::heading("Growth of the long run with ticks, a cell", &LONG);
-    let growth = [65_535, 524_287, MOST_LONG_TICKS].map(|ticks| runs::run(&LONG, &mixed(4), ticks));
-    runs::linear("64 times the ticks", &growth);
+    let growth = [131_071, 1_048_575, MOST_LONG_TICKS].map(|ticks| runs::run(&LONG, &mixed(4), ticks));
+    runs::linear("32 times the ticks", &growth);
 
     tables::heading("Check, write, read, load page and least part, a call");
     for flows in [1, 4, 16, 64] {
