@@ -28,8 +28,14 @@ pub struct LongRun {
 }
 
 impl LongRun {
-    /// What a run of some ticks left in its window and its tallies.
-    pub(crate) fn new(ticks: usize, marks: Vec<u8>, values: Vec<u32>, tallies: Vec<u32>) -> Self {
+    /// What a run of some ticks left in its window and its tallies. Places of the window that no tick came to are given
+    /// back.
+    pub(crate) fn new(ticks: usize, mut marks: Vec<u8>, mut values: Vec<u32>, tallies: Vec<u32>) -> Self {
+        let cells = ticks.min(WINDOW_TICKS) * (tallies.len() / TALLY_WORDS);
+        marks.truncate(cells);
+        marks.shrink_to_fit();
+        values.truncate(cells);
+        values.shrink_to_fit();
         LongRun { ticks, marks, values, tallies }
     }
 

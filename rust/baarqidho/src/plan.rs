@@ -126,7 +126,8 @@ impl Plan {
     }
 
     /// Checks it, and runs it over a log of one word per tick and input for up to [`MAX_LONG_TICKS`] ticks. All that is
-    /// kept is the last [`WINDOW_TICKS`] of them and, for each flow, how many values it had and its last one.
+    /// kept is the last [`WINDOW_TICKS`] of them, five bytes a cell, and, for each flow, how many values it had and its
+    /// last one.
     ///
     /// ```
     /// use baarqidho::{Plan, Row};

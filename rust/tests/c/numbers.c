@@ -80,17 +80,10 @@ static const uint32_t sampled[] = {0, 4, 1, 0, 0, 4, 1, 0, 13, 0, 1, 0, 14, 2, 2
 /* Slower 32 of an input of period 2048. */
 static const uint32_t beyond[] = {0, 1, 0, 0, 0, 2048, 0, 0, 0, 1, 0, 0, 9, 1, 32, 0};
 
-/* Every 17th value of an input (3855, 0), those from the second on, and copies that should fill a tick. */
-static const uint32_t slow[] = {0, 3855, 0, 0, 9, 0, 17, 0, 12, 1, 0, 0, 8, 2, 1, 1};
-
 static void all_of_check(void)
 {
     static const uint32_t clocks[] = {4, 1, 0, 0, 0, 0, 0, 0, 0, 0, 0, 4, 1, 0, 0, 0, 0, 0, 0, 0, 0, 0,
                                       4, 1, 1, 3, 0, 0, 0, 0, 0, 0, 0, 4, 1, 2, 3, 4, 0, 0, 0, 0, 0, 0};
-    uint32_t longest[3 * BAARQIDHO_CLOCK_WORDS] = {3855};
-
-    longest[BAARQIDHO_CLOCK_WORDS] = BAARQIDHO_MAX_DERIVED;
-    longest[2 * BAARQIDHO_CLOCK_WORDS] = longest[2 * BAARQIDHO_CLOCK_WORDS + 1] = BAARQIDHO_MAX_DERIVED;
 
     checks("check", sampled, 4 * BAARQIDHO_ROW_WORDS, 4 * BAARQIDHO_CLOCK_WORDS);
     answers(BAARQIDHO_OK, 0, 0, 4);
@@ -101,11 +94,6 @@ static void all_of_check(void)
     refuses(BAARQIDHO_UNKNOWN_KIND, 0);
     checks("check, clocks differ", differing, LENGTH(differing), LENGTH(words));
     refuses(BAARQIDHO_CLOCKS_DIFFER, 2);
-    checks("check, period and phase 65535", slow, 3 * BAARQIDHO_ROW_WORDS, LENGTH(words));
-    answers(BAARQIDHO_OK, 0, 0, 3);
-    wrote(NULL, 0, longest, LENGTH(longest));
-    checks("check, copies of period 65535", slow, LENGTH(slow), LENGTH(words));
-    refuses(BAARQIDHO_CLOCKS_DIFFER, 3);
     checks("check, period 65536", beyond, LENGTH(beyond), LENGTH(words));
     refuses(BAARQIDHO_BEYOND_LIMITS, 3);
     checks("check, tail of a sampled flow", sampled, LENGTH(sampled), LENGTH(words));
@@ -124,7 +112,6 @@ static void all_of_run(void)
     static const uint32_t torque[] = {0, 1, 0, 0, 1, 0, 1, 0, 4, 0, 1, 0, 6, 0, 1, 0};
     static const uint8_t present[] = {1, 1, 1, 1};
     static const uint32_t below_zero[] = {(uint32_t)-3, 0, 1, 0};
-    static const uint32_t none[BAARQIDHO_MAX_TICKS] = {0};
 
     runs("run", differing, LENGTH(differing), log, 20, 10, 31, 32);
     answers(BAARQIDHO_OK, 0, 0, 10);
@@ -137,12 +124,6 @@ static void all_of_run(void)
     wrote(present, 4, below_zero, 4);
     runs("run, all ticks", constant, LENGTH(constant), log, 0, BAARQIDHO_MAX_TICKS, LENGTH(bytes), LENGTH(words));
     answers(BAARQIDHO_OK, 0, 0, BAARQIDHO_MAX_TICKS);
-    runs("run, all ticks but one", slow, LENGTH(slow), none, LENGTH(none) - 1, BAARQIDHO_MAX_TICKS - 1, LENGTH(bytes),
-         LENGTH(words));
-    answers(BAARQIDHO_OK, 0, 0, BAARQIDHO_MAX_TICKS - 1);
-    runs("run, a clash in the last tick", slow, LENGTH(slow), none, LENGTH(none), BAARQIDHO_MAX_TICKS, LENGTH(bytes),
-         LENGTH(words));
-    answers(BAARQIDHO_CLASH, 3, BAARQIDHO_MAX_TICKS - 1, 0);
     runs("run, kind 16", open_plan, LENGTH(open_plan), log, 0, 0, LENGTH(bytes), LENGTH(words));
     refuses(BAARQIDHO_UNKNOWN_KIND, 0);
     runs("run, too many ticks", constant, LENGTH(constant), log, 0, BAARQIDHO_MAX_TICKS + 1, LENGTH(bytes),

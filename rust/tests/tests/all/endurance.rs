@@ -17,25 +17,26 @@ pub static FOUR: [&Implementation; 4] = [&REFERENCE, &LIBRARY, &PEER, &MIRROR];
 /// Those that are quick enough for thousands of ticks.
 pub static THREE: [&Implementation; 3] = [&PEER, &LIBRARY, &MIRROR];
 
-/// The trace of an accepted plan over any count of ticks: the library's own run as far as it goes, and from there on the
-/// windows of its long runs, one after the other.
+/// The trace of an accepted plan over any count of ticks: that of the library's run, or the windows of its long runs one
+/// after the other, which begin as that run does.
 fn traced(plan: &Plan, log: &[u32], ticks: u32) -> Outcome {
     let (flows, inputs) = (plan.words.len() / 4, plan.inputs());
     let until = |ticks: u32| &log[..ticks as usize * inputs];
-    let mut trace = run_exactly(&[&LIBRARY], plan, until(ticks.min(TICKS)), ticks.min(TICKS));
-    for first in (0..ticks).step_by(WINDOW).filter(|_| ticks > TICKS) {
+    let most = ticks.min(TICKS);
+    let run = run_exactly(&[&LIBRARY], plan, until(most), most);
+    if ticks == most {
+        return run;
+    }
+    let mut trace = Outcome { parts: (0, 0, 0, ticks), bytes: vec![], words: vec![], tallies: vec![] };
+    for first in (0..ticks).step_by(WINDOW) {
         let end = ticks.min(first + WINDOW as u32);
         let window = long_run_exactly(&[&LIBRARY], plan, until(end), end);
         let cells = (end - first) as usize * flows;
-        // The first window has one tick more than the run.
-        let is_run = if first == 0 { TICKS as usize * flows } else { 0 };
-        assert!(window.bytes[..is_run] == trace.bytes[..is_run] && window.words[..is_run] == trace.words[..is_run]);
-        trace.bytes.truncate(first as usize * flows);
-        trace.words.truncate(first as usize * flows);
         trace.bytes.extend(&window.bytes[..cells]);
         trace.words.extend(&window.words[..cells]);
     }
-    trace.parts = (0, 0, 0, ticks);
+    let cells = most as usize * flows;
+    assert!(trace.bytes[..cells] == run.bytes[..cells] && trace.words[..cells] == run.words[..cells], "{plan:?}");
     trace
 }
 

@@ -86,8 +86,9 @@ fn the_example_lists_the_paper_plan() {
 /// Every number by its name, and every limit.
 #[test]
 fn numbers_from_c() {
-    printed(&compiled(&C99, "rust/tests/c/numbers.c"));
-    printed(&compiled(&C99, "rust/tests/c/views.c"));
+    for program in ["numbers", "views", "slow"] {
+        printed(&compiled(&C99, &format!("rust/tests/c/{program}.c")));
+    }
 }
 
 /// The same as C++, where there is a compiler for it.
@@ -99,8 +100,9 @@ fn numbers_from_cpp() {
         return;
     }
     let compiler = ["c++", "-x", "c++", "-std=c++11"];
-    printed(&compiled(&compiler, "rust/tests/c/numbers.c"));
-    printed(&compiled(&compiler, "rust/tests/c/views.c"));
+    for program in ["numbers", "views", "slow"] {
+        printed(&compiled(&compiler, &format!("rust/tests/c/{program}.c")));
+    }
 }
 
 /// All ten calls on random plans, faults and damaged bytes: C has every part and every cell that Rust has.

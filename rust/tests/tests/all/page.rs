@@ -68,7 +68,7 @@ fn loads() {
     }
 }
 
-/// Periods above those that are written: every sixteenth of 4095 ticks, every 62nd of 1057, every 17th of 3855.
+/// Periods above those that are written: 16 times 4095 and 4000, 62 times 1057, and 17 times 3855.
 #[test]
 fn slow_loads() {
     for (worst, part, k, period, load) in [
@@ -122,7 +122,7 @@ fn halves_of_the_largest_time() {
     prints(&loads.map(|(period, _)| at(period, 0)), &[65_535; 11], &lines);
 }
 
-/// The README's worked example; period, phase, conditions and load at their widest under conditions; 0 to 4 of these.
+/// The README's worked example; the longest period and phase that are written, and the largest load; and 0 to 4 conditions.
 #[test]
 fn by_hand() {
     let rows = [[0, 2, 0, 0], [9, 0, 2, 0], [7, 20, 1, 1], [4, 2, 1, 0], [13, 1, 3, 0]];

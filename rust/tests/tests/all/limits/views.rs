@@ -4,7 +4,8 @@ use tests::compare::{read, run_exactly, write};
 use tests::implementation::ALL;
 use tests::{Plan, TICKS};
 
-use super::{chain, checked, is_table, refused};
+use super::derived::chain;
+use super::{checked, is_table, refused};
 
 /// Operands are lower flows, at the table's first and last row; ranges come before places.
 #[test]
@@ -121,8 +122,8 @@ fn many_ticks() {
     assert_eq!(present, (0..16).map(|pair| 4_095 * (2 * pair + 1)).collect::<Vec<usize>>());
 }
 
-/// A look back by 65,535 ticks, the most there is: readings that begin so late, and a switch that began at once. It was off
-/// in every third of its views.
+/// A look back by 65,535 ticks, the most there is: readings that begin so late, and a switch that begins at once. It is off
+/// in every third view.
 #[test]
 fn the_longest_look_back() {
     let mut rows = chain(45, 4095, &[[10, 0, 4095, 0]; 15]);
