@@ -83,7 +83,7 @@ enum baarqidho_number {
     BAARQIDHO_BAD_OPERAND = 15,        /* operand not a lower flow, or source not in the table; the row in flow */
     BAARQIDHO_NOT_THE_END = 16,        /* filling bit not 0, or a further byte */
     BAARQIDHO_CLOCKS_DIFFER = 21,      /* clocks not as the rules need; names the flow, 0 where rates are filled in */
-    BAARQIDHO_BEYOND_LIMITS = 22,      /* derived period or phase above 65,535, or a fifth condition; names flow */
+    BAARQIDHO_BEYOND_LIMITS = 22,      /* derived period or phase above 65,535, or a fifth condition; names the flow */
     BAARQIDHO_NOT_PLAIN = 23,          /* kinds 8 to 12, 17 and 18 over a clock with conditions; names the flow */
     BAARQIDHO_TOO_MANY_TICKS = 31,     /* more than 131,071 ticks, or 4,194,303 in a long run */
     BAARQIDHO_BAD_LOG_LENGTH = 32,     /* log length not ticks x inputs */
