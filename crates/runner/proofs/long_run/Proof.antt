@@ -2,6 +2,7 @@
 use Rattle.runner.proofs.LongCalled.{ran, close-by, accepted, handed-on}
 use Rattle.runner.proofs.Placing.{window-fits}
 use Rattle.runner.specs.Long.{windowTicks}
+use Rattle.runner.specs.Private.Placed.{windowWidth}
 use Rattle.runner.specs.Private.Ready.{Plain, Clocked}
 use Rattle.checker.specs.Answers.{clockSize}
 use Rattle.table.specs.Answers.{shortWindow}
@@ -48,7 +49,7 @@ replay-requires c κs =
       clocked then1 .0,
       omega arith,
       window-fits windowTicks (a .count) (a .ticks) (windowTicks * a .count) (omega arith) (omega arith),
-      record { width = 17; is = refl },
+      record { width = windowWidth; is = refl },
       omega arith,
       omega arith,
       close-by (a .count) (a .words .now) (a .log .now) (clocked then1 .0) (clocked then1 .1),

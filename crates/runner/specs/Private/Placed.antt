@@ -24,6 +24,10 @@ pub record Mask (mask : ℕ) : Type 0 where
   pub width : ℕ
   pub is : mask + 1 ≡ 2 ^ width
 
+-- the power of 2 that the window's ticks are
+abbrev pub windowWidth : ℕ
+windowWidth = 17
+
 -- the place of a tick's first cell: tick t stands at t modulo room
 abbrev pub firstCell : ℕ → ℕ → ℕ → ℕ
 firstCell room n t = t % room * n
