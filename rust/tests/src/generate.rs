@@ -29,7 +29,7 @@ impl Clock {
     }
 
     /// Whether it can be written as the clock of an input.
-    pub fn is_written(&self) -> bool {
+    fn is_written(&self) -> bool {
         self.conditions.is_empty() && self.period <= WRITTEN && self.phase <= WRITTEN
     }
 

@@ -84,11 +84,15 @@ fn the_example_lists_the_paper_plan() {
 }
 
 /// Every number by its name, and every limit.
+fn all_programs_end_well(compiler: &[&str]) {
+    for program in ["numbers", "views", "slow"] {
+        printed(&compiled(compiler, &format!("rust/tests/c/{program}.c")));
+    }
+}
+
 #[test]
 fn numbers_from_c() {
-    for program in ["numbers", "views", "slow"] {
-        printed(&compiled(&C99, &format!("rust/tests/c/{program}.c")));
-    }
+    all_programs_end_well(&C99);
 }
 
 /// The same as C++, where there is a compiler for it.
@@ -99,10 +103,7 @@ fn numbers_from_cpp() {
         std::io::stderr().write_all(text).expect("standard error takes the line");
         return;
     }
-    let compiler = ["c++", "-x", "c++", "-std=c++11"];
-    for program in ["numbers", "views", "slow"] {
-        printed(&compiled(&compiler, &format!("rust/tests/c/{program}.c")));
-    }
+    all_programs_end_well(&["c++", "-x", "c++", "-std=c++11"]);
 }
 
 /// All ten calls on random plans, faults and damaged bytes: C has every part and every cell that Rust has.

@@ -292,14 +292,22 @@ fn every_time() {
     }
 }
 
+/// Every worst time whose load over one of these periods is at a half, with the period; and how many of the halves are above
+/// odd numbers.
+fn halves(periods: impl Iterator<Item = u32>) -> (Vec<(u32, u16)>, usize) {
+    // Loads of worst times that are a period apart differ by 1000: if one is at a half, one of the first period is.
+    let periods = periods.filter(|&period| (0..period as u16).any(|worst| from_half(worst, period) == 0));
+    let pairs = periods.flat_map(|period| (0..=65_535).map(move |worst| (period, worst)));
+    let halves: Vec<(u32, u16)> = pairs.filter(|&(period, worst)| from_half(worst, period) == 0).collect();
+    let above_odd = halves.iter().filter(|&&(period, worst)| is_half_above(1, worst, period)).count();
+    (halves, above_odd)
+}
+
 /// Every half over a longer period that a slower row gives, 32 on a page. Only multiples of 16 have them.
 #[test]
 fn every_slow_half() {
-    let mut halves: Vec<(u32, u16)> = Vec::new();
-    for period in (WRITTEN + 1..=DERIVED).filter(|period| period.is_multiple_of(16) && part_of(*period).is_some()) {
-        halves.extend((0..=65_535).filter(|&worst| from_half(worst, period) == 0).map(|worst| (period, worst)));
-    }
-    let above_odd = halves.iter().filter(|&&(period, worst)| is_half_above(1, worst, period)).count();
+    let slow = (WRITTEN + 1..=DERIVED).filter(|period| period.is_multiple_of(16) && part_of(*period).is_some());
+    let (halves, above_odd) = halves(slow);
     assert_eq!((halves.len(), above_odd), (302_474, 150_280));
     for first in (0..halves.len()).step_by(32) {
         let half = |place: usize| halves[(first + place % 32).min(halves.len() - 1)];
@@ -311,15 +319,7 @@ fn every_slow_half() {
 /// Every half over a period that is written, 64 on a page.
 #[test]
 fn every_half() {
-    let mut halves: Vec<(u32, u16)> = Vec::new();
-    for period in 1..=4095 {
-        // Loads of worst times that are a period apart differ by 1000: if one is at a half, one of the first period is.
-        if (0..period as u16).any(|worst| from_half(worst, period) == 0) {
-            let times = (0..=65_535).filter(|&worst| from_half(worst, period) == 0);
-            halves.extend(times.map(|worst| (period, worst)));
-        }
-    }
-    let above_odd = halves.iter().filter(|&&(period, worst)| is_half_above(1, worst, period)).count();
+    let (halves, above_odd) = halves(1..=WRITTEN);
     assert_eq!((halves.len(), above_odd), (435_114, 217_494));
     for first in (0..halves.len()).step_by(64) {
         let half = |place: usize| halves[(first + place).min(halves.len() - 1)];

@@ -33,6 +33,15 @@ fn leaves(
     assert!((2 * flows..outcome.tallies.len()).all(|place| outcome.tallies[place] == pattern_word(place)));
 }
 
+/// All where the ticks are few, else those that are quick enough.
+fn quick_enough(ticks: usize) -> &'static [&'static Implementation] {
+    if ticks < 100 {
+        &FOUR
+    } else {
+        &THREE
+    }
+}
+
 /// A log of one input: the words from 1,000 on.
 fn counting(ticks: usize) -> Vec<u32> {
     (1_000..1_000 + ticks as u32).collect()
@@ -71,8 +80,7 @@ fn edges() {
         let (threes, later) = ((ticks + 1) / 3, ticks.saturating_sub(5));
         let third = if threes > 0 { 9 } else { 0 };
         let tallies = [ticks as u32, last(0), threes as u32, third, later as u32, last(5)];
-        let of = if ticks < 100 { &FOUR[..] } else { &THREE };
-        leaves(of, &rows, &log, ticks, &tallies, |tick, flow| match flow {
+        leaves(quick_enough(ticks), &rows, &log, ticks, &tallies, |tick, flow| match flow {
             0 => Some(log[tick]),
             1 => (tick % 3 == 1).then_some(9),
             _ => tick.checked_sub(5).map(|tick| log[tick]),
@@ -260,7 +268,7 @@ fn lengths() {
             let more = [case % 3, case / 3 % 3, case / 9];
             let lengths =
                 Lengths { bytes: bytes + more[0] - 1, words: words + more[1] - 1, tallies: tallies + more[2] - 1 };
-            let outcome = long_run(if ticks < 100 { &FOUR[..] } else { &THREE }, &plan, &log, ticks, lengths);
+            let outcome = long_run(quick_enough(ticks as usize), &plan, &log, ticks, lengths);
             if more.contains(&0) {
                 assert_eq!(outcome.parts, (35, 0, 0, 0), "{lengths:?}");
                 assert!(outcome.is_untouched(), "{lengths:?}");
