@@ -8,6 +8,7 @@ use lib.ListN.{length, getD, set, drop, length-append}
 use lib.Seq.{drop-cons, set-at, append-snoc}
 use Rattle.table.specs.Answers.{Refusal, noRoom, badCount, cutShort, unknownKind, outOfRange, misplaced, badFilling, clocksDiffer}
 use Rattle.table.specs.Answers.{beyondLimits, notPlain, tooManyTicks, wrongLog, shortTrace, clash, shortWindow, wrongTimes, shortPage, notDiffering, unjoined, badView}
+use Rattle.table.specs.Answers.{hasConditions, wrongLength, offCalendar}
 use Rattle.table.specs.Answers.{number, Result, good, refused, refusal, over, answer, leaves}
 
 -- no refusal has the number 0
@@ -32,6 +33,9 @@ no-zero shortPage e = omega arith
 no-zero notDiffering e = omega arith
 no-zero unjoined e = omega arith
 no-zero badView e = omega arith
+no-zero hasConditions e = omega arith
+no-zero wrongLength e = omega arith
+no-zero offCalendar e = omega arith
 
 -- an answer with number 0 has a result behind it
 pub answer-zero : {A : Type 0} (size : A → ℕ) (r : Result A) → answer size r .number ≡ 0 → (a : A) × (r ≡ good a)
@@ -79,3 +83,6 @@ is-differing shortPage e = absurd (omega arith)
 is-differing notDiffering e = absurd (omega arith)
 is-differing unjoined e = absurd (omega arith)
 is-differing badView e = absurd (omega arith)
+is-differing hasConditions e = absurd (omega arith)
+is-differing wrongLength e = absurd (omega arith)
+is-differing offCalendar e = absurd (omega arith)

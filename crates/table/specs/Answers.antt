@@ -7,7 +7,8 @@ use Rattle.table.specs.declared.Answer.{Answer}
 use Rattle.table.specs.declared.Reading.{Reading}
 use Rattle.table.specs.declared.Reading.the-variants.{Table, Refused}
 
--- the causes of table and codec, of the check, of the runs, of the load page, of the least part, and of the call that fills in rates
+-- the causes of table and codec, of the check, of the runs, of the load page, of the least part, of the call that fills in rates, and of the
+-- archive
 pub data Refusal : Type 0 where
   noRoom badCount cutShort unknownKind outOfRange misplaced badFilling : Refusal
   clocksDiffer beyondLimits notPlain badView : Refusal
@@ -15,6 +16,7 @@ pub data Refusal : Type 0 where
   wrongTimes shortPage : Refusal
   notDiffering : Refusal
   unjoined : Refusal
+  hasConditions wrongLength offCalendar : Refusal
 
 abbrev pub number : Refusal → ℕ
 number noRoom = 10
@@ -37,6 +39,9 @@ number shortPage = 37
 number notDiffering = 38
 number unjoined = 39
 number badView = 40
+number hasConditions = 41
+number wrongLength = 42
+number offCalendar = 43
 
 -- What a piece of work comes to: its result, or the first refusal with the row or flow that it names, 0 where it names none.
 pub data Result (A : Type 0) : Type 0 where

@@ -160,6 +160,12 @@ pub const UNJOINED: u32 = 39;
 
 pub const BAD_VIEW: u32 = 40;
 
+pub const HAS_CONDITIONS: u32 = 41;
+
+pub const WRONG_LENGTH: u32 = 42;
+
+pub const OFF_CALENDAR: u32 = 43;
+
 // The bytes of the longest packed table.
 pub const LONGEST_TABLE: usize = (Cursor::LAST + 7) / 8;
 
