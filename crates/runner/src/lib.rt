@@ -25,11 +25,11 @@ use crate::state::REGISTER;
 use crate::state::STATE_SIZE;
 use crate::tally::TALLY_SIZE;
 use crate::ticks::Ticked;
+use semantics::MAX_TICKS;
 use table::Answer;
 use table::MAX_FLOWS;
 
-const MOST_TICKS: u32 = 131071;
-
+// The most ticks of a long run.
 const MOST_LONG_TICKS: u32 = 4194303;
 
 // The ticks of a long run's window, a power of 2.
@@ -351,7 +351,7 @@ pub fn run(
             words,
             log,
             ticks,
-            MOST_TICKS,
+            MAX_TICKS,
             (ticks as usize) * n,
             table::SHORT_TRACE,
             WHOLE,

@@ -1,1 +1,4 @@
-// Definitions and laws alone: what a run of a table is.
+// Definitions and laws: what a run of a table is.
+
+// The most ticks of a run.
+pub const MAX_TICKS: u32 = 131071;
