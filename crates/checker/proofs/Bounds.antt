@@ -1,13 +1,14 @@
 -- The clocks of a table that the check accepts are sane and within the limits; what the check's answer tells. Assumes nothing.
 use mathlib.Core.Path.{_≡_, refl, sym, _∙_, ap, subst}
-use Prim.Native.Nat.{ℕ, _*_, _≤_}
+use Prim.Native.Nat.{ℕ, _+_, _*_, _≤_, _<_}
+use native.Mathlib.Nat.{add-zero}
 use native.Mathlib.Omega.{arith}
 use mathlib.Core.List.{List}
-use lib.ListN.{length}
+use lib.ListN.{length, getD, drop}
 use lib.Dec.{leb}
 use borrow.Author.Tests.{le-leb}
 use Rattle.table.specs.declared.Answer.{Answer}
-use Rattle.table.specs.Answers.{Refusal, Result, good, refused, unless, then, refusal, answer, noRoom}
+use Rattle.table.specs.Answers.{Refusal, Result, good, refused, unless, then, refusal, answer, leaves, noRoom}
 use Rattle.table.specs.Rows.{Row, maxFlows}
 use Rattle.table.specs.Plain.{tableOf}
 use Rattle.table.proofs.AnswerLaws.{answer-zero, answer-other}
@@ -15,9 +16,10 @@ use Rattle.table.proofs.Tests.{unless-good, then-good}
 use Rattle.table.proofs.Tables.{table-made}
 use Rattle.checker.specs.Clocks.{Clock}
 use Rattle.checker.specs.Rules.{clockAt, clocksOf, Within, AllWithin}
-use Rattle.checker.specs.Answers.{clockSize, clocksFor, checking, checkAnswer, checkNumber}
+use Rattle.checker.specs.Answers.{clockSize, clockWords, clocksWords, clocksFor, checking, checkAnswer, clocksAfter, checkNumber}
 use Rattle.checker.proofs.RuleLaws.{within-limits}
 use Rattle.checker.proofs.CheckLaws.{Sane, AllSane, below-le, sane-clocks}
+use Rattle.checker.proofs.WordLaws.{word-at}
 
 sane-within : (clk : ℕ → Clock) (f : ℕ) (k : Clock) → f ≤ maxFlows → Sane clk f k → Within k
 sane-within clk f k l s = (
@@ -66,3 +68,26 @@ module _ (m : ℕ) (words : List ℕ) (room : ℕ) (r : Answer) (l : clockSize *
   told-refusal z =
       let x = answer-other length (checking m words room) (λ q. z (ap (λ (a : Answer). a .number) e ∙ q)) in
       (x .0, x .1, sym (check-whole m words room l) ∙ x .2, e ∙ ap (answer length) (x .2))
+
+-- what the check answered and left, in a buffer that has room for any table
+pub record Told (m : ℕ) (words zeros clocks : List ℕ) (found : Answer) : Type 0 where
+  pub room : clockSize * maxFlows ≤ length zeros
+  pub answered : found ≡ checkAnswer m words (length zeros)
+  pub stored : clocks ≡ clocksAfter m words zeros
+
+module _ {m : ℕ} {words zeros clocks : List ℕ} {found : Answer} (T : Told m words zeros clocks found) (zero : found .number ≡ 0) where
+  pub told : (ks : List Clock) × (checking m words (length zeros) ≡ good ks) × (clocksFor m words ≡ good ks)
+  told = told-clocks m words (length zeros) found (T .room) (T .answered) zero
+
+  -- word i of flow f's clock
+  pub told-word : (f i : ℕ) → f < m → i < clockSize → getD clocks (clockSize * f + i) 0 ≡ getD (clockWords (clockAt (told .0) f)) i 0
+  told-word f i l x =
+      ap (λ (w : List ℕ). getD w (clockSize * f + i) 0) (T .stored ∙ ap (λ (r : Result (List Clock)). leaves clocksWords r zeros) (told .1))
+      ∙ word-at (told .0) (drop (length (clocksWords (told .0))) zeros) f i (omega (arith, checked-within m words (length zeros) (told .0) (told .1) .0)) x
+
+  -- its period and phase
+  pub told-period : (f : ℕ) → f < m → getD clocks (clockSize * f) 0 ≡ clockAt (told .0) f .period
+  told-period f l = ap (λ (i : ℕ). getD clocks i 0) (sym (add-zero (clockSize * f))) ∙ told-word f 0 l (omega arith)
+
+  pub told-phase : (f : ℕ) → f < m → getD clocks (clockSize * f + 1) 0 ≡ clockAt (told .0) f .phase
+  told-phase f l = told-word f 1 l (omega arith)

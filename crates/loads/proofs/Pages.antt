@@ -1,25 +1,23 @@
 -- The page of an accepted plan, and what the call comes to in each case. Assumes nothing.
 use mathlib.Core.Path.{_≡_, refl, sym, _∙_, ap, subst}
 use Prim.Native.Nat.{ℕ, _+_, _*_, _≤_, _<_}
-use native.Mathlib.Nat.{add-zero}
 use native.Mathlib.Omega.{arith}
 use mathlib.Core.List.{List}
-use lib.ListN.{length, getD, drop}
+use lib.ListN.{length, getD}
 use borrow.Author.Tests.{le-leb, lt-leb, eq-eqb, ne-eqb}
 use Rattle.text.specs.Text.{Wrote}
 use Rattle.text.proofs.Writing.{whole-text}
 use Rattle.table.specs.declared.Answer.{Answer}
-use Rattle.table.specs.Answers.{Refusal, Result, good, refused, refusal, success, leaves, wrongTimes, shortPage}
+use Rattle.table.specs.Answers.{Refusal, good, refused, refusal, success, wrongTimes, shortPage}
 use Rattle.table.proofs.AnswerLaws.{refused-leaves}
 use Rattle.table.specs.Rows.{maxFlows}
 use Rattle.table.specs.Plain.{tableOf}
 use Rattle.table.proofs.Tests.{then-good}
 use Rattle.checker.specs.Clocks.{Clock}
 use Rattle.checker.specs.Rules.{clockAt, clocksOf}
-use Rattle.checker.specs.Answers.{clockSize, clockWords, clocksWords, clocksFor, checking, checkAnswer, clocksAfter}
+use Rattle.checker.specs.Answers.{clockSize, clocksFor, checkAnswer}
 use Rattle.checker.proofs.CheckLaws.{AllSane}
-use Rattle.checker.proofs.WordLaws.{word-at}
-use Rattle.checker.proofs.Bounds.{accepted-sane, told-clocks, told-refusal}
+use Rattle.checker.proofs.Bounds.{accepted-sane, told-refusal, Told, told, told-word, told-period, told-phase}
 use Rattle.loads.specs.Loads.{load, maxLoad, Line, lineOf, linesFrom, sorted, Among, Ordered, lineText, total, totalText, pageText, pageOf, lineSize, paging, pageAnswer, pageAfter}
 use Rattle.loads.specs.Private.Words.{lineIn, linesIn, Loaded}
 use Rattle.loads.proofs.Lines.{Bounded, bounded}
@@ -106,25 +104,16 @@ checked-refusal m words times room r l e z old =
     let p = refused-leaves length (λ (page : List ℕ). page) (paging m words times (length old)) old (x .0) (x .1) (paging-refused m words times (length old) (x .0) (x .1) (x .2)) in
     (x .3 ∙ p .0, p .1)
 
--- what the check answered and left, in a buffer that has room for any table
-pub record Told (m : ℕ) (words zeros clocks : List ℕ) (found : Answer) : Type 0 where
-  pub room : clockSize * maxFlows ≤ length zeros
-  pub answered : found ≡ checkAnswer m words (length zeros)
-  pub stored : clocks ≡ clocksAfter m words zeros
-
 module _ {m : ℕ} {words zeros clocks : List ℕ} {found : Answer} (T : Told m words zeros clocks found) (times : List ℕ) where
   pub handed-on : (found .number ≡ 0 → ⊥) → (old : List ℕ) → (found ≡ pageAnswer m words times (length old)) × (old ≡ pageAfter m words times old)
   handed-on = checked-refusal m words times (length zeros) found (T .room) (T .answered)
 
   module _ (zero : found .number ≡ 0) where
-    checked : (ks : List Clock) × (checking m words (length zeros) ≡ good ks) × (clocksFor m words ≡ good ks)
-    checked = told-clocks m words (length zeros) found (T .room) (T .answered) zero
-
     abbrev ks : List Clock
-    ks = checked .0
+    ks = told T zero .0
 
     clocked : clocksFor m words ≡ good ks
-    clocked = checked .2
+    clocked = told T zero .2
 
     pub few : m ≤ maxFlows
     few = accepted m words times ks clocked .1
@@ -137,16 +126,11 @@ module _ {m : ℕ} {words zeros clocks : List ℕ} {found : Answer} (T : Told m 
     short t old h = refused-leaves length (λ (page : List ℕ). page) (paging m words times (length old)) old shortPage 0 (paging-short m words times ks clocked (length old) t h)
 
     -- the lines by the words that the check left are those by the clocks
-    word : (f i : ℕ) → f < m → i < clockSize → getD clocks (clockSize * f + i) 0 ≡ getD (clockWords (clockAt ks f)) i 0
-    word f i l x =
-        ap (λ (w : List ℕ). getD w (clockSize * f + i) 0) (T .stored ∙ ap (λ (r : Result (List Clock)). leaves clocksWords r zeros) (checked .1))
-        ∙ word-at ks (drop (length (clocksWords ks)) zeros) f i (omega (arith, accepted m words times ks clocked .0)) x
-
     line : (f : ℕ) → f < m → lineIn clocks times f ≡ lineOf ks times f
     line f l =
-        let p : getD clocks (clockSize * f) 0 ≡ clockAt ks f .period = ap (λ (i : ℕ). getD clocks i 0) (sym (add-zero (clockSize * f))) ∙ word f 0 l (omega arith) in
-        let q : getD clocks (clockSize * f + 1) 0 ≡ clockAt ks f .phase = word f 1 l (omega arith) in
-        let n : getD clocks (clockSize * f + 2) 0 ≡ length (clockAt ks f .conditions) = word f 2 l (omega arith) in
+        let p : getD clocks (clockSize * f) 0 ≡ clockAt ks f .period = told-period T zero f l in
+        let q : getD clocks (clockSize * f + 1) 0 ≡ clockAt ks f .phase = told-phase T zero f l in
+        let n : getD clocks (clockSize * f + 2) 0 ≡ length (clockAt ks f .conditions) = told-word T zero f 2 l (omega arith) in
         cc
 
     same-lines : linesIn clocks times m ≡ linesFrom (lineOf ks times) (length ks) 0

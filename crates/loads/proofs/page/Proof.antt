@@ -8,7 +8,8 @@ use borrow.Author.Needs.{needs}
 use Rattle.table.specs.declared.Answer.{Answer}
 use Rattle.table.specs.Rows.{maxFlows}
 use Rattle.checker.specs.Answers.{clockSize, checkAnswer, clocksAfter}
-use Rattle.loads.proofs.Pages.{Told, handed-on, few, wrong-times, short, done}
+use Rattle.checker.proofs.Bounds.{Told}
+use Rattle.loads.proofs.Pages.{handed-on, few, wrong-times, short, done}
 use Rattle.loads.proofs.page.Statement.{statement}
 use Rattle.loads.proofs.page.Tie as tie
 
