@@ -11,15 +11,13 @@ use lib.Dec.{eqb}
 use borrow.Author.Tests.{eqb-false}
 use Rattle.table.specs.Answers.{Refusal, Result, good, refused, unless, clocksDiffer, beyondLimits, notPlain}
 use Rattle.table.specs.Rows.{Row, input, constant, combine, register, faster, slower, later, head, tail, sample, merge, unrated, view, onRegister}
-use Rattle.table.proofs.Lists.{Each, each-front, each-at, below-suc}
+use Rattle.table.proofs.Lists.{Each, each-front, each-at}
 use Rattle.table.proofs.Registers.{RegisterOr, is-register, is-other, register-or, Passes, Registers, all-pass, registers}
 use Rattle.table.specs.Tables.{Fits}
 use Rattle.table.proofs.Tables.{AllFit}
-use Rattle.checker.specs.Clocks.{Clock, every, plain, sameClock}
+use Rattle.checker.specs.Clocks.{Clock, every, sameClock}
 use Rattle.checker.specs.Rules.{maxDerived, withinLimits, limited, clockOf, clockAt, sourceFits, clocksOf}
 use Rattle.checker.proofs.ClockLaws.{beq-true, plain-differ}
-use Rattle.checker.proofs.RuleLaws.{Rule, by-input, by-constant, by-combine, by-register, by-faster, by-slower, by-later, by-head, by-tail}
-use Rattle.checker.proofs.RuleLaws.{by-sample, by-merge, by-view, rule-of}
 use Rattle.checker.proofs.CheckLaws.{Clocked, Sane, AllSane, all-sane, Checked, fine, bad-row, bad-source, checked}
 use Rattle.semantics.specs.Cells.{mark, onGrid}
 use Rattle.semantics.specs.Operators.{clashes}
@@ -32,57 +30,7 @@ use Rattle.calendar.proofs.Dues.{due-plain, combined-clash}
 use Rattle.calendar.proofs.Keeping.{Kept, regular}
 use Rattle.calendar.proofs.Endings.{not-filled, Last, last, ended-before, tick-parts, front-of, front-kept, front-filled}
 use Rattle.calendar.proofs.Endings.{tick-kept, run-kept}
-
--- a row that samples, merges or views, and one that does not
-abbrev pub conditional : Row → Bool
-conditional (input n p) = false
-conditional (constant v n p) = false
-conditional (combine op a b) = false
-conditional (register v b a) = false
-conditional (faster a k g) = false
-conditional (slower a k) = false
-conditional (later a d) = false
-conditional (head a v s) = false
-conditional (tail a) = false
-conditional (sample u a c) = true
-conditional (merge c a b) = true
-conditional unrated = false
-conditional (view u a c w) = true
-
-abbrev pub FreeRow : Row → Type 0
-FreeRow r = conditional r ≡ false
-
-abbrev pub AllFree : ℕ → List Row → Type 0
-AllFree f rows = Each (λ (g : ℕ). FreeRow) f rows
-
--- the clocks of such rows are plain
-abbrev AllPlain : (ℕ → Clock) → ℕ → Type 0
-AllPlain clk m = (f : ℕ) → f < m → plain (clk f) ≡ true
-
-module _ (clk : ℕ → Clock) (m : ℕ) where
-  plain-row : (f : ℕ) (r : Row) (k : Clock) → Rule clk r k → Fits m f r → FreeRow r → AllPlain clk f → plain k ≡ true
-  plain-row f r k by-input w x s = refl
-  plain-row f r k by-constant w x s = refl
-  plain-row f r k (by-combine {a = a} y) w x s = s a (w .0)
-  plain-row f r k (by-register {b = b}) w x s = s b (w .0)
-  plain-row f r k (by-faster y z) w x s = refl
-  plain-row f r k (by-slower y z) w x s = refl
-  plain-row f r k (by-later y z) w x s = refl
-  plain-row f r k (by-head y z) w x s = refl
-  plain-row f r k (by-tail y z) w x s = refl
-  plain-row f r k (by-sample y l) w x s = absurd (true≢false x)
-  plain-row f r k (by-merge y z) w x s = absurd (true≢false x)
-  plain-row f r k (by-view y z v) w x s = absurd (true≢false x)
-
-  plain-from : (f : ℕ) (rs : List Row) → AllFit m f rs → AllFree f rs → Clocked clk f rs → AllPlain clk f → AllPlain clk (f + length rs)
-  plain-from f [] w x k s = subst (AllPlain clk) (omega arith) s
-  plain-from f (r ∷ rs) w x k s =
-      subst (AllPlain clk) (omega arith)
-      (plain-from (suc f) rs (w .1) (x .1) (k .1)
-      (below-suc (λ (g : ℕ). plain (clk g) ≡ true) f s (plain-row f r (clk f) (rule-of clk f r (clk f) (k .0)) (w .0) (x .0) s)))
-
-  all-plain : (rs : List Row) → AllFit m 0 rs → AllFree 0 rs → Clocked clk 0 rs → AllPlain clk (length rs)
-  all-plain rs w x k = subst (AllPlain clk) (omega arith) (plain-from 0 rs w x k (λ f l. absurd (omega arith)))
+use Rattle.calendar.proofs.Unconditional.{FreeRow, AllFree, AllPlain, all-plain}
 
 -- what a refusal with 21 says of the tests before it
 good-refused : {A B : Type 0} {a : A} {why : Refusal} {f : ℕ} → good a ≡ refused why f → B

@@ -6,7 +6,9 @@ pub mod Views
 pub mod Keeping
 pub mod Accepted
 pub mod Unclashed
+pub mod Unconditional
 pub mod Endings
 pub mod Judged
 pub mod Shown
+pub mod PlainRuns
 pub mod SharedCalendar

@@ -4,22 +4,20 @@ use mathlib.Core.Logic.{_↔_, inl, inr}
 use Prim.Native.Nat.{ℕ, _+_, _*_, _≤_, _<_}
 use native.Mathlib.Nat.{mul-le-mul-right}
 use native.Mathlib.Omega.{arith}
-use mathlib.Core.Bool.{Bool, true, false, not, _&&_, _||_}
+use mathlib.Core.Bool.{Bool, true, false, _&&_}
 use mathlib.Core.List.{List, map}
 use lib.ListN.{length, drop}
 use lib.Dec.{leb, eqb}
-use borrow.Author.Tests.{leb-true, le-leb, eq-eqb, not-true}
+use borrow.Author.Tests.{le-leb, eq-eqb}
 use Rattle.table.specs.Answers.{Refusal, Result, good, refused, unless, number, over, answer, noRoom, clocksDiffer, tooManyTicks}
 use Rattle.table.specs.Answers.{wrongLog, shortTrace}
-use Rattle.table.specs.Rows.{Row, tail, Kind, kinds, kindCount, decode}
-use Rattle.table.specs.Plain.{rowWords, tableOf}
-use Rattle.table.specs.Tables.{rowAt}
-use Rattle.table.proofs.Tests.{and-left, and-right, one-of, good-inj, unless-good, then-good}
+use Rattle.table.specs.Rows.{Row}
+use Rattle.table.specs.Plain.{tableOf}
+use Rattle.table.proofs.Tests.{good-inj, unless-good, then-good}
 use Rattle.table.proofs.AnswerLaws.{no-zero, answer-zero, is-differing}
-use Rattle.table.proofs.Lists.{Each, each-of}
-use Rattle.table.proofs.Entries.{every, kind-test}
+use Rattle.table.proofs.Lists.{Each}
 use Rattle.table.proofs.Registers.{Passes}
-use Rattle.table.proofs.Tables.{AllFit, Made, Table, table-made}
+use Rattle.table.proofs.Tables.{AllFit, table-made}
 use Rattle.checker.specs.Clocks.{Clock}
 use Rattle.checker.specs.Rules.{clockAt, sourceFits, clocksOf}
 use Rattle.checker.specs.Answers.{clockSize, clocksWords, checking, checkAnswer}
@@ -27,11 +25,12 @@ use Rattle.checker.proofs.CheckLaws.{Clocked, Ruled, clocks-ruled, AllSane, all
 use Rattle.semantics.specs.Cells.{value}
 use Rattle.semantics.specs.Runs.{Ticks, inputs, Ran, done, clashed, run, cells, Regular as Wide}
 use Rattle.semantics.specs.Answers.{maxTicks, running, ranAnswer, markByte}
-use Rattle.calendar.specs.Calendar.{Accepts, Asked, Ends, OnCalendar, Samples, Free, Judged, judgingTicks, SharedCalendar}
+use Rattle.calendar.specs.Calendar.{Accepts, Asked, Ends, OnCalendar, free, Judged, judgingTicks, SharedCalendar}
 use Rattle.semantics.proofs.Traces.{cells-length}
 use Rattle.calendar.proofs.Accepted.{Runs, runs}
 use Rattle.calendar.proofs.Unclashed.{rows-fit}
-use Rattle.calendar.proofs.Judged.{conditional, FreeRow, AllFree, refused-clashes}
+use Rattle.calendar.proofs.Unconditional.{free-rows}
+use Rattle.calendar.proofs.Judged.{refused-clashes}
 use Rattle.calendar.proofs.Shown.{AtTick, at-tick, written, due-shown}
 
 -- What an accepted table has.
@@ -68,7 +67,7 @@ accepted m words room e =
     }
 
 -- where the lengths are those asked, the run is the rows'
-asked-runs : (m : ℕ) (words : List ℕ) (rows : List Row) (log : List ℕ) (ticks : ℕ) (marks values : List ℕ) → tableOf m words ≡ good rows
+pub asked-runs : (m : ℕ) (words : List ℕ) (rows : List Row) (log : List ℕ) (ticks : ℕ) (marks values : List ℕ) → tableOf m words ≡ good rows
     → ticks ≤ maxTicks → Asked m words log ticks marks values → running m words log ticks (length marks) (length values) ≡ good (run rows log ticks)
 unfolding running
 asked-runs m words rows log ticks marks values e l a =
@@ -115,39 +114,6 @@ accepted-run m words clocks x log ticks marks values l asked = go (accepted m wo
         (rw e, on-calendar m words clocks log ticks marks values a r e)
 
 -- SECOND HALF
--- kinds other than 13 to 15, 17 and 18 make rows that neither sample nor merge nor view
-between : ℕ → ℕ → ℕ → Bool
-between low high n = leb low n && leb n high
-
-in-between : (low high n : ℕ) → between low high n ≡ true → (low ≤ n) × (n ≤ high)
-unfolding between
-in-between low high n e = (leb-true low n (and-left (leb low n) _ e), leb-true n high (and-right (leb low n) _ e))
-
-free-kind : (x y z : ℕ) (n : ℕ) (k : Kind) → Bool
-free-kind x y z n k = between 13 15 n || (between 17 18 n || not (conditional (k .make x y z)))
-
-kinds-free : (x y z : ℕ) → every (free-kind x y z) 0 kinds ≡ true
-unfolding kinds free-kind between
-kinds-free x y z = refl
-
-row-free : (n x y z : ℕ) → n < kindCount → (Samples n → ⊥) → FreeRow (decode n x y z)
-unfolding free-kind
-row-free n x y z l h =
-    one-of (between 13 15 n) _ (λ e. absurd (h (inl (in-between 13 15 n e))))
-    (one-of (between 17 18 n) _ (λ e. absurd (h (inr (in-between 17 18 n e)))) (not-true (conditional (decode n x y z))))
-    (kind-test (free-kind x y z) (kinds-free x y z) n l)
-
-free-rows : (m : ℕ) (words : List ℕ) (rows : List Row) → tableOf m words ≡ good rows → Free m words → AllFree 0 rows
-free-rows m words rows e free = go (table-made m words rows e)
-  where
-    go : Table m words rows → AllFree 0 rows
-    go t = each-of (λ (g : ℕ). FreeRow) 0 rows (tail 0) (λ f l. at f (rw (t .size) at l))
-      where
-        at : (f : ℕ) → f < m → FreeRow (rowAt rows f)
-        at f l =
-            let d : Made m f (rowWords words f) (rowAt rows f) = t .row-at f l in
-            subst FreeRow (d .row) (row-free (rowWords words f .kind) _ _ _ (d .known) (free f l))
-
 -- a run that answers 0 ended without a clash
 ended : (ticks : ℕ) (r : Result Ran) → ranAnswer ticks r .number ≡ 0 → (past : Ticks) × (r ≡ good (done past))
 ended ticks (good (done past)) e = (past, refl)
@@ -160,7 +126,7 @@ differing true (good ks) e = absurd (let z : _≡_ {A = ℕ} 0 21 = e in omega a
 differing true (refused why g) e = (g, ap (λ (w : Refusal). refused w g) (is-differing why e))
 differing false c e = absurd (let z : _≡_ {A = ℕ} 10 21 = e in omega arith)
 
-module _ (m : ℕ) (words clocks : List ℕ) (free : Free m words) (log marks values : List ℕ) where
+module _ (m : ℕ) (words clocks : List ℕ) (unsampled : free m words ≡ true) (log marks values : List ℕ) where
   never-both : checkAnswer m words (length clocks) .number ≡ number clocksDiffer → Ends m words log judgingTicks marks values → ⊥
   unfolding running checking
   never-both e x =
@@ -170,16 +136,16 @@ module _ (m : ℕ) (words clocks : List ℕ) (free : Free m words) (log marks va
       let b = unless-good (eqb (length log) (judgingTicks * inputs (t .0))) wrongLog 0 _ (done (r .0)) (a .1) in
       let c = unless-good (leb (judgingTicks * m) (length marks) && leb (judgingTicks * m) (length values)) shortTrace 0 _ (done (r .0)) (b .1) in
       let d : (g : ℕ) × (clocksOf (t .0) ≡ refused clocksDiffer g) = differing (leb (clockSize * m) (length clocks)) (clocksOf (t .0)) (rw (t .1) at e) in
-      refused-clashes (t .0) (rows-fit m words (t .0) (t .1)) (free-rows m words (t .0) (t .1) free) (d .0) (d .1) log (r .0) (good-inj (c .1))
+      refused-clashes (t .0) (rows-fit m words (t .0) (t .1)) (free-rows m words (t .0) (t .1) unsampled) (d .0) (d .1) log (r .0) (good-inj (c .1))
 
-one-run : (m : ℕ) (words clocks : List ℕ) → Free m words → Judged m words clocks → (log marks values : List ℕ)
+one-run : (m : ℕ) (words clocks : List ℕ) → free m words ≡ true → Judged m words clocks → (log marks values : List ℕ)
     → Asked m words log judgingTicks marks values → Accepts m words clocks ↔ Ends m words log judgingTicks marks values
-one-run m words clocks free j log marks values asked =
+one-run m words clocks unsampled j log marks values asked =
     (λ x. accepted-run m words clocks x log judgingTicks marks values (omega arith) asked .0, from j)
   where
     from : Judged m words clocks → Ends m words log judgingTicks marks values → Accepts m words clocks
     from (inl e) x = e
-    from (inr e) x = absurd (never-both m words clocks free log marks values e x)
+    from (inr e) x = absurd (never-both m words clocks unsampled log marks values e x)
 
 -- DEMAND 3, both halves
 pub shared-calendar : SharedCalendar

@@ -2,11 +2,11 @@
 -- check wrote, the log, the lengths, and the marks and values that the run left.
 use mathlib.Core.Path.{_≡_}
 use mathlib.Core.Logic.{_↔_, _⊎_}
-use Prim.Native.Nat.{ℕ, _+_, _*_, _-_, _/_, _≤_, _<_}
-use mathlib.Core.Bool.{cond}
+use Prim.Native.Nat.{ℕ, zero, suc, _+_, _*_, _-_, _/_, _≤_, _<_}
+use mathlib.Core.Bool.{Bool, true, cond, _&&_, _||_, not}
 use mathlib.Core.List.{List}
 use lib.ListN.{length, getD}
-use lib.Dec.{eqb}
+use lib.Dec.{eqb, leb}
 use Rattle.table.specs.Answers.{number, clocksDiffer}
 use Rattle.table.specs.Plain.{rowWords, tableOf, rowsIn}
 use Rattle.checker.specs.Rules.{maxDerived}
@@ -75,12 +75,13 @@ OnCalendar m words clocks log ticks marks values =
     → (cellAt m marks′ t f ≡ 1) ↔ Due m marks′ values′ t (clocksAfter m words clocks) f
 
 -- the kinds of sampling and merging, 13 to 15, and of views, 17 and 18
-abbrev pub Samples : ℕ → Type 0
-Samples kind = (13 ≤ kind × kind ≤ 15) ⊎ (17 ≤ kind × kind ≤ 18)
+abbrev pub samples : ℕ → Bool
+samples kind = (leb 13 kind && leb kind 15) || (leb 17 kind && leb kind 18)
 
--- a table free of sampling, merging and views
-abbrev pub Free : ℕ → List ℕ → Type 0
-Free m words = (f : ℕ) → f < m → Samples (rowWords words f .kind) → ⊥
+-- the first m rows are free of sampling, merging and views
+unfoldable pub free : ℕ → List ℕ → Bool
+free zero words = true
+free (suc f) words = free f words && not (samples (rowWords words f .kind))
 
 -- the check answers 0 or 21
 abbrev pub Judged : ℕ → List ℕ → List ℕ → Type 0
@@ -100,6 +101,6 @@ pub record SharedCalendar : Type 0 where
   -- a table free of sampling, merging and views that the check answers with 0 or 21 is accepted exactly when its run of 131,071
   -- ticks over any one log ends without a clash
   pub one-run-judges :
-      (m : ℕ) (words clocks : List ℕ) → Free m words → Judged m words clocks
+      (m : ℕ) (words clocks : List ℕ) → free m words ≡ true → Judged m words clocks
       → (log marks values : List ℕ) → Asked m words log judgingTicks marks values
       → Accepts m words clocks ↔ Ends m words log judgingTicks marks values
