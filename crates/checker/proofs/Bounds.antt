@@ -85,9 +85,6 @@ module _ {m : ℕ} {words zeros clocks : List ℕ} {found : Answer} (T : Told m 
       ap (λ (w : List ℕ). getD w (clockSize * f + i) 0) (T .stored ∙ ap (λ (r : Result (List Clock)). leaves clocksWords r zeros) (told .1))
       ∙ word-at (told .0) (drop (length (clocksWords (told .0))) zeros) f i (omega (arith, checked-within m words (length zeros) (told .0) (told .1) .0)) x
 
-  -- its period and phase
+  -- the first one is its period
   pub told-period : (f : ℕ) → f < m → getD clocks (clockSize * f) 0 ≡ clockAt (told .0) f .period
   told-period f l = ap (λ (i : ℕ). getD clocks i 0) (sym (add-zero (clockSize * f))) ∙ told-word f 0 l (omega arith)
-
-  pub told-phase : (f : ℕ) → f < m → getD clocks (clockSize * f + 1) 0 ≡ clockAt (told .0) f .phase
-  told-phase f l = told-word f 1 l (omega arith)

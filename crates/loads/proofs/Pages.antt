@@ -17,7 +17,7 @@ use Rattle.checker.specs.Clocks.{Clock}
 use Rattle.checker.specs.Rules.{clockAt, clocksOf}
 use Rattle.checker.specs.Answers.{clockSize, clocksFor, checkAnswer}
 use Rattle.checker.proofs.CheckLaws.{AllSane}
-use Rattle.checker.proofs.Bounds.{accepted-sane, told-refusal, Told, told, told-word, told-period, told-phase}
+use Rattle.checker.proofs.Bounds.{accepted-sane, told-refusal, Told, told, told-word, told-period}
 use Rattle.loads.specs.Loads.{load, maxLoad, Line, lineOf, linesFrom, sorted, Among, Ordered, lineText, total, totalText, pageText, pageOf, lineSize, paging, pageAnswer, pageAfter}
 use Rattle.loads.specs.Private.Words.{lineIn, linesIn, Loaded}
 use Rattle.loads.proofs.Lines.{Bounded, bounded}
@@ -129,7 +129,7 @@ module _ {m : ℕ} {words zeros clocks : List ℕ} {found : Answer} (T : Told m 
     line : (f : ℕ) → f < m → lineIn clocks times f ≡ lineOf ks times f
     line f l =
         let p : getD clocks (clockSize * f) 0 ≡ clockAt ks f .period = told-period T zero f l in
-        let q : getD clocks (clockSize * f + 1) 0 ≡ clockAt ks f .phase = told-phase T zero f l in
+        let q : getD clocks (clockSize * f + 1) 0 ≡ clockAt ks f .phase = told-word T zero f 1 l (omega arith) in
         let n : getD clocks (clockSize * f + 2) 0 ≡ length (clockAt ks f .conditions) = told-word T zero f 2 l (omega arith) in
         cc
 
