@@ -6,6 +6,7 @@ ghost use Rattle.table.specs.Packed.{readAnswer, wordsAfter, writeAnswer, bytes
 ghost use Rattle.checker.specs.Answers.{checkAnswer, clocksAfter};
 ghost use Rattle.semantics.specs.Answers.{runAnswer, marksAfter, valuesAfter};
 ghost use Rattle.runner.specs.Long.{longRunning, longAnswer, LongLeft};
+ghost use Rattle.archive.specs.Answers.{sizeAnswer, storeAnswer, storedAfter, restoring, cellsAnswer, marksBack, valuesBack};
 ghost use Rattle.lister.specs.Listing.{listingAnswer, textAfter};
 ghost use Rattle.loads.specs.Loads.{pageAnswer, pageAfter};
 ghost use Rattle.least.specs.Answers.{leastAnswer, partAfter, flowsAnswer, flowsAfter};
@@ -123,6 +124,71 @@ pub extern "C" fn baarqidho_long_run(
         (now (marks .entry)) (now (values .entry)) (now (tallies .entry)) (now (marks .exit)) (now (values .exit)) (now (tallies .exit)) ⌝ }
 {
     let answer = runner::long_run(flows, words, log, ticks, marks, values, tallies);
+    give(answer, flow, tick, count)
+}
+
+// Counts the words that a trace of a table in plain form has in the archive.
+#[no_mangle]
+pub extern "C" fn baarqidho_stored_words(
+    flows: u32,
+    words: &[u32],
+    ticks: u32,
+    flow: &mut u32,
+    tick: &mut u32,
+    count: &mut u32,
+) -> u32
+    ensures { λ r. ⌜ Given (sizeAnswer flows (now (words .entry)) ticks) r (now (flow .exit)) (now (tick .exit)) (now (count .exit)) ⌝ }
+{
+    let answer = archive::stored_words(flows, words, ticks);
+    give(answer, flow, tick, count)
+}
+
+// Stores a trace of a table in plain form, flow after flow the values present: the count of words.
+#[no_mangle]
+pub extern "C" fn baarqidho_store(
+    flows: u32,
+    words: &[u32],
+    ticks: u32,
+    marks: &[u8],
+    values: &[u32],
+    stored: &mut [u32],
+    flow: &mut u32,
+    tick: &mut u32,
+    count: &mut u32,
+) -> u32
+    ensures answered { λ r. ⌜ Given (storeAnswer flows (now (words .entry)) ticks (now (marks .entry)) (now (values .entry)) (length (now (stored .entry))))
+        r (now (flow .exit)) (now (tick .exit)) (now (count .exit)) ⌝ }
+    ensures kept { λ r. ⌜ now (stored .exit) ≡ storedAfter flows (now (words .entry)) ticks (now (marks .entry)) (now (values .entry)) (now (stored .entry)) ⌝ }
+{
+    let answer = archive::store(flows, words, ticks, marks, values, stored);
+    give(answer, flow, tick, count)
+}
+
+// Restores a stored trace of a table in plain form: the count of cells, and a mark and a value a cell.
+#[no_mangle]
+pub extern "C" fn baarqidho_restore(
+    flows: u32,
+    words: &[u32],
+    ticks: u32,
+    stored: &[u32],
+    marks: &mut [u8],
+    values: &mut [u32],
+    flow: &mut u32,
+    tick: &mut u32,
+    count: &mut u32,
+) -> u32
+    ensures answered { λ r. ⌜ Given
+        (cellsAnswer flows ticks
+        (restoring flows (now (words .entry)) ticks (length (now (stored .entry))) (length (now (marks .entry))) (length (now (values .entry)))))
+        r (now (flow .exit)) (now (tick .exit)) (now (count .exit)) ⌝ }
+    ensures marked { λ r. ⌜ now (marks .exit) ≡ marksBack flows ticks
+        (restoring flows (now (words .entry)) ticks (length (now (stored .entry))) (length (now (marks .entry))) (length (now (values .entry))))
+        (now (marks .entry)) ⌝ }
+    ensures valued { λ r. ⌜ now (values .exit) ≡ valuesBack flows ticks
+        (restoring flows (now (words .entry)) ticks (length (now (stored .entry))) (length (now (marks .entry))) (length (now (values .entry))))
+        (now (stored .entry)) (now (values .entry)) ⌝ }
+{
+    let answer = archive::restore(flows, words, ticks, stored, marks, values);
     give(answer, flow, tick, count)
 }
 

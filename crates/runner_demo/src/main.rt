@@ -1,5 +1,6 @@
 // Runs some plans and writes, for each, its title, a line with the answer's number, flow, tick and count, and a line with some cells of the
-// trace, mark and value; of a long run also the tallies. Trace, window and tallies hold 9 where nothing was written.
+// trace, mark and value; of a long run also the tallies. A trace that is stored has its words as well, and comes back. Trace, window, tallies
+// and words hold 9 where nothing was written.
 use libc::STDOUT_FILENO;
 use table::Answer;
 
@@ -141,6 +142,107 @@ fn seen() {
     shown(b"not begun\n", 3, &words, &log[..6], 3, 0, 10);
 }
 
+// Each word, after a space.
+fn listed(words: &[u32]) {
+    let mut i = 0;
+    while i < words.len() {
+        part(b" ", words[i]);
+        i += 1;
+    }
+}
+
+// A trace of 8 ticks of three flows stored, and all words after it.
+fn stored(title: &[u8], words: &[u32], marks: &[u8], values: &[u32], kept: &mut [u32]) {
+    let a = archive::store(3, words, 8, marks, values, kept);
+    io::write_all(STDOUT_FILENO, title);
+    answer(a);
+    io::write_all(STDOUT_FILENO, b"\n");
+    listed(kept);
+    io::write_all(STDOUT_FILENO, b"\n");
+}
+
+// Stored words restored, and all cells after it.
+fn restored(title: &[u8], words: &[u32], kept: &[u32]) {
+    let mut marks = [9u8; 24];
+    let mut values = [9u32; 24];
+    let a = archive::restore(3, words, 8, kept, &mut marks, &mut values);
+    io::write_all(STDOUT_FILENO, title);
+    answer(a);
+    io::write_all(STDOUT_FILENO, b"\n");
+    cells(&marks, &values, 0, 24);
+    io::write_all(STDOUT_FILENO, b"\n");
+}
+
+// An input (2, 0), its slower copy by 2, which is (4, 0), and an input (3, 1): for 8 ticks four words, two and three. A value where there is none,
+// and a word too few, are refused.
+fn archived() {
+    let words = [0, 2, 0, 0, 9, 0, 2, 0, 0, 3, 1, 0];
+    let marks = [
+        1,
+        1,
+        0,
+        0,
+        0,
+        1,
+        1,
+        0,
+        0,
+        0,
+        0,
+        0,
+        1,
+        1,
+        1,
+        0,
+        0,
+        0,
+        1,
+        0,
+        0,
+        0,
+        0,
+        1,
+    ];
+    let mut values = [
+        10,
+        10,
+        0,
+        0,
+        0,
+        31,
+        12,
+        0,
+        0,
+        0,
+        0,
+        0,
+        14,
+        14,
+        34,
+        0,
+        0,
+        0,
+        16,
+        0,
+        0,
+        0,
+        0,
+        37,
+    ];
+    let mut kept = [9u32; 9];
+    stored(b"stored\n", &words, &marks, &values, &mut kept);
+    restored(b"restored\n", &words, &kept);
+    restored(b"a word too few\n", &words, &[1, 2, 3, 4, 5, 6, 7, 8]);
+    values[3] = 1;
+    stored(
+        b"a value where there is none\n",
+        &words,
+        &marks,
+        &values,
+        &mut [9; 9],
+    );
+}
+
 // A refusal of the table names its row and leaves all.
 fn unknown_kind() {
     let words = [0, 1, 0, 0, 16, 0, 0, 0];
@@ -154,5 +256,6 @@ fn main() {
     long_k();
     below_zero();
     seen();
+    archived();
     unknown_kind();
 }

@@ -1,0 +1,9 @@
+pub mod Grids
+pub mod Columns
+pub mod Traces
+pub mod RoundTrip
+pub mod Held
+pub mod Judging
+pub mod Storing
+pub mod Restoring
+pub mod Calls
