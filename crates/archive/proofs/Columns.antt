@@ -18,14 +18,14 @@ use Rattle.archive.specs.RoundTrip.{ColumnLaw}
 use Rattle.archive.proofs.Grids.{before-last}
 
 -- a column has as many words as its progression has ticks
+one-word : (b : Bool) (v : ℕ) → length (cond b (v ∷ []) []) ≡ bit b
+one-word true v = refl
+one-word false v = refl
+
 pub picked-length : (n p : ℕ) (column : ℕ → ℕ) (t : ℕ) → length (picked n p column t) ≡ points n p t
 unfolding picked points
 picked-length n p column zero = refl
-picked-length n p column (suc t) = go (picked-length n p column t) (onGrid n p t)
-  where
-    go : length (picked n p column t) ≡ points n p t → (b : Bool) → length (picked n p column t ++ cond b (column t ∷ []) []) ≡ points n p t + bit b
-    go e true = length-append (picked n p column t) (column t ∷ []) ∙ omega (arith, e)
-    go e false = length-append (picked n p column t) [] ∙ omega (arith, e)
+picked-length n p column (suc t) = simp length-append (omega (arith, picked-length n p column t, one-word (onGrid n p t) (column t)))
 
 -- the word of a tick
 picked-at : (n p : ℕ) (column : ℕ → ℕ) (ticks t : ℕ) → onGrid n p t ≡ true → t < ticks → getD (picked n p column ticks) (points n p t) 0 ≡ column t

@@ -46,10 +46,6 @@ pub one-of : (b : Bool) → eqb (bit b) 1 ≡ b
 one-of true = refl
 one-of false = refl
 
-pub bit-most : (b : Bool) → bit b ≤ 1
-bit-most true = omega arith
-bit-most false = omega arith
-
 -- a cell that is due has mark 1; one that is not has mark 0 and value 0
 pub misfit-is : (due mark value a b : ℕ) → due ≤ 1 → a ≡ bit (eqb mark due) → b ≡ bit (eqb value 0) → eqb (1 - a + (1 - due) * (1 - b)) 0 ≡ cellFits (eqb due 1) mark value
 misfit-is zero mark value a b l p q = rw (p, q) (go (eqb mark 0) (eqb value 0))

@@ -13,6 +13,7 @@ ghost use Rattle.archive.specs.Private.Steps.{clocksIn, Sound, Short, Ti
 // 1 where two numbers are equal, else 0.
 fn same(a: u32, b: u32) -> u32
     ensures { λ r. ⌜ r ≡ bit (eqb a b) ⌝ }
+    ensures { λ r. ⌜ r ≤ 1 ⌝ }
 {
     if a == b { 1 } else { 0 }
 }

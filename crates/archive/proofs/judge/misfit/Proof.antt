@@ -2,9 +2,8 @@
 use Prim.Native.Nat.{_-_, _≤_}
 use native.Mathlib.Nat.{mul-le-mul}
 use native.Mathlib.Omega.{arith}
-use lib.Dec.{eqb}
 use borrow.Author.Needs.{needs}
-use Rattle.archive.proofs.Judging.{bit-most, misfit-is}
+use Rattle.archive.proofs.Judging.{misfit-is}
 use Rattle.archive.proofs.judge.misfit.Statement.{statement}
 use Rattle.archive.proofs.judge.misfit.Tie as tie
 
@@ -12,9 +11,7 @@ same-requires : tie.Need-same-requires
 same-requires c κs = search needs
 
 sub-result : tie.Need-sub-result
-sub-result c =
-    let a = c .before .args in
-    omega (arith, c .same .ensures, bit-most (eqb (a .mark) (a .due)))
+sub-result c = omega (arith, c .same .ensures .1)
 
 sub-result-2 : tie.Need-sub-result-2
 sub-result-2 c = search needs
@@ -23,9 +20,7 @@ same-requires-2 : tie.Need-same-requires-2
 same-requires-2 c κs = search needs
 
 sub-result-3 : tie.Need-sub-result-3
-sub-result-3 c =
-    let a = c .before .before .args in
-    omega (arith, c .same2 .ensures, bit-most (eqb (a .value) 0))
+sub-result-3 c = omega (arith, c .same2 .ensures .1)
 
 mul-result : tie.Need-mul-result
 mul-result c =
@@ -47,8 +42,10 @@ returns c =
     let same = c .before .same in
     let pre = c .before .before .pre in
     let absent : 1 - a .due ≤ 1 = omega arith in
-    let valued : 1 - c .same2 .result ≤ 1 = omega arith in
-    (misfit-is (a .due) (a .mark) (a .value) (same .result) (c .same2 .result) pre (same .ensures) (c .same2 .ensures), omega (arith, mul-le-mul absent valued))
+    let valued : 1 - c .same2 .result ≤ 1 = omega arith in (
+      misfit-is (a .due) (a .mark) (a .value) (same .result) (c .same2 .result) pre (same .ensures .0) (c .same2 .ensures .0),
+      omega (arith, mul-le-mul absent valued),
+    )
 
 pub misfit-spec : {M : Type 1} → statement M
 misfit-spec =

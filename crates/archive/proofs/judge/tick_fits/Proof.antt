@@ -11,7 +11,7 @@ use Rattle.calendar.specs.Calendar.{cellAt}
 use Rattle.archive.specs.Columns.{cellFits}
 use Rattle.archive.specs.Private.Steps.{movedOn, AllTold}
 use Rattle.archive.proofs.Held.{Moved, moved-none, moved-next, moved-all}
-use Rattle.archive.proofs.Judging.{one-of, bit-most, moved-is, moved-small, told-none, told-next}
+use Rattle.archive.proofs.Judging.{one-of, moved-is, moved-small, told-none, told-next}
 use Rattle.archive.proofs.judge.tick_fits.Statement.{statement}
 use Rattle.archive.proofs.judge.tick_fits.Tie as tie
 
@@ -81,12 +81,8 @@ shared-slice-read-misfit-2 c =
 
 misfit-requires : tie.Need-misfit-requires Inv-loop μ-loop
 misfit-requires c κs =
-    let after-same = c .before .before in
-    let at-loop = after-same .before .before .before in
-    let start = at-loop .before .before .before .before .before in
-    let k = at-loop .loop in
-    let a = start .args in
-    omega (arith, after-same .same .ensures, bit-most (eqb (getD (k .next) (k .f) 0) (a .t)))
+    let same = c .before .before .same in
+    same .ensures .1
 
 add-wrong : tie.Need-add-wrong Inv-loop μ-loop
 add-wrong c =
@@ -117,11 +113,9 @@ mul-next-2 c =
     let in-loop = after-same .before .before in
     let at-loop = in-loop .before in
     let start = at-loop .before .before .before .before .before in
-    let k = at-loop .loop in
-    let a = start .args in
     let pre = start .pre in
-    let once : after-same .same .result ≤ 1 = omega (arith, after-same .same .ensures, bit-most (eqb (getD (k .next) (k .f) 0) (a .t))) in
-    omega (arith, mul-le-mul once (pre .3 .short (k .f) (in-loop .loop-test .taken)))
+    let k = at-loop .loop in
+    omega (arith, mul-le-mul (after-same .same .ensures .1) (pre .3 .short (k .f) (in-loop .loop-test .taken)))
 
 mul-next-3 : tie.Need-mul-next-3 Inv-loop μ-loop
 mul-next-3 c =
@@ -150,7 +144,7 @@ add-next c =
     let pre = start .pre in
     omega (
       arith,
-      moved-small (getD (k .next) (k .f) 0) (a .t) (getD (a .periods .now) (k .f) 0) (after-same .same .result) (after-same .same .ensures) (omega (arith, c .slice-known3 .given (k .f))) (pre .1)
+      moved-small (getD (k .next) (k .f) 0) (a .t) (getD (a .periods .now) (k .f) 0) (after-same .same .result) (after-same .same .ensures .0) (omega (arith, c .slice-known3 .given (k .f))) (pre .1)
           (pre .3 .short (k .f) (in-loop .loop-test .taken)),
     )
 
@@ -191,14 +185,14 @@ loop-again c =
     after-misfit .misfit .ensures .0
     ∙ ap (λ (i : ℕ). cellFits (eqb (after-same .same .result) 1) (getD (a .marks .now) (i + k .f) 0) (getD (a .values .now) (i + k .f) 0)) (pre .2)
     ∙ ap (λ (d : Bool). cellFits d (cellAt (a .m) (a .marks .now) (a .t) (k .f)) (cellAt (a .m) (a .values .now) (a .t) (k .f)))
-    (ap (λ (i : ℕ). eqb i 1) (after-same .same .ensures) ∙ one-of (eqb x (a .t)) ∙ ap (λ (i : ℕ). eqb i (a .t)) same) in (
+    (ap (λ (i : ℕ). eqb i 1) (after-same .same .ensures .0) ∙ one-of (eqb x (a .t)) ∙ ap (λ (i : ℕ). eqb i (a .t)) same) in (
       omega (arith, in-loop .loop-test .taken),
       length-set (k .next) (k .f) _ ∙ k .inv .1,
       omega (arith, k .inv .2, after-misfit .misfit .ensures .1),
       told-next (a .m) (a .t) (a .marks .now) (a .values .now) (a .next .now) (k .f) (k .wrong) (after-misfit .misfit .result) told (k .inv .3),
       moved-next (a .m) (λ (g : ℕ). getD (a .next .now) g 0) (movedOn (a .t) (a .periods .now) (a .next .now)) (k .f) _ (k .next)
           (omega (arith, pre .6, k .inv .1, in-loop .loop-test .taken))
-          (moved-is x (a .t) (getD (a .periods .now) (k .f) 0) (after-same .same .result) (after-same .same .ensures)
+          (moved-is x (a .t) (getD (a .periods .now) (k .f) 0) (after-same .same .result) (after-same .same .ensures .0)
           ∙ ap (λ (i : ℕ). cond (eqb i (a .t)) (a .t + getD (a .periods .now) (k .f) 0) i) same) (k .inv .4),
     )
 
