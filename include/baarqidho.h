@@ -49,7 +49,7 @@ extern "C" {
 /* The greatest period and phase of a clock. Those that are written, in rows, are at most 4095. */
 #define BAARQIDHO_MAX_DERIVED 65535
 
-/* The most flows of a table, and the most ticks of a run and of a long run. */
+/* The most flows of a table, and the most ticks of a run (and of a trace in the archive) and of a long run. */
 #define BAARQIDHO_MAX_FLOWS 64
 #define BAARQIDHO_MAX_TICKS 131071
 #define BAARQIDHO_MAX_LONG_TICKS 4194303
@@ -94,7 +94,10 @@ enum baarqidho_number {
     BAARQIDHO_PAGE_TOO_SHORT = 37,     /* page below 26 x (flows + 1) bytes */
     BAARQIDHO_NOT_DIFFERING = 38,      /* the check does not answer the plan with 21 */
     BAARQIDHO_UNJOINED = 39,           /* no chain joins the flow to a rated one; names the lowest such flow */
-    BAARQIDHO_BAD_VIEW = 40            /* w no multiple of both periods, or c's phase above a's; names the flow */
+    BAARQIDHO_BAD_VIEW = 40,           /* w no multiple of both periods, or c's phase above a's; names the flow */
+    BAARQIDHO_HAS_CONDITIONS = 41,     /* kinds 13 to 15, 17 or 18 in a plan whose traces go into the archive */
+    BAARQIDHO_WRONG_LENGTH = 42,       /* marks, values or stored words not exactly as many as plan and ticks ask */
+    BAARQIDHO_OFF_CALENDAR = 43        /* a trace to store whose marks are not the clocks', or absent values not 0 */
 };
 
 /*
@@ -280,6 +283,53 @@ uint32_t baarqidho_least_flows(uint32_t plan_count, const uint32_t *words, size_
 uint32_t baarqidho_fill_rates(uint32_t plan_count, const uint32_t *words, size_t words_len,
                               uint32_t *filled, size_t filled_len,
                               uint32_t *flow, uint32_t *tick, uint32_t *count);
+
+/*
+ * Tells how many words a trace has in the archive. The archive is for plans that the check accepts and that have no row
+ * of kinds 13 to 15, 17 and 18: there a flow is present exactly at its phase plus whole periods. Of a trace of `ticks`
+ * ticks it has, flow after flow, the values present, each flow's in time order. A flow with period n and phase p has no
+ * word where ticks is at most p, else (ticks - p - 1) / n + 1 words, the quotient without its fraction.
+ *
+ * Success: count is the number of words of all flows. Refusals, in this order:
+ *   11, then row by row 13, 14, 15, as in baarqidho_check
+ *   row by row 23, 21, 22, 40, then 21 of a register's source, as in baarqidho_check
+ *   31  more than BAARQIDHO_MAX_TICKS ticks
+ *   41  a row of kinds 13 to 15, 17 or 18; no flow is named
+ */
+uint32_t baarqidho_stored_words(uint32_t plan_count, const uint32_t *words, size_t words_len, uint32_t ticks,
+                                uint32_t *flow, uint32_t *tick, uint32_t *count);
+
+/*
+ * Stores a trace of `ticks` ticks, marks and values as baarqidho_run leaves them, in the words that
+ * baarqidho_stored_words counts.
+ *
+ * Success: count is the number of words; all of `stored` is written. Refusals, in this order, each of which leaves all
+ * of `stored` as it was:
+ *   11, then row by row 13, 14, 15, then 23, 21, 22, 40, then 31 and 41, as in baarqidho_stored_words
+ *   42  marks_len or values_len is not exactly ticks x plan_count, or stored_len not exactly the number of words
+ *   43  a mark is not 1 where its flow is present or not 0 where it is absent, or an absent value is not 0; neither
+ *       tick nor flow is named
+ */
+uint32_t baarqidho_store(uint32_t plan_count, const uint32_t *words, size_t words_len, uint32_t ticks,
+                         const uint8_t *marks, size_t marks_len,
+                         const uint32_t *values, size_t values_len,
+                         uint32_t *stored, size_t stored_len,
+                         uint32_t *flow, uint32_t *tick, uint32_t *count);
+
+/*
+ * Gives a trace of `ticks` ticks back: marks by the clocks, and the stored words as the values present, 0 where absent.
+ * Any words will do, as many as there have to be; baarqidho_store gives them again.
+ *
+ * Success: count is ticks x plan_count, the number of cells, absent ones too; all of `marks` and `values` is written.
+ * Refusals, in this order, each of which leaves all of `marks` and `values` as it was:
+ *   11, then row by row 13, 14, 15, then 23, 21, 22, 40, then 31 and 41, as in baarqidho_stored_words
+ *   42  stored_len, marks_len or values_len is wrong, as in baarqidho_store
+ */
+uint32_t baarqidho_restore(uint32_t plan_count, const uint32_t *words, size_t words_len, uint32_t ticks,
+                           const uint32_t *stored, size_t stored_len,
+                           uint8_t *marks, size_t marks_len,
+                           uint32_t *values, size_t values_len,
+                           uint32_t *flow, uint32_t *tick, uint32_t *count);
 
 #ifdef __cplusplus
 }

@@ -13,7 +13,7 @@ pub struct Answer {
     pub flow: u32,
     /// The tick of a clash.
     pub tick: u32,
-    /// On success the count of flows, bytes or ticks; of a listing the length of the text.
+    /// On success the count of flows, bytes, ticks, words or cells; of a listing the length of the text.
     pub count: u32,
 }
 
@@ -57,6 +57,9 @@ impl Answer {
             38 => Refusal::NotDiffering,
             39 => Refusal::Unjoined { flow },
             40 => Refusal::BadView { flow },
+            41 => Refusal::HasConditions,
+            42 => Refusal::WrongLength,
+            43 => Refusal::OffCalendar,
             _ => Refusal::Other { number },
         })
     }
@@ -143,6 +146,13 @@ pub enum Refusal {
         /// The flow of that kind.
         flow: u32,
     },
+    /// 41: when, when-not, merge, when-seen or when-not-seen in a plan whose traces are to go into the archive.
+    HasConditions,
+    /// 42: the marks or the values of a trace are not exactly one per tick and flow, or its stored words not exactly as
+    /// many as [`stored_words()`](crate::stored_words()) counts.
+    WrongLength,
+    /// 43: a trace to store whose marks are not the clocks', or whose absent values are not 0.
+    OffCalendar,
     /// A number that the interface does not name.
     Other {
         /// That number.
@@ -174,6 +184,9 @@ impl Refusal {
             Refusal::NotDiffering => 38,
             Refusal::Unjoined { .. } => 39,
             Refusal::BadView { .. } => 40,
+            Refusal::HasConditions => 41,
+            Refusal::WrongLength => 42,
+            Refusal::OffCalendar => 43,
             Refusal::Other { number } => number,
         }
     }
@@ -201,6 +214,9 @@ impl Refusal {
             Refusal::NotDiffering => "the check does not answer the plan with 21",
             Refusal::Unjoined { .. } => "no chain joins it to an input or constant that has a rate",
             Refusal::BadView { .. } => "the view period is not a multiple of both periods, or c begins after a",
+            Refusal::HasConditions => "a plan with conditions or merges, whose traces the archive does not take",
+            Refusal::WrongLength => "marks, values or stored words are not exactly as many as plan and ticks ask",
+            Refusal::OffCalendar => "the marks are not the clocks', or an absent value is not 0",
             Refusal::Other { .. } => "a number that the interface does not name",
         }
     }

@@ -125,6 +125,48 @@ extern "C" {
         tick: *mut u32,
         count: *mut u32,
     ) -> u32;
+
+    fn baarqidho_stored_words(
+        plan_count: u32,
+        words: *const u32,
+        words_len: usize,
+        ticks: u32,
+        flow: *mut u32,
+        tick: *mut u32,
+        count: *mut u32,
+    ) -> u32;
+
+    fn baarqidho_store(
+        plan_count: u32,
+        words: *const u32,
+        words_len: usize,
+        ticks: u32,
+        marks: *const u8,
+        marks_len: usize,
+        values: *const u32,
+        values_len: usize,
+        stored: *mut u32,
+        stored_len: usize,
+        flow: *mut u32,
+        tick: *mut u32,
+        count: *mut u32,
+    ) -> u32;
+
+    fn baarqidho_restore(
+        plan_count: u32,
+        words: *const u32,
+        words_len: usize,
+        ticks: u32,
+        stored: *const u32,
+        stored_len: usize,
+        marks: *mut u8,
+        marks_len: usize,
+        values: *mut u32,
+        values_len: usize,
+        flow: *mut u32,
+        tick: *mut u32,
+        count: *mut u32,
+    ) -> u32;
 }
 
 /// Makes a call that returns its number and puts flow, tick and count through the three pointers.
@@ -462,6 +504,115 @@ pub fn fill_rates(plan_count: u32, words: &[u32], filled: &mut [u32]) -> Answer 
                 words.len(),
                 filled.as_mut_ptr(),
                 filled.len(),
+                flow,
+                tick,
+                count,
+            )
+        }
+    })
+}
+
+/// Tells how many words a trace of a plain table has in the archive. That takes plans that the check accepts and that
+/// have no row of kinds 13 to 15, 17 and 18, so that a flow is present exactly at its phase plus whole periods. Of a
+/// trace of some ticks it has, flow after flow, the values present, each flow's in time order.
+///
+/// Success gives the count of words. Refusals: 11, 13, 14, 15, those of the check (23, 21, 22 and 40), 31 above
+/// [`MAX_TICKS`](crate::MAX_TICKS) ticks, and 41 for a row of those kinds.
+///
+/// ```
+/// // A reading every third tick from tick 1 on, and every second of them: at ticks 1, 4, 7 and 10, and at 1 and 7.
+/// let words = [0, 3, 1, 0, 9, 0, 2, 0];
+/// let answer = baarqidho::stored_words(2, &words, 12);
+/// assert_eq!((answer.number, answer.count), (0, 6));
+/// assert_eq!(baarqidho::stored_words(2, &words, 1).count, 0);
+/// ```
+pub fn stored_words(plan_count: u32, words: &[u32], ticks: u32) -> Answer {
+    answer(|flow, tick, count| {
+        // SAFETY: pointer and length are those of a live slice.
+        unsafe { baarqidho_stored_words(plan_count, words.as_ptr(), words.len(), ticks, flow, tick, count) }
+    })
+}
+
+/// Stores a trace of some ticks, marks and values as [`run()`] leaves them, in as many words as [`stored_words()`]
+/// counts.
+///
+/// Success gives the count of words and writes all of `stored`. Refusals, none of which touches `stored`: those of
+/// [`stored_words()`]; 42 where marks or values are not exactly `ticks * plan_count`, or `stored` not exactly as many
+/// words as have to be; and 43 where a mark is not 1 at a tick of its flow's clock or not 0 at another, or where an
+/// absent value is not 0.
+///
+/// ```
+/// // A reading every second tick, and each of them a tick later.
+/// let words = [0, 2, 0, 0, 10, 0, 1, 0];
+/// let (marks, values) = ([1, 0, 0, 1, 1, 0], [70, 0, 0, 70, 80, 0]);
+/// let mut stored = [9; 3];
+/// let answer = baarqidho::store(2, &words, 3, &marks, &values, &mut stored);
+/// assert_eq!((answer.number, answer.count), (0, 3));
+/// assert_eq!(stored, [70, 80, 70]);
+///
+/// // A mark that is missing.
+/// let answer = baarqidho::store(2, &words, 3, &[1, 0, 0, 0, 1, 0], &values, &mut stored);
+/// assert_eq!(answer.number, 43);
+/// ```
+pub fn store(plan_count: u32, words: &[u32], ticks: u32, marks: &[u8], values: &[u32], stored: &mut [u32]) -> Answer {
+    answer(|flow, tick, count| {
+        // SAFETY: pointers and lengths are those of live slices, `stored` lent to this call alone.
+        unsafe {
+            baarqidho_store(
+                plan_count,
+                words.as_ptr(),
+                words.len(),
+                ticks,
+                marks.as_ptr(),
+                marks.len(),
+                values.as_ptr(),
+                values.len(),
+                stored.as_mut_ptr(),
+                stored.len(),
+                flow,
+                tick,
+                count,
+            )
+        }
+    })
+}
+
+/// Gives a trace of some ticks back: marks by the clocks, and the stored words as the values present, 0 where absent.
+/// Any words will do, as many as [`stored_words()`] counts; [`store()`] gives them again.
+///
+/// Success gives the count of cells, `ticks * plan_count`, absent ones too, and writes all of `marks` and `values`.
+/// Refusals, none of which touches either: those of [`stored_words()`], and 42 where `stored`, `marks` or `values` is
+/// not exactly as long as it has to be.
+///
+/// ```
+/// let words = [0, 2, 0, 0, 10, 0, 1, 0];
+/// let (mut marks, mut values) = ([9; 6], [9; 6]);
+/// let answer = baarqidho::restore(2, &words, 3, &[70, 80, 70], &mut marks, &mut values);
+/// assert_eq!((answer.number, answer.count), (0, 6));
+/// assert_eq!((marks, values), ([1, 0, 0, 1, 1, 0], [70, 0, 0, 70, 80, 0]));
+/// ```
+pub fn restore(
+    plan_count: u32,
+    words: &[u32],
+    ticks: u32,
+    stored: &[u32],
+    marks: &mut [u8],
+    values: &mut [u32],
+) -> Answer {
+    answer(|flow, tick, count| {
+        // SAFETY: pointers and lengths are those of live slices, `marks` and `values` lent to this call alone.
+        unsafe {
+            baarqidho_restore(
+                plan_count,
+                words.as_ptr(),
+                words.len(),
+                ticks,
+                stored.as_ptr(),
+                stored.len(),
+                marks.as_mut_ptr(),
+                marks.len(),
+                values.as_mut_ptr(),
+                values.len(),
                 flow,
                 tick,
                 count,

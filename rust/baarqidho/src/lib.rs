@@ -3,14 +3,14 @@
 //! A plan is a table of 1 to 64 flows, each defined by one row. The library reads and writes the packed form of a
 //! table, gives each flow its clock (the check), replays an input log into a trace (the run) or, over millions of
 //! ticks, into a window and tallies (the long run), lists the clocks as text, prints what each flow costs (the load
-//! page), takes out of a plan whose clocks differ the fewest flows that still do (the least part), and fills in the
-//! rates of inputs that were written without one.
+//! page), takes out of a plan whose clocks differ the fewest flows that still do (the least part), fills in the rates
+//! of inputs that were written without one, and stores of a trace the values that are present (the archive).
 //!
 //! There are two layers. [`read()`], [`write()`], [`check()`], [`run()`], [`long_run()`], [`listing()`],
-//! [`load_page()`], [`least_part()`], [`least_flows()`] and [`fill_rates()`] are the library's calls over slices that
-//! the caller lends; each takes any arguments and returns an [`Answer`]. [`Plan`] owns its words, is made of [`Row`]s,
-//! words or packed bytes, and returns [`Refusal`]s as errors; that of a run is a [`RunError`], which has the trace up
-//! to a clash.
+//! [`load_page()`], [`least_part()`], [`least_flows()`], [`fill_rates()`], [`stored_words()`], [`store()`] and
+//! [`restore()`] are the library's calls over slices that the caller lends; each takes any arguments and returns an
+//! [`Answer`]. [`Plan`] owns its words, is made of [`Row`]s, words or packed bytes, and returns [`Refusal`]s as errors;
+//! that of a run is a [`RunError`], which has the trace up to a clash.
 //!
 //! ```
 //! use baarqidho::{Plan, Row, RunError};
@@ -44,7 +44,8 @@ mod trace;
 
 pub use answer::{Answer, Refusal};
 pub use clock::{Clock, Condition};
-pub use ffi::{check, fill_rates, least_flows, least_part, listing, load_page, long_run, read, run, write};
+pub use ffi::{check, fill_rates, least_flows, least_part, listing, load_page, long_run, read, restore, run, store};
+pub use ffi::{stored_words, write};
 pub use least::LeastPart;
 pub use long::LongRun;
 pub use plan::{list, Plan};
@@ -68,7 +69,7 @@ pub const CLOCK_WORDS: usize = 3 + 2 * MAX_CONDITIONS;
 /// The greatest period and phase of a clock. Those that are written, in a [`Row`], are at most 4095.
 pub const MAX_DERIVED: u32 = 65_535;
 
-/// The most ticks of a run.
+/// The most ticks of a run, and of a trace in the archive.
 pub const MAX_TICKS: u32 = 131_071;
 
 /// The most ticks of a long run.

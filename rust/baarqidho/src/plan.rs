@@ -1,6 +1,7 @@
 //! A plan that owns its words, and the calls over it.
 
-use crate::{check, fill_rates, least_flows, least_part, listing, load_page, long_run, read, run, write};
+use crate::{check, fill_rates, least_flows, least_part, listing, load_page, long_run, read, restore, run, store};
+use crate::{stored_words, write};
 use crate::{Clash, Clock, LeastPart, LongRun, Refusal, Row, RunError, Trace};
 use crate::{CLOCK_WORDS, LISTING_MAX, MAX_FLOWS, MAX_LONG_TICKS, MAX_TICKS, PACKED_MAX, PAGE_MAX, ROW_WORDS};
 use crate::{TALLY_WORDS, WINDOW_TICKS};
@@ -258,6 +259,84 @@ impl Plan {
         let flows = fill_rates(self.count(), &self.words, &mut words).result()?;
         words.truncate(ROW_WORDS * flows);
         Ok(Plan { words })
+    }
+
+    /// How many words a trace of some ticks has in the archive: one for each value present.
+    ///
+    /// ```
+    /// use baarqidho::{Plan, Row};
+    ///
+    /// // A reading every 10 ticks from tick 5 on, and every sixth of them.
+    /// let plan = Plan::from_rows([Row::Input { period: 10, phase: 5 }, Row::Slower { a: 0, k: 6 }]);
+    /// assert_eq!([0, 5, 6, 65, 66].map(|ticks| plan.stored_words(ticks)), [0, 0, 2, 7, 9].map(Ok));
+    /// ```
+    ///
+    /// # Errors
+    ///
+    /// The refusal of [`stored_words()`]: 11, 13, 14, 15, 21, 22, 23, 40, 31 or 41.
+    pub fn stored_words(&self, ticks: u32) -> Result<usize, Refusal> {
+        stored_words(self.count(), &self.words, ticks).result()
+    }
+
+    /// Stores a trace: flow after flow the values present, each flow's in time order. It is for plans that the check
+    /// accepts and that have neither conditions nor merges; every whole trace that [`Plan::run`] gives of such a plan
+    /// can be stored.
+    ///
+    /// ```
+    /// use baarqidho::{Plan, Refusal, Row, RunError};
+    ///
+    /// // A reading every 10 ticks from tick 5 on, and every third of them.
+    /// let (reading, third) = (Row::Input { period: 10, phase: 5 }, Row::Slower { a: 0, k: 3 });
+    /// let plan = Plan::from_rows([reading, third]);
+    /// let log: Vec<u32> = (1_000..1_050).collect();
+    /// let trace = plan.run(&log, 50)?;
+    /// let stored = plan.store(&trace)?;
+    /// assert_eq!(stored, [1_005, 1_015, 1_025, 1_035, 1_045, 1_005, 1_035]);
+    /// assert_eq!(plan.restore(&stored, 50)?, trace);
+    ///
+    /// // The clocks of another plan are not those of the trace.
+    /// let other = Plan::from_rows([reading, Row::Slower { a: 0, k: 2 }]);
+    /// assert_eq!(other.store(&trace), Err(Refusal::OffCalendar));
+    /// # Ok::<(), RunError>(())
+    /// ```
+    ///
+    /// # Errors
+    ///
+    /// The refusal of [`store()`]: those of [`Plan::stored_words`]; 42 for a trace of another number of flows, or one
+    /// that ends within a tick, at a clash; and 43 for one that is not on the plan's clocks.
+    pub fn store(&self, trace: &Trace) -> Result<Vec<u32>, Refusal> {
+        let ticks = u32::try_from(trace.ticks()).unwrap_or(u32::MAX);
+        let mut stored = vec![0; self.stored_words(ticks)?];
+        store(self.count(), &self.words, ticks, trace.marks(), trace.values(), &mut stored).result()?;
+        Ok(stored)
+    }
+
+    /// Gives a stored trace of some ticks back. Any words will do, as many as [`Plan::stored_words`] counts: they are
+    /// the values at the ticks of the clocks.
+    ///
+    /// ```
+    /// use baarqidho::{Plan, Refusal, Row};
+    ///
+    /// let plan = Plan::from_rows([Row::Input { period: 2, phase: 1 }, Row::Later { a: 0, d: 3 }]);
+    /// let trace = plan.restore(&[70, 80, 90], 5)?;
+    /// let values = |flow| (0..5).map(|tick| trace.value(tick, flow)).collect::<Vec<_>>();
+    /// assert_eq!(values(0), [None, Some(70), None, Some(80), None]);
+    /// assert_eq!(values(1), [None, None, None, None, Some(90)]);
+    /// assert_eq!(plan.store(&trace)?, [70, 80, 90]);
+    /// assert_eq!(plan.restore(&[70, 80], 5), Err(Refusal::WrongLength));
+    /// # Ok::<(), Refusal>(())
+    /// ```
+    ///
+    /// # Errors
+    ///
+    /// The refusal of [`restore()`]: those of [`Plan::stored_words`], and 42 for another number of words.
+    pub fn restore(&self, stored: &[u32], ticks: u32) -> Result<Trace, Refusal> {
+        // Nothing is lent to a call that is refused, for its ticks and its count or for its words.
+        let fits = self.stored_words(ticks)? == stored.len();
+        let cells = if fits { ticks as usize * self.flows() } else { 0 };
+        let (mut marks, mut values) = (vec![0; cells], vec![0; cells]);
+        restore(self.count(), &self.words, ticks, stored, &mut marks, &mut values).result()?;
+        Ok(Trace::new(self.flows(), cells, marks, values))
     }
 
     /// How many cells a clash has before it. That of a register is found after all flows of its tick.

@@ -1,11 +1,15 @@
-//! What a run gave, whole or up to a clash.
+//! What a run gave, whole or up to a clash, or what the archive gave back of it.
 
 use std::error::Error;
 use std::fmt::{self, Display, Formatter};
 
 use crate::Refusal;
 
-/// What a run gave: one cell per tick and flow, tick after tick, as far as the run went.
+/// What a run gave: one cell per tick and flow, tick after tick, as far as the run went. [`Plan::store`] stores it and
+/// [`Plan::restore`] gives it back.
+///
+/// [`Plan::store`]: crate::Plan::store
+/// [`Plan::restore`]: crate::Plan::restore
 #[derive(Clone, Debug, PartialEq, Eq)]
 pub struct Trace {
     flows: usize,
