@@ -1,10 +1,12 @@
-//! Bench plans as the paper words them: read, write, check, run, long run, listing, load page, least part and rates
-//! filled in, each rule one function.
+//! Bench plans as the paper words them: read, write, check, run, long run, listing, load page, least part, rates filled
+//! in and traces in the archive, each rule one function.
 //!
 //! Nothing here is quick. Packed tables are read and written bit by bit, and the run keeps no state: it looks
 //! into the history of the trace for everything it needs. The least part is looked for among all sets of flows, and
-//! rates among all fillings within given limits. It is what the other implementations are held against.
+//! rates among all fillings within given limits. Of a trace in the archive every tick is asked whether it is due. It is
+//! what the other implementations are held against.
 
+mod archive;
 mod bits;
 mod check;
 mod clock;
@@ -18,6 +20,7 @@ mod page;
 mod rows;
 mod run;
 
+pub use archive::{restore, store, stored_words};
 pub use check::check;
 pub use fill::{accepted_fillings, fill_rates, fill_rates_within, Limits};
 pub use least::{least_flows, least_part, LEAST_MAX};
@@ -38,7 +41,7 @@ pub struct Answer {
     pub flow: u32,
     /// The tick of a clash.
     pub tick: u32,
-    /// On success the count of flows, bytes or ticks.
+    /// On success the count of flows, bytes, ticks, words or cells.
     pub count: u32,
 }
 

@@ -95,8 +95,8 @@ pub fn work_out(row: &Row, t: usize, logged: u32, history: &History) -> Result<C
 }
 
 /// Present at phase plus whole periods.
-fn on_calendar(period: u32, phase: u32, t: usize) -> bool {
-    (0..).map(|whole| phase as usize + whole * period as usize).take_while(|&due| due <= t).any(|due| due == t)
+pub fn on_calendar(period: u32, phase: u32, t: usize) -> bool {
+    t.checked_sub(phase as usize).is_some_and(|since| since.is_multiple_of(period as usize))
 }
 
 /// The number that 32 bits stand for in two's complement: the top bit counts −2 to the 31, the others as in any number.

@@ -4,10 +4,13 @@ use crate::operators::{work_out, Cell, History};
 use crate::rows::{table, Row};
 use crate::{answer, refuse, success, Answer, Refused};
 
+/// The most ticks of a plain run.
+pub const MOST_TICKS: u32 = 131_071;
+
 /// Runs a plain table over a log for some ticks. The count of the answer is that of the ticks.
 pub fn run(plan_count: u32, words: &[u32], log: &[u32], ticks: u32, marks: &mut [u8], values: &mut [u32]) -> Answer {
     answer(table(plan_count, words).and_then(|rows| {
-        let ticks = test_ticks_and_log(&rows, log, ticks, 131_071)?;
+        let ticks = test_ticks_and_log(&rows, log, ticks, MOST_TICKS)?;
         let cells = ticks * rows.len();
         if marks.len() < cells || values.len() < cells {
             return refuse(33);
@@ -26,12 +29,17 @@ fn inputs(rows: &[Row]) -> usize {
     rows.iter().filter(|row| matches!(row, Row::Input { .. })).count()
 }
 
-/// Numbers 31 and 32, of a run that takes so many ticks at the most.
-pub fn test_ticks_and_log(rows: &[Row], log: &[u32], ticks: u32, most: u32) -> Refused<usize> {
+/// Number 31, where there may be so many ticks at the most.
+pub fn test_ticks(ticks: u32, most: u32) -> Refused<usize> {
     if ticks > most {
         return refuse(31);
     }
-    let ticks = ticks as usize;
+    Ok(ticks as usize)
+}
+
+/// Numbers 31 and 32, of a run that takes so many ticks at the most.
+pub fn test_ticks_and_log(rows: &[Row], log: &[u32], ticks: u32, most: u32) -> Refused<usize> {
+    let ticks = test_ticks(ticks, most)?;
     if log.len() != ticks * inputs(rows) {
         return refuse(32);
     }
