@@ -1,9 +1,10 @@
-//! Bench plans, quick: read, write, check, run, long run, listing, load page, least part and rates filled in, without
-//! the heap; a run has constant work a cell.
+//! Bench plans, quick: read, write, check, run, long run, listing, load page, least part, rates filled in and traces in
+//! the archive, without the heap; a run and the archive have constant work a cell.
 //!
 //! The run carries between ticks only what each kind of row needs, so that no cell looks through the trace again.
-//! It is what the proved library is measured against, with the runs of [`mirror`] beside it.
+//! It is what the proved library is measured against, with the runs and the archive of [`mirror`] beside it.
 
+mod archive;
 mod check;
 mod fill;
 mod least;
@@ -15,6 +16,7 @@ mod plan;
 mod run;
 mod steps;
 
+pub use archive::{restore, store, stored_words};
 pub use check::check;
 pub use fill::fill_rates;
 pub use least::{least_flows, least_part};
@@ -34,7 +36,7 @@ pub struct Answer {
     pub flow: u32,
     /// The tick of a clash.
     pub tick: u32,
-    /// On success the count of flows, bytes or ticks.
+    /// On success the count of flows, bytes, ticks, words or cells.
     pub count: u32,
 }
 

@@ -1,15 +1,17 @@
-//! The run and the long run of the proved library, step for step, in safe Rust: the same words carried from tick to
-//! tick, the same decisions in the same order.
+//! The run, the long run and the archive of the proved library, step for step, in safe Rust: the same words carried from
+//! tick to tick, the same decisions in the same order.
 //!
 //! It follows the proved code and not the paper, so it is no oracle and its agreement with the library says nothing
 //! about either. It is for the benchmark alone, which tells from it what the same algorithm takes in safe Rust. Where
 //! Rust can say a step in several ways this has the quickest one that was tried: a row's carried words in an array of
 //! their own, an operand's mark and value read together.
 
+mod archive;
 mod outcome;
 
 use std::ops::RangeInclusive;
 
+pub use archive::{restore, store, stored_words};
 use outcome::{outcome, status, Signal, CLASHED};
 
 use crate::plan::{long_runnable, runnable, Row};

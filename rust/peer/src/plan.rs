@@ -81,12 +81,19 @@ pub fn test_row<const MAY_LACK: bool>(flow: usize, flows: usize, &[kind, x, y, z
     Ok(())
 }
 
+/// Number 31 above so many ticks.
+#[inline]
+fn test_ticks(ticks: u32, most: u32) -> Result<(), Answer> {
+    match ticks > most {
+        true => Err(Answer::number(31)),
+        false => Ok(()),
+    }
+}
+
 /// How many rows are inputs, the log having a word for each of them at each tick: numbers 31 and 32.
 #[inline]
 fn inputs(rows: &[Row], log: &[u32], ticks: u32, most: u32) -> Result<usize, Answer> {
-    if ticks > most {
-        return Err(Answer::number(31));
-    }
+    test_ticks(ticks, most)?;
     let inputs = rows.iter().filter(|row| row[0] == 0).count();
     if log.len() != ticks as usize * inputs {
         return Err(Answer::number(32));
@@ -132,4 +139,27 @@ pub fn long_runnable<'a>(
         return Err(Answer::number(35));
     }
     Ok((rows, inputs))
+}
+
+/// The clocks, all of them plain, of a table whose trace of some ticks can be in the archive, and how many flows it has:
+/// numbers 11 to 15, 21 to 23, 40, 31 and 41.
+#[inline]
+pub fn storable(plan_count: u32, words: &[u32], ticks: u32) -> Result<([Clock; MOST_FLOWS], usize), Answer> {
+    let rows = rows(plan_count, words)?;
+    let mut clocks = [Clock::default(); MOST_FLOWS];
+    derive(rows, &mut clocks)?;
+    test_ticks(ticks, MOST_TICKS)?;
+    if rows.iter().any(|row| matches!(row[0], 13..=15 | 17 | 18)) {
+        return Err(Answer::number(41));
+    }
+    Ok((clocks, rows.len()))
+}
+
+/// Number 42 unless marks and values are exactly so many cells, and the stored words exactly so many.
+#[inline]
+pub fn test_lengths(cells: usize, count: usize, marks: &[u8], values: &[u32], stored: &[u32]) -> Result<(), Answer> {
+    match (marks.len(), values.len(), stored.len()) == (cells, cells, count) {
+        true => Ok(()),
+        false => Err(Answer::number(42)),
+    }
 }
