@@ -160,4 +160,28 @@ static inline void fills(const char *name, uint32_t plan_count, const uint32_t *
     number = baarqidho_fill_rates(plan_count, of, words_len, words, filled_len, &flow, &tick, &count);
 }
 
+static inline void counts_stored(const char *name, const uint32_t *of, size_t words_len, uint32_t ticks)
+{
+    begin(name);
+    number = baarqidho_stored_words((uint32_t)(words_len / BAARQIDHO_ROW_WORDS), of, words_len, ticks,
+                                    &flow, &tick, &count);
+}
+
+static inline void stores(const char *name, const uint32_t *of, size_t words_len, uint32_t ticks,
+                          const uint8_t *marks, size_t marks_len, const uint32_t *values, size_t values_len,
+                          size_t stored_len)
+{
+    begin(name);
+    number = baarqidho_store((uint32_t)(words_len / BAARQIDHO_ROW_WORDS), of, words_len, ticks, marks, marks_len,
+                             values, values_len, words, stored_len, &flow, &tick, &count);
+}
+
+static inline void restores(const char *name, const uint32_t *of, size_t words_len, uint32_t ticks,
+                            const uint32_t *stored, size_t stored_len, size_t marks_len, size_t values_len)
+{
+    begin(name);
+    number = baarqidho_restore((uint32_t)(words_len / BAARQIDHO_ROW_WORDS), of, words_len, ticks, stored, stored_len,
+                               bytes, marks_len, words, values_len, &flow, &tick, &count);
+}
+
 #endif /* ANSWERS_H */

@@ -6,7 +6,7 @@
  * reply is number, flow, tick and count, then the slices written into, as they are afterwards. All in the machine's
  * order of bytes.
  *
- * `declared.h` is made from `baarqidho.h` by the test: READ_DECLARED and the nine others are the calls with the
+ * `declared.h` is made from `baarqidho.h` by the test: READ_DECLARED and the twelve others are the calls with the
  * header's own parameter names for arguments. A name that stands in another's place there is a wrong argument here.
  */
 #include <stdio.h>
@@ -164,6 +164,39 @@ static void answer_fill_rates(void)
     GIVE(filled);
 }
 
+/* Declares and takes what the calls of the archive have in common. */
+#define TAKE_TICKS                       \
+    uint32_t plan_count = take_number(); \
+    TAKE(uint32_t, words);               \
+    uint32_t ticks = take_number()
+
+static void answer_stored_words(void)
+{
+    TAKE_TICKS;
+    ANSWER(STORED_WORDS_DECLARED);
+}
+
+static void answer_store(void)
+{
+    TAKE_TICKS;
+    TAKE(uint8_t, marks);
+    TAKE(uint32_t, values);
+    TAKE(uint32_t, stored);
+    ANSWER(STORE_DECLARED);
+    GIVE(stored);
+}
+
+static void answer_restore(void)
+{
+    TAKE_TICKS;
+    TAKE(uint32_t, stored);
+    TAKE(uint8_t, marks);
+    TAKE(uint32_t, values);
+    ANSWER(RESTORE_DECLARED);
+    GIVE(marks);
+    GIVE(values);
+}
+
 int main(void)
 {
     int letter;
@@ -180,6 +213,9 @@ int main(void)
         case 'm': answer_least_part(); break;
         case 'n': answer_least_flows(); break;
         case 'f': answer_fill_rates(); break;
+        case 'k': answer_stored_words(); break;
+        case 's': answer_store(); break;
+        case 'S': answer_restore(); break;
         default: return 1;
         }
         fflush(stdout);

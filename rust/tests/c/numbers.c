@@ -1,6 +1,7 @@
 /*
  * Reaches every number of the header by its name through a real call, and every limit. Parts of answers, lengths and
- * contents are chosen to differ from each other, so that none can stand for another. `views.c` has number 40.
+ * contents are chosen to differ from each other, so that none can stand for another. `views.c` has number 40,
+ * `archive.c` 41 to 43.
  */
 #include "answers.h"
 

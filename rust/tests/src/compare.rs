@@ -15,7 +15,7 @@ pub struct Outcome {
     pub parts: Parts,
     /// The buffer of bytes: packed, marks, text or page.
     pub bytes: Vec<u8>,
-    /// The buffer of words: plain words, clocks, values, a least part or its flows, a filled plan.
+    /// The buffer of words: plain words, clocks, values, a least part or its flows, a filled plan, stored words.
     pub words: Vec<u32>,
     /// The tallies of a long run.
     pub tallies: Vec<u32>,
@@ -196,6 +196,41 @@ pub fn least_flows(of: &[&Implementation], plan: &Plan, flows_len: usize) -> Out
 pub fn fill_rates(of: &[&Implementation], plan: &Plan, filled_len: usize) -> Outcome {
     let context = || format!("rates of {plan:?} into {filled_len} words");
     compare(of, lengths(0, filled_len), context, |of, lent| (of.fill_rates)(plan.count, &plan.words, lent.words))
+}
+
+/// Counts the words that a trace of some ticks has in the archive.
+pub fn stored_words(of: &[&Implementation], plan: &Plan, ticks: u32) -> Outcome {
+    let context = || format!("stored words of {plan:?}, {ticks} ticks");
+    compare(of, lengths(0, 0), context, |of, _| (of.stored_words)(plan.count, &plan.words, ticks))
+}
+
+/// Stores a trace of some ticks, its marks and its values, in a buffer of that many words.
+pub fn store(
+    of: &[&Implementation],
+    plan: &Plan,
+    ticks: u32,
+    (marks, values): (&[u8], &[u32]),
+    stored_len: usize,
+) -> Outcome {
+    let trace = || format!("{ticks} ticks, trace of {} and {}", marks.len(), values.len());
+    let context = || format!("store of {plan:?}, {}, into {stored_len} words", trace());
+    compare(of, lengths(0, stored_len), context, |of, lent| {
+        (of.store)(plan.count, &plan.words, ticks, marks, values, lent.words)
+    })
+}
+
+/// Restores a trace of some ticks in buffers of so many marks and values.
+pub fn restore(
+    of: &[&Implementation],
+    plan: &Plan,
+    ticks: u32,
+    stored: &[u32],
+    (marks, values): (usize, usize),
+) -> Outcome {
+    let context = || format!("restore of {plan:?}, {ticks} ticks, {} words into {marks} and {values}", stored.len());
+    compare(of, lengths(marks, values), context, |of, lent| {
+        (of.restore)(plan.count, &plan.words, ticks, stored, lent.bytes, lent.words)
+    })
 }
 
 /// A run in words, for messages.

@@ -1,5 +1,6 @@
-//! Faults planted in plans and in packed bytes.
+//! Faults planted in plans, in packed bytes and in traces.
 
+use crate::implementation::Parts;
 use crate::rng::Rng;
 use crate::Plan;
 
@@ -274,6 +275,31 @@ fn rows_of(rng: &mut Rng, sources: &[u32], others: &[u32]) -> Plan {
     Plan::of(&rows)
 }
 
+/// Plans that are refused, and how: those that are no table, also where clocks differ in rows before the one that is
+/// wrong, and then those that the check refuses, each number of it for each cause.
+pub fn refused_plans() -> Vec<(Plan, Parts)> {
+    let (input, slow, when) = ([0, 1, 0, 0], [0, 2, 0, 0], [13, 0, 0, 0]);
+    let differ = [input, slow, [2, 0, 1, 0]];
+    let wrong = |row: [u32; 4]| [&differ[..], &[row]].concat();
+    let plans = [
+        (vec![], (11, 0, 0, 0)),
+        (vec![input; 65], (11, 0, 0, 0)),
+        (wrong([16, 0, 0, 0]), (13, 3, 0, 0)),
+        (wrong([19, 0, 0, 0]), (13, 3, 0, 0)),
+        (wrong([17, 0, 0, 0]), (14, 3, 0, 0)),
+        (wrong([9, 0, 64, 0]), (14, 3, 0, 0)),
+        (wrong([12, 3, 0, 0]), (15, 3, 0, 0)),
+        (differ.to_vec(), (21, 2, 0, 0)),
+        (vec![input, when, slow, [7, 5, 0, 2]], (21, 3, 0, 0)),
+        (vec![input, when, [0, 2048, 0, 0], [9, 2, 32, 0]], (22, 3, 0, 0)),
+        (vec![input, [9, 0, 63, 0], [9, 1, 63, 0], [9, 2, 63, 0]], (22, 3, 0, 0)),
+        (vec![input, when, [12, 1, 0, 0]], (23, 2, 0, 0)),
+        (vec![input, slow, [17, 0, 1, 1]], (40, 2, 0, 0)),
+        (vec![slow, [0, 3, 1, 0], [17, 0, 1, 6]], (40, 2, 0, 0)),
+    ];
+    plans.into_iter().map(|(rows, parts)| (Plan::of(&rows), parts)).collect()
+}
+
 /// Damages packed bytes: bits turned over, cut, lengthened, or filled up wrongly.
 pub fn damage(rng: &mut Rng, packed: &mut Vec<u8>) {
     match rng.below(8) {
@@ -290,4 +316,21 @@ pub fn damage(rng: &mut Rng, packed: &mut Vec<u8>) {
             }
         }
     }
+}
+
+/// Spoils a cell of a trace that is on its calendar, often the first or the last: another mark, or a value where it is
+/// absent. Tells whether there was one.
+pub fn spoil(rng: &mut Rng, marks: &mut [u8], values: &mut [u32]) -> bool {
+    let cells = marks.len().min(values.len());
+    if cells == 0 {
+        return false;
+    }
+    let place = rng.below(cells);
+    let place = rng.pick(&[0, cells - 1, place, place, place]);
+    match marks[place] {
+        0 if rng.percent(40) => values[place] = rng.value().max(1),
+        0 => marks[place] = rng.pick(&[1, 1, 2, 128, 255]),
+        _ => marks[place] = rng.pick(&[0, 0, 2, 3, 129, 255]),
+    }
+    true
 }

@@ -31,7 +31,7 @@ impl Display for Tally {
         let mut last = "";
         for ((call, number), count) in &self.counts {
             if *call != last {
-                write!(f, "\n{call:>11}:")?;
+                write!(f, "\n{call:>12}:")?;
                 last = call;
             }
             write!(f, "  {number}: {count}")?;

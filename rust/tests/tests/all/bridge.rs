@@ -155,4 +155,13 @@ pub static C: Implementation = Implementation {
     fill_rates: |count, words, filled| {
         Request::new(b'f').number(count).words(words).words(filled).answer(&mut [], [filled])
     },
+    stored_words: |count, words, ticks| Request::new(b'k').number(count).words(words).number(ticks).answer(&mut [], []),
+    store: |count, words, ticks, marks, values, stored| {
+        let plan = Request::new(b's').number(count).words(words).number(ticks);
+        plan.bytes(marks).words(values).words(stored).answer(&mut [], [stored])
+    },
+    restore: |count, words, ticks, stored, marks, values| {
+        let plan = Request::new(b'S').number(count).words(words).number(ticks);
+        plan.words(stored).bytes(marks).words(values).answer(marks, [values])
+    },
 };

@@ -1,4 +1,4 @@
-//! The C header: its constants and numbers, its ten calls, and its example.
+//! The C header: its constants and numbers, its thirteen calls, and its example.
 
 use std::io::Write;
 use std::path::Path;
@@ -60,7 +60,8 @@ fn names_of_parameters() {
     let calls = declarations();
     let names: Vec<&str> = calls.iter().map(|call| &call.0[..]).collect();
     let plain = ["read", "write", "check", "run", "long_run", "listing"];
-    let expected = [&plain[..], &["load_page", "least_part", "least_flows", "fill_rates"]].concat();
+    let planned = ["load_page", "least_part", "least_flows", "fill_rates"];
+    let expected = [&plain[..], &planned, &["stored_words", "store", "restore"]].concat();
     assert_eq!(names, expected);
     for (call, names) in calls {
         assert!(names.ends_with(&["flow", "tick", "count"].map(String::from)), "{call}: {names:?}");
@@ -85,7 +86,7 @@ fn the_example_lists_the_paper_plan() {
 
 /// Every number by its name, and every limit.
 fn all_programs_end_well(compiler: &[&str]) {
-    for program in ["numbers", "views", "slow"] {
+    for program in ["numbers", "views", "slow", "archive"] {
         printed(&compiled(compiler, &format!("rust/tests/c/{program}.c")));
     }
 }
@@ -106,7 +107,7 @@ fn numbers_from_cpp() {
     all_programs_end_well(&["c++", "-x", "c++", "-std=c++11"]);
 }
 
-/// All ten calls on random plans, faults and damaged bytes: C has every part and every cell that Rust has.
+/// All calls on random plans, faults and damaged bytes: C has every part and every cell that Rust has.
 #[test]
 fn calls_from_c() {
     mixture(Rng::new(81), &[&LIBRARY, &C], rounds(10_000));

@@ -1,5 +1,7 @@
 //! The proved library, the paper word by word and the quick implementation against each other.
 
+mod archive;
+mod archives;
 mod bridge;
 mod clashes;
 mod demand;

@@ -1,5 +1,5 @@
-//! The benchmark's run in the library's own steps, held against the paper word by word: the benchmark compares equal
-//! work.
+//! The benchmark's run and archive in the library's own steps, held against the paper word by word: the benchmark
+//! compares equal work.
 
 use tests::compare::{run, run_exactly, written_up_to};
 use tests::faults::{any_rows, plant};
@@ -8,6 +8,7 @@ use tests::implementation::{Implementation, MIRROR, PEER, REFERENCE};
 use tests::rng::Rng;
 use tests::{rounds, Plan, TICKS};
 
+use crate::archives;
 use crate::short::{faulty, sound};
 
 static BOTH: [&Implementation; 2] = [&REFERENCE, &MIRROR];
@@ -74,4 +75,10 @@ fn longer_runs() {
     }
     let plan = Plan::of(&[[0, 1, 0, 0]]);
     assert_eq!(run(&BOTH, &plan, &[], TICKS + 1, (0, 0)).parts, (31, 0, 0, 0));
+}
+
+/// Traces stored and restored, of plans of every sort.
+#[test]
+fn archives_of_few_ticks() {
+    archives::few_ticks(Rng::new(77), &BOTH, rounds(10_000));
 }

@@ -1,6 +1,7 @@
 //! The load page: by hand, at every edge, and refused in the right order.
 
 use tests::compare::{load_page, load_page_exactly, page_bytes, pattern_byte};
+use tests::faults::refused_plans;
 use tests::implementation::{Parts, ALL};
 use tests::Plan;
 
@@ -287,31 +288,20 @@ fn lengths() {
 /// Of two causes the earlier one is told: the table's, the check's, the times, the room. Nothing is written.
 #[test]
 fn order_of_refusals() {
-    let input = [0, 1, 0, 0];
-    let differ = [input, [0, 2, 0, 0], [2, 0, 1, 0]];
-    let refused = |rows: &[[u32; 4]], times: usize, page_len: usize, parts: Parts| {
-        let outcome = load_page(&ALL, &Plan::of(rows), &vec![1; times], page_len);
-        assert_eq!(outcome.parts, parts, "{rows:?}, {times} times, {page_len} bytes");
-        assert!(outcome.is_untouched(), "{rows:?}");
+    let refused = |plan: &Plan, times: usize, page_len: usize, parts: Parts| {
+        let outcome = load_page(&ALL, plan, &vec![1; times], page_len);
+        assert_eq!(outcome.parts, parts, "{plan:?}, {times} times, {page_len} bytes");
+        assert!(outcome.is_untouched(), "{plan:?}");
     };
     // For three flows: both right, one of them wrong, and both wrong.
     for (times, page_len) in [(3, 200), (3, 103), (2, 200), (4, 200), (0, 0), (65, 0)] {
-        refused(&[&differ[..], &[[16, 0, 0, 0]]].concat(), times, page_len, (13, 3, 0, 0));
-        refused(&[&differ[..], &[[19, 0, 0, 0]]].concat(), times, page_len, (13, 3, 0, 0));
-        refused(&[&differ[..], &[[17, 0, 0, 0]]].concat(), times, page_len, (14, 3, 0, 0));
-        refused(&[&differ[..], &[[9, 0, 64, 0]]].concat(), times, page_len, (14, 3, 0, 0));
-        refused(&[&differ[..], &[[12, 3, 0, 0]]].concat(), times, page_len, (15, 3, 0, 0));
-        refused(&[], times, page_len, (11, 0, 0, 0));
-        refused(&[input; 65], times, page_len, (11, 0, 0, 0));
-        refused(&differ, times, page_len, (21, 2, 0, 0));
-        refused(&[input, [0, 2048, 0, 0], [9, 1, 32, 0]], times, page_len, (22, 2, 0, 0));
-        refused(&[input, [13, 0, 0, 0], [12, 1, 0, 0]], times, page_len, (23, 2, 0, 0));
-        refused(&[input, [0, 2, 0, 0], [17, 0, 1, 1]], times, page_len, (40, 2, 0, 0));
-        refused(&[input, [0, 2, 0, 0], [7, 5, 0, 1]], times, page_len, (21, 2, 0, 0));
+        for (plan, parts) in refused_plans() {
+            refused(&plan, times, page_len, parts);
+        }
     }
     for (times, page_len, number) in
         [(0, 200, 36), (2, 200, 36), (4, 200, 36), (0, 0, 36), (2, 103, 36), (4, 103, 36), (3, 103, 37), (3, 0, 37)]
     {
-        refused(&[input; 3], times, page_len, (number, 0, 0, 0));
+        refused(&Plan::of(&[[0, 1, 0, 0]; 3]), times, page_len, (number, 0, 0, 0));
     }
 }

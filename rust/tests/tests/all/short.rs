@@ -1,8 +1,8 @@
 //! Many plans with short runs: all calls of all implementations, every cell compared.
 
 use tests::compare::{check, fill_rates, least_flows, least_part, listing, load_page, long_run, page_bytes, read};
-use tests::compare::{run, window, write, Lengths};
-use tests::faults::{any_rows, beyond, disturb, plant};
+use tests::compare::{restore, run, store, stored_words, window, words_are, write, Lengths};
+use tests::faults::{any_rows, beyond, disturb, plant, spoil};
 use tests::generate::{accepted, erase_rates, Clock, Shape};
 use tests::implementation::{Implementation, ALL};
 use tests::rng::Rng;
@@ -34,6 +34,7 @@ pub fn every_call(rng: &mut Rng, of: &[&Implementation], plan: &Plan, tally: &mu
     page(rng, of, plan, tally);
     least(rng, of, plan, tally);
     fill(rng, of, plan, tally);
+    archive(rng, of, plan, tally);
 
     let written = write(of, plan, 520);
     tally.add("write", written.parts.0);
@@ -115,6 +116,37 @@ fn fill(rng: &mut Rng, of: &[&Implementation], plan: &Plan, tally: &mut Tally) {
     let outcome = fill_rates(of, &plan, rng.around(plan.words.len()));
     tally.add("fill rates", outcome.parts.0);
     assert!(outcome.parts.0 == 0 || outcome.is_untouched());
+}
+
+/// Any words given back as a trace, and that stored again, now and then spoilt. Lengths are now and then wrong, and
+/// ticks too many.
+fn archive(rng: &mut Rng, of: &[&Implementation], plan: &Plan, tally: &mut Tally) {
+    let ticks = match rng.below(50) {
+        0 => 0,
+        1 => rng.pick(&[131_072, 131_073, u32::MAX]),
+        _ => rng.range(1, 40),
+    };
+    let counted = stored_words(of, plan, ticks);
+    tally.add("stored words", counted.parts.0);
+    let (words, cells) = (counted.parts.3 as usize, ticks.min(64) as usize * (plan.words.len() / 4));
+    let lengths = match rng.percent(80) {
+        true => (cells, cells),
+        false => (rng.around(cells), rng.around(cells)),
+    };
+    let stored_len = rng.around(words);
+    let stored = rng.log(stored_len);
+    let restored = restore(of, plan, ticks, &stored, lengths);
+    tally.add("restore", restored.parts.0);
+    assert!(restored.parts.0 == 0 || restored.is_untouched());
+
+    let (mut marks, mut values) = (restored.bytes[..lengths.0].to_vec(), restored.words[..lengths.1].to_vec());
+    let is_spoilt = rng.percent(30) && spoil(rng, &mut marks, &mut values);
+    let again = store(of, plan, ticks, (&marks, &values), rng.around(words));
+    tally.add("store", again.parts.0);
+    match again.parts.0 {
+        0 => assert!(!is_spoilt && words_are(&again, &stored[..words]), "{plan:?}"),
+        _ => assert!(again.is_untouched()),
+    }
 }
 
 /// Sound plans: accepted with the clocks that they were made to have, read back as written, and never a clash.

@@ -26,7 +26,7 @@ pub fn mixture(mut rng: Rng, of: &[&Implementation], plans: usize) -> Tally {
         damage(&mut rng, &mut packed);
         read_and_back(&mut rng, of, &packed, &mut tally);
     }
-    for number in (10..=16).chain(21..=23).chain(31..=40) {
+    for number in (10..=16).chain(21..=23).chain(31..=43) {
         assert!(tally.total(number) >= plans / 200, "number {number} occurs: {tally}");
     }
     tally

@@ -1,6 +1,7 @@
 //! The window and the tallies of a long run: by hand, at every edge, and refused in the right order.
 
 use tests::compare::{keeps, long_run, long_run_exactly, pattern_byte, pattern_word, run_exactly, window, Lengths};
+use tests::faults::refused_plans;
 use tests::implementation::{Implementation, Parts, ALL, LIBRARY};
 use tests::{Plan, TICKS, WINDOW};
 
@@ -280,30 +281,20 @@ fn lengths() {
 }
 
 /// A long run is refused with these parts, and leaves all three buffers as they were.
-fn refused(rows: &[[u32; 4]], log: usize, ticks: u32, lengths: Lengths, parts: Parts) {
-    let outcome = long_run(&ALL, &Plan::of(rows), &vec![1; log], ticks, lengths);
-    assert_eq!(outcome.parts, parts, "{rows:?}, log of {log} words, {ticks} ticks, {lengths:?}");
-    assert!(outcome.is_untouched(), "{rows:?}");
+fn refused(plan: &Plan, log: usize, ticks: u32, lengths: Lengths, parts: Parts) {
+    let outcome = long_run(&ALL, plan, &vec![1; log], ticks, lengths);
+    assert_eq!(outcome.parts, parts, "{plan:?}, log of {log} words, {ticks} ticks, {lengths:?}");
+    assert!(outcome.is_untouched(), "{plan:?}");
 }
 
 /// Of two causes the earlier one is told: the table's, the check's, the ticks, the log, the buffers.
 #[test]
 fn order_of_refusals() {
-    let input = [0, 1, 0, 0];
     let none = Lengths::default();
-    let differ = [input, [0, 2, 0, 0], [2, 0, 1, 0]];
-    refused(&[&differ[..], &[[16, 0, 0, 0]]].concat(), 0, u32::MAX, none, (13, 3, 0, 0));
-    refused(&[&differ[..], &[[19, 0, 0, 0]]].concat(), 0, u32::MAX, none, (13, 3, 0, 0));
-    refused(&[&differ[..], &[[17, 0, 0, 0]]].concat(), 0, u32::MAX, none, (14, 3, 0, 0));
-    refused(&[&differ[..], &[[9, 0, 64, 0]]].concat(), 0, u32::MAX, none, (14, 3, 0, 0));
-    refused(&[&differ[..], &[[12, 3, 0, 0]]].concat(), 0, u32::MAX, none, (15, 3, 0, 0));
-    refused(&[], 0, u32::MAX, none, (11, 0, 0, 0));
     for (log, ticks, lengths) in [(0, u32::MAX, none), (1, 1, window(3)), (2, 1, none), (2, 1, window(3))] {
-        refused(&differ, log, ticks, lengths, (21, 2, 0, 0));
-        refused(&[input, [9, 0, 63, 0], [9, 1, 63, 0], [9, 2, 63, 0]], log, ticks, lengths, (22, 3, 0, 0));
-        refused(&[input, [13, 0, 0, 0], [12, 1, 0, 0]], log, ticks, lengths, (23, 2, 0, 0));
-        refused(&[[0, 2, 0, 0], [0, 3, 1, 0], [17, 0, 1, 6]], log, ticks, lengths, (40, 2, 0, 0));
-        refused(&[input, [0, 2, 0, 0], [7, 5, 0, 1]], log, ticks, lengths, (21, 2, 0, 0));
+        for (plan, parts) in refused_plans() {
+            refused(&plan, log, ticks, lengths, parts);
+        }
     }
     for (log, ticks, lengths, number) in [
         (1, 4_194_304, none, 31),
@@ -315,7 +306,7 @@ fn order_of_refusals() {
         (1, 1, none, 35),
         (0, 0, none, 35),
     ] {
-        refused(&[input], log, ticks, lengths, (number, 0, 0, 0));
+        refused(&Plan::of(&[[0, 1, 0, 0]]), log, ticks, lengths, (number, 0, 0, 0));
     }
 }
 

@@ -13,6 +13,7 @@ use tests::{rounds, TICKS, WINDOW};
 
 use crate::short::faulty;
 
+mod archive;
 mod views;
 
 /// I's plan: two inputs, sampled and merged again.
@@ -429,7 +430,7 @@ fn errors_of_a_run() {
 #[test]
 fn numbers_and_refusals() {
     let mut meanings = Vec::new();
-    for number in (10..=16).chain(21..=23).chain(31..=40) {
+    for number in (10..=16).chain(21..=23).chain(31..=43) {
         let refusal = Answer { number, flow: 3, tick: 5, count: 0 }.result().expect_err("a refusal");
         assert_eq!(refusal.number(), number);
         assert!(!matches!(refusal, Refusal::Other { .. }));
