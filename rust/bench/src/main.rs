@@ -1,8 +1,9 @@
 //! The proved library against Rust, in one process and on the same input. The run is measured against two others: the
 //! same algorithm in safe Rust (`peer::mirror`), and a quick run with rows made ready beforehand (`peer::run`). The
-//! long run is measured against the long runs of both, and against the library's run of the same ticks. Check, write,
-//! read, load page, least part and rates filled in are measured against the quick implementation, the least part over
-//! plans whose last row is one that clashes, rates filled in over plans that lack them.
+//! long run is measured against the long runs of both, and against the library's run of the same ticks. Storing a trace
+//! and restoring it are measured against both, over plans without conditions. Check, write, read, load page, least part
+//! and rates filled in are measured against the quick implementation, the least part over plans whose last row is one
+//! that clashes, rates filled in over plans that lack them.
 //!
 //!     cargo run --release -p bench
 //!
@@ -13,8 +14,10 @@
 //!     valgrind --tool=callgrind --callgrind-out-file=/dev/null target/release/bench run mixed 16 1000 library
 //!     valgrind --tool=callgrind --callgrind-out-file=/dev/null target/release/bench run mixed 16 11000 library
 //!
-//! Here the difference of the two lines 'Collected' is divided by 10,000 × 16. PLAN is mixed, sparse, sums or views;
-//! IMPLEMENTATION is library, mirror or quick, or of the long run long, long-mirror or long-quick.
+//! Here the difference of the two lines 'Collected' is divided by 10,000 × 16. PLAN is mixed, sparse, sums, views, paces
+//! or rare; IMPLEMENTATION is library, mirror or quick, or of the long run long, long-mirror or long-quick. In the same
+//! way `bench archive CALL PLAN FLOWS TICKS IMPLEMENTATION` stores or restores a trace once: CALL is store or restore,
+//! PLAN is sums, paces or rare, and IMPLEMENTATION is library, mirror or quick.
 //!
 //! `bench call CALL PLAN FLOWS CALLS` makes one call of the library so many times and nothing else that depends on how
 //! many, so that the instructions of a call are the difference between two counts of calls, divided by the calls
@@ -25,6 +28,7 @@
 //!     valgrind --tool=callgrind --callgrind-out-file=/dev/null target/release/bench call page mixed 64 1000
 //!     valgrind --tool=callgrind --callgrind-out-file=/dev/null target/release/bench call page mixed 64 2000
 
+mod archive;
 mod measure;
 mod plans;
 mod runs;
@@ -33,7 +37,9 @@ mod tables;
 use std::env;
 use std::process::ExitCode;
 
-use plans::{mixed, sparse, sums, unrated, upward, views, Plan};
+use archive::CALLS;
+use measure::linear;
+use plans::{mixed, paces, rare, sparse, sums, unrated, upward, views, Plan};
 use runs::{LONG, LONG_AND_PLAIN, RUNS};
 
 /// As many ticks as a run may have, and a long run.
@@ -61,13 +67,13 @@ fn report() {
 
     runs::heading("Growth with ticks, a cell", &RUNS);
     let growth = [1_024, 8_192, 32_768, MOST_TICKS].map(|ticks| runs::run(&RUNS, &mixed(16), ticks));
-    runs::linear("128 times the ticks", &growth);
+    linear("128 times the ticks", &growth);
 
     runs::heading("Growth with flows, a cell", &RUNS);
     let growth = [16, 32, 48, 64].map(|flows| runs::run(&RUNS, &mixed(flows), 8_000));
-    runs::linear("4 times the flows", &growth);
+    linear("4 times the flows", &growth);
     let growth = [8, 16, 32, 64].map(|flows| runs::run(&RUNS, &sums(flows), 8_000));
-    runs::linear("8 times the flows", &growth);
+    linear("8 times the flows", &growth);
 
     runs::heading("The long run, as many ticks as a run may have, a cell", &LONG_AND_PLAIN);
     for flows in [4, 16, 64] {
@@ -81,7 +87,21 @@ fn report() {
 
     runs::heading("Growth of the long run with ticks, a cell", &LONG);
     let growth = [131_071, 1_048_575, MOST_LONG_TICKS].map(|ticks| runs::run(&LONG, &mixed(4), ticks));
-    runs::linear("32 times the ticks", &growth);
+    linear("32 times the ticks", &growth);
+
+    println!("\nThe archive. Storing reads a trace and writes its words, restoring reads the words and writes the");
+    println!("trace; all in one set of buffers, which have that trace and those words already.");
+    for (call, which) in CALLS {
+        archive::heading(&format!("The archive, {call}, all ticks, a cell"));
+        for flows in [4, 16, 64] {
+            for plan in [sums(flows), paces(flows), rare(flows)] {
+                archive::archive(which, &plan, MOST_TICKS);
+            }
+        }
+        archive::heading(&format!("Growth with ticks, {call}, a cell"));
+        let growth = [1_024, 8_192, 32_768, MOST_TICKS].map(|ticks| archive::archive(which, &paces(16), ticks));
+        linear("128 times the ticks", &growth);
+    }
 
     tables::heading("Check, write, read, load page and least part, a call");
     for flows in [1, 4, 16, 64] {
@@ -104,17 +124,22 @@ fn plan(name: &str, flows: &str) -> Option<Plan> {
         "sparse" => sparse(flows),
         "sums" => sums(flows),
         "views" => views(flows),
+        "paces" => paces(flows),
+        "rare" => rare(flows),
         "unrated" if flows >= 3 => unrated(flows),
         "upward" if flows >= 3 => upward(flows),
         _ => return None,
     })
 }
 
-/// One run, or one call so many times, as the arguments say; nothing if they do not.
+/// One run, one trace in the archive, or one call so many times, as the arguments say; nothing if they do not.
 fn one(arguments: &[&str]) -> Option<()> {
     match *arguments {
         ["run", name, flows, ticks, implementation] => {
             runs::once(&plan(name, flows)?, ticks.parse().ok()?, runs::of_name(implementation)?)
+        }
+        ["archive", call, name @ ("sums" | "paces" | "rare"), flows, ticks, implementation] => {
+            archive::once(call, &plan(name, flows)?, ticks.parse().ok()?, implementation)
         }
         ["call", call, name, flows, calls] => tables::only(call, &plan(name, flows)?, calls.parse().ok()?),
         _ => None,
@@ -128,8 +153,9 @@ fn main() -> ExitCode {
         report();
     } else if one(&arguments).is_none() {
         let (runs, calls) = (runs::names().join("|"), tables::names().join("|"));
-        eprintln!("bench, or bench run mixed|sparse|sums|views FLOWS TICKS {runs}");
-        eprintln!("or bench call {calls} mixed|sparse|sums|views|unrated|upward FLOWS CALLS");
+        eprintln!("bench, or bench run mixed|sparse|sums|views|paces|rare FLOWS TICKS {runs}");
+        eprintln!("or bench archive store|restore sums|paces|rare FLOWS TICKS {}", archive::names().join("|"));
+        eprintln!("or bench call {calls} mixed|sparse|sums|views|paces|rare|unrated|upward FLOWS CALLS");
         return ExitCode::FAILURE;
     }
     ExitCode::SUCCESS

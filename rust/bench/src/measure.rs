@@ -43,3 +43,31 @@ pub fn by_turns<const N: usize>(mut work: impl FnMut(usize)) -> Measured<N> {
     turns.remove(0);
     Measured { turns }
 }
+
+/// The heading of a table: the names of what is measured, and of the first against each of the others.
+pub fn heading<const N: usize>(title: &str, names: [&str; N]) {
+    println!("\n{title}");
+    print!("{:<34}", "");
+    names.iter().for_each(|name| print!(" {name:>11}"));
+    names[1..].iter().for_each(|name| print!("   {:>16}", format!("{}/{name}", names[0])));
+    println!();
+}
+
+/// Prints the line of what was measured over so many cells, and gives the first one's time a cell.
+pub fn line<const N: usize>(name: &str, measured: &Measured<N>, cells: usize) -> f64 {
+    let times: [f64; N] = std::array::from_fn(|which| measured.least(which) / cells as f64);
+    print!("{name:<34}");
+    times.iter().for_each(|time| print!(" {time:>11.2}"));
+    for which in 1..N {
+        let (least, median) = measured.ratios(which);
+        print!("   {least:>9.2} {median:>6.2}");
+    }
+    println!();
+    times[0]
+}
+
+/// Says how the library's time a cell changed over a growth: it is linear if that stays about the same.
+pub fn linear(growth: &str, times: &[f64]) {
+    let (first, last) = (times[0], times[times.len() - 1]);
+    println!("{growth}: {:.2} times the time a cell (linear: about 1)", last / first);
+}

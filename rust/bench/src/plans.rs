@@ -127,3 +127,19 @@ pub fn sums(flows: usize) -> Plan {
     rows.extend((1..flows as u32).map(|flow| [2, flow - 1, 0, 0]));
     Plan::new("sums", &rows)
 }
+
+/// Constants every tick, every second tick and so on up to every sixteenth, and again, each beginning a tick later.
+pub fn paces(flows: usize) -> Plan {
+    constants("paces", flows, |flow| flow % 16 + 1)
+}
+
+/// Constants every hundredth tick, each beginning a tick later.
+pub fn rare(flows: usize) -> Plan {
+    constants("rare", flows, |_| 100)
+}
+
+/// Constants with these periods, the first from tick 0 on and each other a tick later.
+fn constants(name: &'static str, flows: usize, period: fn(u32) -> u32) -> Plan {
+    let rows: Vec<[u32; 4]> = (0..flows as u32).map(|flow| [1, 7 + flow, period(flow), flow]).collect();
+    Plan::new(name, &rows)
+}

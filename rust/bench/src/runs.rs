@@ -2,7 +2,7 @@
 
 use std::hint::black_box;
 
-use crate::measure::by_turns;
+use crate::measure::{self, by_turns};
 use crate::plans::Plan;
 use crate::{MOST_LONG_TICKS, MOST_TICKS};
 
@@ -73,11 +73,7 @@ pub fn of_name(name: &str) -> Option<Run> {
 
 /// The heading of a table of runs.
 pub fn heading<const N: usize>(title: &str, runs: &[Run; N]) {
-    println!("\n{title}");
-    print!("{:<34}", "");
-    runs.iter().for_each(|run| print!(" {:>11}", run.name));
-    runs[1..].iter().for_each(|run| print!("   {:>16}", format!("{}/{}", runs[0].name, run.name)));
-    println!();
+    measure::heading(title, runs.map(|run| run.name));
 }
 
 /// Measures runs of some ticks, prints their line, and gives the first one's time a cell.
@@ -103,21 +99,8 @@ pub fn run<const N: usize>(runs: &[Run; N], plan: &Plan, ticks: usize) -> f64 {
     let measured = by_turns::<N>(|which| {
         black_box((runs[which].call)(count, black_box(words), &log, ticks as u32, &mut lent));
     });
-    let times: [f64; N] = std::array::from_fn(|which| measured.least(which) / (ticks * plan.flows()) as f64);
-    print!("{:<34}", format!("{}, {} flows, {ticks} ticks", plan.name, plan.flows()));
-    times.iter().for_each(|time| print!(" {time:>11.2}"));
-    for which in 1..N {
-        let (least, median) = measured.ratios(which);
-        print!("   {least:>9.2} {median:>6.2}");
-    }
-    println!();
-    times[0]
-}
-
-/// Says how the library's time a cell changed over a growth: it is linear if that stays about the same.
-pub fn linear(growth: &str, times: &[f64]) {
-    let (first, last) = (times[0], times[times.len() - 1]);
-    println!("{growth}: {:.2} times the time a cell (linear: about 1)", last / first);
+    let name = format!("{}, {} flows, {ticks} ticks", plan.name, plan.flows());
+    measure::line(&name, &measured, ticks * plan.flows())
 }
 
 /// One run, and nothing else that depends on the ticks: log and buffers are those of as many ticks as there may be.
