@@ -30,6 +30,7 @@ clockIn clocks f = every (periodIn clocks f) (phaseIn clocks f)
 unfoldable pub clocksIn : ℕ → List ℕ → List Clock
 clocksIn m clocks = perFlow (clockIn clocks) m
 
+-- the words of m clocks stand there, with periods in their range
 pub record Sound (m : ℕ) (clocks : List ℕ) : Type 0 where
   pub few : m ≤ maxFlows
   pub room : clockSize * m ≤ length clocks
@@ -63,7 +64,7 @@ Opened m ticks (refused why f) clocks places = Unit {0}
 abbrev pub fitsAt : ℕ → List ℕ → List ℕ → List ℕ → ℕ → ℕ → Bool
 fitsAt m clocks marks values t f = cellFits (onGrid (periodIn clocks f) (phaseIn clocks f) t) (cellAt m marks t f) (cellAt m values t f)
 
--- periods that were found
+-- periods that are not too long to be added to a tick
 pub record Short (m : ℕ) (periods : List ℕ) : Type 0 where
   pub room : m ≤ length periods
   pub short : (f : ℕ) → f < m → getD periods f 0 ≤ maxDerived
@@ -95,7 +96,7 @@ pub record WordsTo (m : ℕ) (clocks values : List ℕ) (ticks begin : ℕ) (sto
   pub words : (g j : ℕ) → g < m → j < points (periodIn clocks g) (phaseIn clocks g) begin
       → getD stored (wordsBefore (clocksIn m clocks) ticks g + j) 0 ≡ cellAt m values (point (periodIn clocks g) (phaseIn clocks g) j) g
 
--- the places from one to another are 0, and the others are as they were
+-- the places from one to another are 0, and those before them are as they were
 pub record Cleared (from to : ℕ) (old new : List ℕ) : Type 0 where
   pub size : length new ≡ length old
   pub inside : (i : ℕ) → from ≤ i → i < to → getD new i 0 ≡ 0
