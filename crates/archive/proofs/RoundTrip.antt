@@ -8,7 +8,8 @@ use mathlib.Core.List.{List, _++_, map, append-nil}
 use lib.ListN.{length, getD, drop, length-map, drop-of-length-le}
 use lib.Dec.{leb, eqb}
 use borrow.Author.Tests.{le-leb, eq-eqb, eqb-true}
-use Rattle.table.specs.Answers.{Result, good, over, leaves, success, wrongLength, offCalendar, noRoom}
+use Rattle.table.specs.declared.Answer.{Answer}
+use Rattle.table.specs.Answers.{Result, good, over, leaves, answer, success, wrongLength, offCalendar, noRoom}
 use Rattle.table.specs.Rows.{Row}
 use Rattle.table.specs.Plain.{tableOf}
 use Rattle.table.proofs.Tests.{and-left, and-right, and-both, unless-good, then-good}
@@ -77,21 +78,6 @@ module _ (m : ℕ) (words : List ℕ) (ticks : ℕ) where
   unfolding storing storedBy
   store-of marks values room ks a b c = rw (a, lengths-fit b, c)
 
-  -- words that are restored
-  record Restores (stored marks values : ℕ) : Type 0 where
-    clocks : List Clock
-    plan : archiving m words ticks ≡ good clocks
-    sizes : Lengths m ticks clocks marks values stored
-    eq : restoring m words ticks stored marks values ≡ good clocks
-
-  restores : (stored marks values : ℕ) → cellsAnswer m ticks (restoring m words ticks stored marks values) .number ≡ 0 → Restores stored marks values
-  unfolding restoring restoredBy
-  restores stored marks values e =
-      let a = answer-zero (λ (ks : List Clock). ticks * m) (restoring m words ticks stored marks values) e in
-      let b = then-good (archiving m words ticks) _ (a .0) (a .1) in
-      let c = unless-good (lengthsFit m ticks (b .0) marks values stored) wrongLength 0 _ (a .0) (b .2) in
-      record { clocks = b .0; plan = b .1; sizes = lengths (c .0); eq = a .1 ∙ sym (c .1) }
-
   restore-of : (stored marks values : ℕ) (ks : List Clock) → archiving m words ticks ≡ good ks → Lengths m ticks ks marks values stored
       → restoring m words ticks stored marks values ≡ good ks
   unfolding restoring restoredBy
@@ -129,19 +115,29 @@ module _ (m : ℕ) (words : List ℕ) (ticks : ℕ) where
       r : restoring m words ticks (length ws) (length marks′) (length values′) ≡ good ks
       r = restore-of (length ws) (length marks′) (length values′) ks (s .plan) record { marks-size = lm; values-size = lv; stored-size = size }
 
-  restored-back : (stored marks values : List ℕ)
+  restored-back : (stored : List ℕ) → sizeAnswer m words ticks ≡ success (length stored)
+      → (marks values old : List ℕ) → length marks ≡ ticks * m → length values ≡ ticks * m → length old ≡ length stored
       → let found = restoring m words ticks (length stored) (length marks) (length values) in
-      cellsAnswer m ticks found .number ≡ 0 → (old : List ℕ) → length old ≡ length stored
-      → let marks′ = marksBack m ticks found marks in
+      let marks′ = marksBack m ticks found marks in
       let values′ = valuesBack m ticks found stored values in
-      (storeAnswer m words ticks marks′ values′ (length old) ≡ success (length stored)) × (storedAfter m words ticks marks′ values′ old ≡ stored)
-  restored-back stored marks values e old lo = rw (s .eq, em, ev, q) (refl, all-over stored old (omega arith))
+      (cellsAnswer m ticks found ≡ success (ticks * m)) × (storeAnswer m words ticks marks′ values′ (length old) ≡ success (length stored))
+      × (storedAfter m words ticks marks′ values′ old ≡ stored)
+  restored-back stored e marks values old lm lv lo = rw (r, em, ev, q) (refl, refl, all-over stored old (omega arith))
     where
-      s : Restores (length stored) (length marks) (length values)
-      s = restores (length stored) (length marks) (length values) e
+      size : List Clock → ℕ
+      size ks = wordsBefore ks ticks m
+
+      plan : (ks′ : List Clock) × (archiving m words ticks ≡ good ks′)
+      plan = answer-zero size (archiving m words ticks) (ap (λ (a : Answer). a .number) e)
 
       ks : List Clock
-      ks = s .clocks
+      ks = plan .0
+
+      words-are : length stored ≡ wordsBefore ks ticks m
+      words-are = ap (λ (a : Answer). a .count) (sym e ∙ ap (answer size) (plan .1))
+
+      r : restoring m words ticks (length stored) (length marks) (length values) ≡ good ks
+      r = restore-of (length stored) (length marks) (length values) ks (plan .1) record { marks-size = lm; values-size = lv; stored-size = words-are }
 
       ms : List ℕ
       ms = cellsOf m (restoredMark ks) ticks
@@ -150,21 +146,21 @@ module _ (m : ℕ) (words : List ℕ) (ticks : ℕ) where
       vs = cellsOf m (restoredValue ks ticks stored) ticks
 
       em : over ms marks ≡ ms
-      em = all-over ms marks (omega (arith, cells-length m (restoredMark ks) ticks, s .sizes .marks-size))
+      em = all-over ms marks (omega (arith, cells-length m (restoredMark ks) ticks))
 
       ev : over vs values ≡ vs
-      ev = all-over vs values (omega (arith, cells-length m (restoredValue ks ticks stored) ticks, s .sizes .values-size))
+      ev = all-over vs values (omega (arith, cells-length m (restoredValue ks ticks stored) ticks))
 
       q : storing m words ticks ms vs (length old) ≡ good stored
       q =
-          store-of ms vs (length old) ks (s .plan)
+          store-of ms vs (length old) ks (plan .1)
           record {
             marks-size = cells-length m (restoredMark ks) ticks;
             values-size = cells-length m (restoredValue ks ticks stored) ticks;
-            stored-size = lo ∙ s .sizes .stored-size;
+            stored-size = lo ∙ words-are;
           }
-          (restored-fit ks m stored ticks (s .sizes .stored-size))
-          ∙ ap good (words-back ks m stored ticks (s .sizes .stored-size))
+          (restored-fit ks m stored ticks words-are)
+          ∙ ap good (words-back ks m stored ticks words-are)
 
 -- THE RUN'S TRACES
 -- a cell fits its own mark

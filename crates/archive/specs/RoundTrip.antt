@@ -33,15 +33,16 @@ pub record RoundTrip : Type 0 where
       → let stored = storedAfter m words ticks marks values old in
       let found = restoring m words ticks (length stored) (length marks′) (length values′) in
       (cellsAnswer m ticks found ≡ success (ticks * m)) × (marksBack m ticks found marks′ ≡ marks) × (valuesBack m ticks found stored values′ ≡ values)
-  -- words that are restored, and then stored, come back: any words of the right length
+  -- any words of the right length can be restored, and, stored again, come back
   pub words-back :
-      (m : ℕ) (words : List ℕ) (ticks : ℕ) (stored marks values : List ℕ)
+      (m : ℕ) (words : List ℕ) (ticks : ℕ) (stored : List ℕ) → sizeAnswer m words ticks ≡ success (length stored)
+      → (marks values old : List ℕ) → length marks ≡ ticks * m → length values ≡ ticks * m → length old ≡ length stored
       → let found = restoring m words ticks (length stored) (length marks) (length values) in
-      cellsAnswer m ticks found .number ≡ 0
-      → (old : List ℕ) → length old ≡ length stored
-      → let marks′ = marksBack m ticks found marks in
+      let marks′ = marksBack m ticks found marks in
       let values′ = valuesBack m ticks found stored values in
-      (storeAnswer m words ticks marks′ values′ (length old) ≡ success (length stored)) × (storedAfter m words ticks marks′ values′ old ≡ stored)
+      (cellsAnswer m ticks found ≡ success (ticks * m))
+      × (storeAnswer m words ticks marks′ values′ (length old) ≡ success (length stored))
+      × (storedAfter m words ticks marks′ values′ old ≡ stored)
   -- the trace that the run leaves of an accepted plan without conditions is one that can be stored, in as many words as are counted
   pub runs-stored :
       (m : ℕ) (words clocks : List ℕ) → Accepts m words clocks → free m words ≡ true

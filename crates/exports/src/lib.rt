@@ -158,7 +158,7 @@ pub extern "C" fn baarqidho_store(
 ) -> u32
     ensures answered { λ r. ⌜ Given (storeAnswer flows (now (words .entry)) ticks (now (marks .entry)) (now (values .entry)) (length (now (stored .entry))))
         r (now (flow .exit)) (now (tick .exit)) (now (count .exit)) ⌝ }
-    ensures kept { λ r. ⌜ now (stored .exit) ≡ storedAfter flows (now (words .entry)) ticks (now (marks .entry)) (now (values .entry)) (now (stored .entry)) ⌝ }
+    ensures stored { λ r. ⌜ now (stored .exit) ≡ storedAfter flows (now (words .entry)) ticks (now (marks .entry)) (now (values .entry)) (now (stored .entry)) ⌝ }
 {
     let answer = archive::store(flows, words, ticks, marks, values, stored);
     give(answer, flow, tick, count)
