@@ -9,7 +9,8 @@ use mathlib.Core.Bool.{Bool, true, false, _&&_, not}
 use mathlib.Core.List.{List, []}
 use lib.ListN.{length, getD}
 use lib.Seq.{ext-getD, getD-drop}
-use borrow.Author.Tests.{le-leb, lt-leb, eq-eqb, ne-eqb, leb-true}
+use lib.Dec.{eqb}
+use borrow.Author.Tests.{le-leb, lt-leb, leb-true}
 use Rattle.table.specs.declared.Answer.{Answer}
 use Rattle.table.specs.Answers.{Refusal, Result, good, refused, leaves, answer, success, refusal, tooManyTicks, hasConditions, wrongLength, offCalendar}
 use Rattle.table.specs.Rows.{Row, rowSize, maxFlows}
@@ -31,7 +32,7 @@ use Rattle.archive.specs.Traces.{wordsBefore, storedOf, traceFits, resto
 use Rattle.archive.specs.Answers.{archiving, sizeAnswer, lengthsFit, storedBy, storing, storeAnswer, storedAfter, restoredBy, restoring, Restored}
 use Rattle.archive.specs.Private.Steps.{clockIn, clocksIn, Sound, Opened, placeIn, Carried}
 use Rattle.archive.proofs.Traces.{cells-length, stored-length}
-use Rattle.archive.proofs.RoundTrip.{Lengths, lengths-fit, all-over}
+use Rattle.archive.proofs.RoundTrip.{Lengths, lengths, lengths-fit, all-over}
 
 -- ROWS without conditions
 pub free-none : (words : List ℕ) → free 0 words ≡ true
@@ -171,15 +172,17 @@ restored-as {m} {ticks} {found} {stored} {marks} {values} {ms} {vs} e h = subst 
 
 -- STORING AND RESTORING by clocks: lengths that differ, a trace that is not as they say, and the rest
 module _ (m ticks : ℕ) (ks : List Clock) where
-  module _ (marks values stored : ℕ) where
-    pub wrong-marks : (marks ≡ ticks * m → ⊥) → lengthsFit m ticks ks marks values stored ≡ false
-    wrong-marks n = rw (ne-eqb marks (ticks * m) n)
+  -- what the code's test of the lengths says, where the words are `size`
+  module _ (size marks values stored : ℕ) (words-are : size ≡ wordsBefore ks ticks m) {b : Bool}
+      (told : b ≡ (eqb marks (ticks * m) && (eqb values (ticks * m) && eqb stored size))) where
+    tested : lengthsFit m ticks ks marks values stored ≡ b
+    tested = sym (told ∙ ap (λ (i : ℕ). eqb marks (ticks * m) && (eqb values (ticks * m) && eqb stored i)) words-are)
 
-    pub wrong-values : marks ≡ ticks * m → (values ≡ ticks * m → ⊥) → lengthsFit m ticks ks marks values stored ≡ false
-    wrong-values e n = rw (eq-eqb marks (ticks * m) e, ne-eqb values (ticks * m) n)
+    pub lengths-good : b ≡ true → Lengths m ticks ks marks values stored
+    lengths-good e = lengths (tested ∙ e)
 
-    pub wrong-stored : marks ≡ ticks * m → values ≡ ticks * m → (stored ≡ wordsBefore ks ticks m → ⊥) → lengthsFit m ticks ks marks values stored ≡ false
-    wrong-stored e f n = rw (eq-eqb marks (ticks * m) e, eq-eqb values (ticks * m) f, ne-eqb stored (wordsBefore ks ticks m) n)
+    pub lengths-wrong : b ≡ false → lengthsFit m ticks ks marks values stored ≡ false
+    lengths-wrong e = tested ∙ e
 
   module _ (marks values stored : List ℕ) where
     abbrev Stored : Answer → List ℕ → Type 0

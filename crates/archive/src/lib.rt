@@ -1,8 +1,10 @@
 // Traces in the archive: the values of a trace stored flow after flow, and given back.
 ghost use mathlib.Core.Path.{_≡_};
 ghost use Prim.Native.Nat.{ℕ, _+_, _*_, _≤_, _<_, _^_};
+ghost use mathlib.Core.Bool.{_&&_};
 ghost use mathlib.Core.List.{List};
 ghost use lib.ListN.{length};
+ghost use lib.Dec.{eqb};
 ghost use Rattle.table.specs.Answers.{answer, leaves};
 ghost use Rattle.table.specs.Rows.{rowSize, maxFlows};
 ghost use Rattle.checker.specs.Answers.{clockSize};
@@ -133,6 +135,19 @@ pub fn stored_words(count: u32, words: &[u32], ticks: u32) -> Answer
     prepare(count, words, ticks, &mut clocks, &mut places)
 }
 
+// Whether so many marks, values and stored words are exactly as many as there are cells and words.
+fn lengths_fit(cells: usize, size: u32, marks: usize, values: usize, stored: usize) -> bool
+    ensures { λ r. ⌜ r ≡ (eqb marks cells && (eqb values cells && eqb stored size)) ⌝ }
+{
+    if marks != cells {
+        return false;
+    }
+    if values != cells {
+        return false;
+    }
+    stored == size as usize
+}
+
 // A trace stored by clocks that give it `size` words: 42 and 43, and then its words.
 fn store_by(
     m: usize,
@@ -154,13 +169,7 @@ fn store_by(
         (storedBy m ticks (now (marks .entry)) (now (values .entry)) (length (now (stored .entry))) (clocksIn m (now (clocks .entry)))) (now (stored .entry)) ⌝ }
 {
     let cells = (ticks as usize) * m;
-    if marks.len() != cells {
-        return Answer::refusal(table::WRONG_LENGTH, 0);
-    }
-    if values.len() != cells {
-        return Answer::refusal(table::WRONG_LENGTH, 0);
-    }
-    if stored.len() != size as usize {
+    if !lengths_fit(cells, size, marks.len(), values.len(), stored.len()) {
         return Answer::refusal(table::WRONG_LENGTH, 0);
     }
     if !judge::fits(m, clocks, ticks, marks, values) {
@@ -222,13 +231,7 @@ fn restore_by(
         (now (stored .entry)) (now (marks .entry)) (now (values .entry)) (now (marks .exit)) (now (values .exit)) r ⌝ }
 {
     let cells = (ticks as usize) * m;
-    if marks.len() != cells {
-        return Answer::refusal(table::WRONG_LENGTH, 0);
-    }
-    if values.len() != cells {
-        return Answer::refusal(table::WRONG_LENGTH, 0);
-    }
-    if stored.len() != size as usize {
+    if !lengths_fit(cells, size, marks.len(), values.len(), stored.len()) {
         return Answer::refusal(table::WRONG_LENGTH, 0);
     }
     blocks::put_all(m, clocks, ticks, stored, places, marks, values);
