@@ -9,3 +9,4 @@ pub mod Folds
 pub mod Giving
 pub mod Checks
 pub mod Bounds
+pub mod Causes

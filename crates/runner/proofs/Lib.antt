@@ -21,3 +21,4 @@ pub mod Replaying
 pub mod Called
 pub mod LongCalled
 pub mod LastTicks
+pub mod NoClash

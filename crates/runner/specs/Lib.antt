@@ -1,4 +1,5 @@
 pub mod Called
 pub mod Long
 pub mod LastTicks
+pub mod NoClash
 pub mod Private

@@ -1,0 +1,97 @@
+-- No long run clashes. Assumes nothing.
+use mathlib.Core.Path.{_≡_, refl, sym, _∙_, ap}
+use Prim.Native.Nat.{ℕ, _*_}
+use native.Mathlib.Omega.{arith}
+use mathlib.Core.Bool.{Bool, _&&_}
+use mathlib.Core.List.{List}
+use lib.ListN.{length}
+use lib.Dec.{leb, eqb}
+use Rattle.table.specs.declared.Answer.{Answer}
+use Rattle.table.specs.Answers.{number, clash, Result, good, refused, unless, then, tooManyTicks, wrongLog, shortWindow, noRoom}
+use Rattle.table.specs.Rows.{Row}
+use Rattle.table.specs.Plain.{tableOf, rowsIn}
+use Rattle.table.proofs.AnswerLaws.{answer-zero}
+use Rattle.table.proofs.Tests.{good-inj, unless-good, then-good}
+use Rattle.checker.specs.Clocks.{Clock}
+use Rattle.checker.specs.Rules.{clocksOf}
+use Rattle.checker.specs.Answers.{clockSize, checking}
+use Rattle.checker.proofs.Causes.{Unclashing, unless-other, then-other, is-good, table-other, clocks-other}
+use Rattle.semantics.specs.Runs.{Ticks, inputs, Ran, done, clashed, run}
+use Rattle.semantics.specs.Answers.{ranAnswer}
+use Rattle.semantics.specs.Windows.{tallySize}
+use Rattle.calendar.specs.Calendar.{Accepts}
+use Rattle.calendar.proofs.Unclashed.{unclashed}
+use Rattle.runner.specs.Long.{windowTicks, maxLongTicks, longRunning, longAnswer, LongCalled}
+use Rattle.runner.specs.NoClash.{NoClash}
+
+-- the rows and clocks of a table that the check accepts
+accepted : (m : ℕ) (words clocks : List ℕ) → Accepts m words clocks
+    → (rows : List Row) × (tableOf m words ≡ good rows) × (ks : List Clock) × (clocksOf rows ≡ good ks)
+unfolding checking
+accepted m words clocks a =
+    let x = answer-zero length (checking m words (length clocks)) a in
+    let t = then-good (tableOf m words) (λ rows. unless (leb (clockSize * m) (length clocks)) noRoom 0 (clocksOf rows)) (x .0) (x .1) in
+    (t .0, t .1, x .0, unless-good (leb (clockSize * m) (length clocks)) noRoom 0 (clocksOf (t .0)) (x .0) (t .2) .1)
+
+ends : (m : ℕ) (words clocks : List ℕ) → Accepts m words clocks → (log : List ℕ) (ticks : ℕ)
+    → (past : Ticks) × (run (rowsIn (tableOf m words)) log ticks ≡ done past) × (length past ≡ ticks)
+ends m words clocks a log ticks =
+    let A = accepted m words clocks a in
+    let u = unclashed m words (A .0) (A .2) (A .1) (A .3) log ticks in
+    (u .0, ap (λ (x : Result (List Row)). run (rowsIn x) log ticks) (A .1) ∙ u .1, u .2)
+
+-- what a long run comes to has no clash
+module _ (m : ℕ) (words log : List ℕ) (ticks a b c : ℕ) where
+  abbrev room : Bool
+  room = leb (windowTicks * m) a && leb (windowTicks * m) b && leb (tallySize * m) c
+
+  abbrev logged : List Row → Result Ran
+  logged rows = unless (eqb (length log) (ticks * inputs rows)) wrongLog 0 (unless room shortWindow 0 (good (run rows log ticks)))
+
+  abbrev limited : List Row → Result Ran
+  limited rows = unless (leb ticks maxLongTicks) tooManyTicks 0 (logged rows)
+
+  limited-other : (rows : List Row) → Unclashing (limited rows)
+  limited-other rows =
+      unless-other (leb ticks maxLongTicks) tooManyTicks 0 (logged rows) (λ e. omega arith)
+      (unless-other (eqb (length log) (ticks * inputs rows)) wrongLog 0 (unless room shortWindow 0 (good (run rows log ticks))) (λ e. omega arith)
+      (unless-other room shortWindow 0 (good (run rows log ticks)) (λ e. omega arith) (is-good (run rows log ticks))))
+
+  long-other : Unclashing (longRunning m words log ticks a b c)
+  unfolding longRunning
+  long-other =
+      then-other (tableOf m words) (λ rows. then (clocksOf rows) λ clocks. limited rows) (table-other m words)
+      (λ rows. then-other (clocksOf rows) (λ clocks. limited rows) (clocks-other rows) (λ clocks. limited-other rows))
+
+  -- the rows behind a long run that is not refused, and their run
+  taken : (x : Ran) → longRunning m words log ticks a b c ≡ good x
+      → (rows : List Row) × (tableOf m words ≡ good rows) × (ks : List Clock) × (clocksOf rows ≡ good ks) × (run rows log ticks ≡ x)
+  unfolding longRunning
+  taken x e =
+      let T = then-good (tableOf m words) (λ rows. then (clocksOf rows) λ clocks. limited rows) x e in
+      let K = then-good (clocksOf (T .0)) (λ clocks. limited (T .0)) x (T .2) in
+      let few = unless-good (leb ticks maxLongTicks) tooManyTicks 0 (logged (T .0)) x (K .2) in
+      let exact = unless-good (eqb (length log) (ticks * inputs (T .0))) wrongLog 0 (unless room shortWindow 0 (good (run (T .0) log ticks))) x (few .1) in
+      let ran = unless-good room shortWindow 0 (good (run (T .0) log ticks)) x (exact .1) in
+      (T .0, T .1, K .0, K .1, good-inj (ran .1))
+
+  never-34 : longAnswer m words log ticks a b c .number ≡ number clash → ⊥
+  never-34 z = go (longRunning m words log ticks a b c) refl z
+    where
+      go : (x : Result Ran) → longRunning m words log ticks a b c ≡ x → ranAnswer ticks x .number ≡ number clash → ⊥
+      go (refused why f) e q = long-other .other why f e q
+      go (good (done past)) e q = omega arith
+      go (good (clashed t f now past)) e q =
+          let T = taken (clashed t f now past) e in
+          let u = unclashed m words (T .0) (T .2) (T .1) (T .3) log ticks in
+          let d : done (u .0) ≡ clashed t f now past = sym (u .1) ∙ T .4 in
+          absurd (let z : _≡_ {A = ℕ} 0 1 = cc in omega arith)
+
+pub no-clash : NoClash
+no-clash =
+    record {
+      runs-out = ends;
+      never-clashes =
+          λ m words log ticks ms vs ts ms′ vs′ ts′ r L z.
+          never-34 m words log ticks (length ms) (length vs) (length ts) (ap (λ (b : Answer). b .number) (sym (L .answer)) ∙ z);
+    }
