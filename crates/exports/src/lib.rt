@@ -5,7 +5,7 @@ ghost use lib.ListN.{length};
 ghost use Rattle.table.specs.Packed.{readAnswer, wordsAfter, writeAnswer, bytesAfter};
 ghost use Rattle.checker.specs.Answers.{checkAnswer, clocksAfter};
 ghost use Rattle.semantics.specs.Answers.{runAnswer, marksAfter, valuesAfter};
-ghost use Rattle.runner.specs.Long.{longRunning, longAnswer, LongLeft};
+ghost use Rattle.runner.specs.Long.{longRows, longAnswer, LongLeft};
 ghost use Rattle.archive.specs.Answers.{sizeAnswer, storeAnswer, storedAfter, restoring, cellsAnswer, marksBack, valuesBack};
 ghost use Rattle.lister.specs.Listing.{listingAnswer, textAfter};
 ghost use Rattle.loads.specs.Loads.{pageAnswer, pageAfter};
@@ -118,8 +118,8 @@ pub extern "C" fn baarqidho_long_run(
         (longAnswer flows (now (words .entry)) (now (log .entry)) ticks (length (now (marks .entry))) (length (now (values .entry)))
         (length (now (tallies .entry))))
         r (now (flow .exit)) (now (tick .exit)) (now (count .exit)) ⌝ }
-    ensures left { λ r. ⌜ LongLeft flows
-        (longRunning flows (now (words .entry)) (now (log .entry)) ticks (length (now (marks .entry))) (length (now (values .entry)))
+    ensures left { λ r. ⌜ LongLeft flows (now (log .entry)) ticks
+        (longRows flows (now (words .entry)) (now (log .entry)) ticks (length (now (marks .entry))) (length (now (values .entry)))
         (length (now (tallies .entry))))
         (now (marks .entry)) (now (values .entry)) (now (tallies .entry)) (now (marks .exit)) (now (values .exit)) (now (tallies .exit)) ⌝ }
 {

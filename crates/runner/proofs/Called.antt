@@ -1,25 +1,29 @@
 -- What a run promises, refusal by refusal. Assumes nothing.
-use mathlib.Core.Path.{_≡_, refl, sym, _∙_, ap}
-use Prim.Native.Nat.{ℕ, _*_, _≤_}
-use mathlib.Core.Bool.{_&&_}
+use mathlib.Core.Path.{_≡_, refl, sym, _∙_, ap, ap₂}
+use Prim.Native.Nat.{ℕ, _*_, _≤_, _<_}
 use mathlib.Core.List.{List, map}
 use lib.ListN.{length}
 use native.Mathlib.Omega.{arith}
-use lib.Dec.{leb}
-use borrow.Author.Tests.{le-leb}
 use Rattle.table.specs.declared.Answer.{Answer}
-use Rattle.table.specs.Answers.{Refusal, shortTrace, Result, good, refused, answer, leaves}
+use Rattle.table.specs.Answers.{Refusal, number, clash, shortTrace, Result, good, refused, then, success, answer, over, leaves}
 use Rattle.table.specs.Rows.{Row}
 use Rattle.table.specs.Plain.{tableOf, rowsIn as goodRows, plainAnswer}
-use Rattle.table.proofs.AnswerLaws.{no-zero}
-use Rattle.table.proofs.Tests.{and-true}
-use Rattle.semantics.specs.Cells.{value}
-use Rattle.semantics.specs.Runs.{Ran, trace}
+use Rattle.table.proofs.AnswerLaws.{no-zero, answer-zero, answer-other}
+use Rattle.semantics.specs.Cells.{Cell, value}
+use Rattle.semantics.specs.Runs.{Ticks, inputs, Ran, done, clashed, run, cells, trace}
 use Rattle.semantics.specs.Answers.{maxTicks, running, ranAnswer, markByte}
 use Rattle.runner.specs.Called.{Called}
+use Rattle.runner.specs.declared.Reached.{Reached}
+use Rattle.runner.specs.declared.Reached.the-variants as reached
 use Rattle.runner.specs.Private.Ready.{rowsIn, Plain}
-use Rattle.runner.specs.Private.Placed.{testing, Replayed}
-use Rattle.runner.proofs.Placing.{placed-trace}
+use Rattle.runner.specs.Private.Placed.{placed, TicksEnd, limits}
+use Rattle.runner.proofs.Placing.{placed-trace, placed-clash}
+use Rattle.runner.proofs.Running.{end-or-clash, same-clash}
+use Rattle.runner.proofs.Limiting.{limits-then, kept}
+
+-- what a clash is answered with
+abbrev pub clashAnswer : ℕ → ℕ → Answer
+clashAnswer f t = record { number = number clash; flow = f; tick = t; count = 0 }
 
 -- what a call leaves, by what its run comes to
 called :
@@ -33,23 +37,64 @@ called m words log ticks ms vs ms′ vs′ r x e a p q =
       values = q ∙ ap (λ (z : Result Ran). leaves (λ (y : Ran). map value (trace y)) z vs) (sym e);
     }
 
--- a run that has room for every tick, and tallies nothing
-pub ran : (m : ℕ) (words log : List ℕ) (ticks room : ℕ) (ms vs ts ms′ vs′ ts′ : List ℕ) (r : Answer) → Plain m words → ticks ≤ room
-    → Replayed (testing (rowsIn m words) log ticks maxTicks (ticks * m) 0 shortTrace (length ms) (length vs) (length ts)) room m 0 ticks ms vs ts ms′ vs′ ts′ r
-    → Called m words log ticks ms vs ms′ vs′ r
-unfolding running Plain testing
-ran m words log ticks room ms vs ts ms′ vs′ ts′ r P w R = go (testing (rowsIn m words) log ticks maxTicks (ticks * m) 0 shortTrace (length ms) (length vs) (length ts)) refl
-  where
-    tests : running m words log ticks (length ms) (length vs) ≡ testing (rowsIn m words) log ticks maxTicks (ticks * m) 0 shortTrace (length ms) (length vs) (length ts)
-    tests = rw (P, le-leb 0 (length ts) (omega arith), and-true (leb (ticks * m) (length ms) && leb (ticks * m) (length vs)))
+-- the run of a table that is not refused, behind its limits
+module _ (m : ℕ) (words log : List ℕ) (ticks : ℕ) (ms vs : List ℕ) (P : Plain m words) where
+  abbrev pub limited : Result (Unit {0})
+  limited = limits ticks maxTicks (length log) (inputs (rowsIn m words)) (ticks * m) shortTrace (length ms) (length vs)
 
-    go : (x : Result Ran) → testing (rowsIn m words) log ticks maxTicks (ticks * m) 0 shortTrace (length ms) (length vs) (length ts) ≡ x → Called m words log ticks ms vs ms′ vs′ r
-    go (good x) e =
-        let D = R .ran x e in
-        called m words log ticks ms vs ms′ vs′ r (good x) (tests ∙ e) (D .answer)
-        (D .marks ∙ placed-trace room m markByte ms x (D .regular) (omega (arith, D .few)))
-        (D .values ∙ placed-trace room m value vs x (D .regular) (omega (arith, D .few)))
-    go (refused why f) e = let D = R .refuses why f e in called m words log ticks ms vs ms′ vs′ r (refused why f) (tests ∙ e) (D .0) (D .1) (D .2)
+  tests : running m words log ticks (length ms) (length vs) ≡ then limited (λ u. good (run (rowsIn m words) log ticks))
+  unfolding running Plain
+  tests =
+      rw P
+      (sym (limits-then ticks maxTicks (length log) (inputs (rowsIn m words)) (ticks * m) shortTrace (length ms) (length vs) (good (run (rowsIn m words) log ticks))))
+
+  pub turned-down : (r : Answer) → r ≡ answer (λ (u : Unit {0}). 0) limited → (r .number ≡ 0 → ⊥) → Called m words log ticks ms vs ms vs r
+  turned-down r a z =
+      let x = answer-other (λ (u : Unit {0}). 0) limited (λ q. z (ap (λ (b : Answer). b .number) a ∙ q)) in
+      called m words log ticks ms vs ms vs r (refused (x .0) (x .1)) (tests ∙ ap (λ (y : Result (Unit {0})). then y (λ u. good (run (rowsIn m words) log ticks))) (x .2))
+      (a ∙ ap (answer (λ (u : Unit {0}). 0)) (x .2)) refl refl
+
+  -- behind limits that are kept
+  module _ (r : Answer) (a : r ≡ answer (λ (u : Unit {0}). 0) limited) (z : r .number ≡ 0) where
+    passed : (u : Unit {0}) × (limited ≡ good u)
+    passed = answer-zero (λ (u : Unit {0}). 0) limited (ap (λ (b : Answer). b .number) (sym a) ∙ z)
+
+    pub within : (ticks ≤ maxTicks) × (length log ≡ ticks * inputs (rowsIn m words)) × (ticks * m ≤ length ms) × (ticks * m ≤ length vs)
+    within = kept ticks maxTicks (length log) (inputs (rowsIn m words)) (ticks * m) shortTrace (length ms) (length vs) (passed .0) (passed .1)
+
+    ran : (x : Ran) → run (rowsIn m words) log ticks ≡ x → running m words log ticks (length ms) (length vs) ≡ good x
+    ran x e = tests ∙ ap (λ (y : Result (Unit {0})). then y (λ u. good (run (rowsIn m words) log ticks))) (passed .1) ∙ ap good e
+
+    module _ (room : ℕ) (w : ticks ≤ room) (s ms′ vs′ : List ℕ) (end : Reached)
+        (D : TicksEnd m room ticks (rowsIn m words) log (run (rowsIn m words) log ticks) ms vs s ms′ vs′ end) where
+      pub ended : end ≡ reached.End → Called m words log ticks ms vs ms′ vs′ (success ticks)
+      ended q = go (run (rowsIn m words) log ticks) refl D
+        where
+          go : (x : Ran) → run (rowsIn m words) log ticks ≡ x → TicksEnd m room ticks (rowsIn m words) log x ms vs s ms′ vs′ end
+              → Called m words log ticks ms vs ms′ vs′ (success ticks)
+          go (done past) e d =
+              let R = d .1 in
+              let p : R .past ≡ past = let y : done (R .past) ≡ done past = sym (R .so-far) ∙ e in cc in
+              let all : (g : Cell → ℕ) (l l′ : List ℕ) → l′ ≡ placed room m g l (R .past) → l′ ≡ over (map g (cells past)) l =
+              λ g l l′ y. y ∙ placed-trace room m g l (R .past) (R .regular) (omega (arith, R .ticks)) ∙ ap (λ (i : Ticks). over (map g (cells i)) l) p in
+              called m words log ticks ms vs ms′ vs′ (success ticks) (good (done past)) (ran (done past) e) refl
+              (all markByte ms ms′ (R .marks)) (all value vs vs′ (R .values))
+          go (clashed t f now past) e d = end-or-clash (sym q ∙ d .0)
+
+      pub stopped : (t f : ℕ) → end ≡ reached.Clash t f → Called m words log ticks ms vs ms′ vs′ (clashAnswer f t) × (f < m)
+      stopped t f q = go (run (rowsIn m words) log ticks) refl D
+        where
+          go : (x : Ran) → run (rowsIn m words) log ticks ≡ x → TicksEnd m room ticks (rowsIn m words) log x ms vs s ms′ vs′ end
+              → Called m words log ticks ms vs ms′ vs′ (clashAnswer f t) × (f < m)
+          go (done past) e d = end-or-clash (sym (d .0) ∙ q)
+          go (clashed u g now past) e d =
+              let same = same-clash (sym q ∙ d .0) in
+              let C = d .1 in (
+                called m words log ticks ms vs ms′ vs′ (clashAnswer f t) (good (clashed u g now past)) (ran (clashed u g now past) e)
+                    (ap₂ clashAnswer (same .1) (same .0)) (C .marks ∙ placed-clash room m markByte ms now past (C .regular) (omega (arith, C .few)))
+                    (C .values ∙ placed-clash room m value vs now past (C .regular) (omega (arith, C .few))),
+                omega (arith, C .flow, same .1),
+              )
 
 pub accepted : (m : ℕ) (words : List ℕ) (r : Answer) → r ≡ plainAnswer m words → r .number ≡ 0 → Plain m words
 unfolding Plain rowsIn

@@ -17,8 +17,8 @@ pub mod Collecting
 pub mod Lent
 pub mod Tallying
 pub mod Running
-pub mod Replaying
+pub mod Limiting
+pub mod Underway
 pub mod Called
 pub mod LongCalled
-pub mod LastTicks
 pub mod NoClash

@@ -1,41 +1,46 @@
 -- What a long run promises, refusal by refusal. Assumes nothing.
 use mathlib.Core.Path.{_≡_, refl, sym, _∙_, ap, subst}
-use mathlib.Core.Bool.{true}
-use Prim.Native.Nat.{ℕ, _*_, _≤_}
+use mathlib.Core.Bool.{true, _&&_}
+use Prim.Native.Nat.{ℕ, _*_, _≤_, _<_}
 use native.Mathlib.Omega.{arith}
-use mathlib.Core.List.{List}
+use mathlib.Core.List.{List, []}
 use lib.ListN.{length}
+use lib.Dec.{leb, eqb}
+use borrow.Author.Tests.{le-leb, lt-leb}
 use Rattle.table.specs.declared.Answer.{Answer}
-use Rattle.table.specs.Answers.{Refusal, shortWindow, Result, good, refused, then}
+use Rattle.table.specs.Answers.{Refusal, tooManyTicks, wrongLog, shortWindow, Result, good, refused, unless, then, success, refusal, answer}
 use Rattle.table.specs.Rows.{Row, maxFlows}
 use Rattle.table.specs.Plain.{tableOf, rowsIn as goodRows}
+use Rattle.table.proofs.AnswerLaws.{answer-zero, answer-other}
 use Rattle.table.proofs.Tests.{then-good}
+use Rattle.table.proofs.Tables.{rows-good, table-made}
 use Rattle.checker.specs.Rules.{clocksOf}
 use Rattle.checker.specs.Answers.{clockSize, clocksFor, checkAnswer}
-use Rattle.table.proofs.Tables.{rows-good, table-made}
 use Rattle.checker.proofs.Bounds.{told-clocks, told-refusal}
-use Rattle.semantics.specs.Cells.{Cell, absent, value}
-use Rattle.semantics.specs.Runs.{Ticks, Ran, done, run, Regular}
-use Rattle.semantics.specs.Answers.{ranAnswer, markByte}
-use Rattle.semantics.specs.Windows.{Windowed}
+use Rattle.semantics.specs.Runs.{inputs}
+use Rattle.semantics.specs.Windows.{tallySize, Tallied}
+use Rattle.semantics.proofs.Tallies.{tallied-from}
 use Rattle.calendar.proofs.Unclashed.{unclashed, lag}
-use Rattle.runner.specs.Long.{windowTicks, maxLongTicks, longRunning, LongLeft, LongCalled}
+use Rattle.runner.specs.Long.{windowTicks, maxLongTicks, longRows, LongRan, LongLeft, LongCalled}
 use Rattle.runner.specs.Private.Ready.{rowsIn, Plain, Clocked}
-use Rattle.runner.specs.Private.Placed.{placed, Nearby, RanTo, testing, Replayed}
-use Rattle.runner.proofs.Placing.{windowed, window-fits}
-use Rattle.runner.proofs.Replaying.{granted}
+use Rattle.runner.specs.Private.Placed.{Nearby, Unclashed, limits}
+use Rattle.runner.proofs.Limiting.{unless-both, limits-then, kept}
 
--- what a call leaves, by what its run comes to
-called : (m : ℕ) (words log : List ℕ) (ticks : ℕ) (ms vs ts ms′ vs′ ts′ : List ℕ) (r : Answer) (x : Result Ran)
-    → longRunning m words log ticks (length ms) (length vs) (length ts) ≡ x → r ≡ ranAnswer ticks x → LongLeft m x ms vs ts ms′ vs′ ts′
+-- what a call leaves, by the rows that its run takes
+called : (m : ℕ) (words log : List ℕ) (ticks : ℕ) (ms vs ts ms′ vs′ ts′ : List ℕ) (r : Answer) (x : Result (List Row))
+    → longRows m words log ticks (length ms) (length vs) (length ts) ≡ x → r ≡ answer (λ (rows : List Row). ticks) x → LongLeft m log ticks x ms vs ts ms′ vs′ ts′
     → LongCalled m words log ticks ms vs ts ms′ vs′ ts′ r
 called m words log ticks ms vs ts ms′ vs′ ts′ r x e a l =
-    record { answer = a ∙ ap (ranAnswer ticks) (sym e); left = subst (λ (y : Result Ran). LongLeft m y ms vs ts ms′ vs′ ts′) (sym e) l }
+    record {
+      answer = a ∙ ap (answer (λ (rows : List Row). ticks)) (sym e);
+      left = subst (λ (y : Result (List Row)). LongLeft m log ticks y ms vs ts ms′ vs′ ts′) (sym e) l;
+    }
 
 -- an accepted plan does not clash
-finished : (m : ℕ) (words log : List ℕ) (ticks : ℕ) → Plain m words → Clocked m words → (past : Ticks) × (run (rowsIn m words) log ticks ≡ done past)
+pub no-tick-clashes : (m : ℕ) (words log : List ℕ) → Plain m words → Clocked m words → Unclashed (rowsIn m words) log
 unfolding Plain Clocked
-finished m words log ticks P K = let u = unclashed m words (rowsIn m words) (K .0) P (K .1) log ticks in (u .0, u .1)
+no-tick-clashes m words log P K =
+    record { ends = λ t. let u = unclashed m words (rowsIn m words) (K .0) P (K .1) log t in (u .0, u .1) }
 
 -- and its views look back by no more than the difference of two phases
 pub close-by : (m : ℕ) (words log : List ℕ) → Plain m words → Clocked m words → Nearby windowTicks (rowsIn m words) log
@@ -49,42 +54,49 @@ close-by m words log P K =
           record { lag = λ f u a c w s r b q x y. omega (arith, lag m words rows (K .0) P (K .1) log t past e f u a c w (omega arith) q s r x y .1) };
     }
 
--- a run into a window: what it leaves are window and tallies of a run to its end
-module _ (m : ℕ) (words log : List ℕ) (ticks : ℕ) (ms vs ts ms′ vs′ ts′ : List ℕ) (r : Answer) (P : Plain m words) (K : Clocked m words) where
-  tests : longRunning m words log ticks (length ms) (length vs) (length ts)
-      ≡ testing (rowsIn m words) log ticks maxLongTicks (windowTicks * m) m shortWindow (length ms) (length vs) (length ts)
-  unfolding longRunning Plain Clocked testing
-  tests = rw (P, K .1)
+-- the long run of an accepted plan, behind its limits
+module _ (m : ℕ) (words log : List ℕ) (ticks : ℕ) (ms vs ts : List ℕ) (P : Plain m words) (K : Clocked m words) where
+  abbrev pub limited : Result (Unit {0})
+  limited = limits ticks maxLongTicks (length log) (inputs (rowsIn m words)) (windowTicks * m) shortWindow (length ms) (length vs)
 
-  pub ran : Replayed (testing (rowsIn m words) log ticks maxLongTicks (windowTicks * m) m shortWindow (length ms) (length vs) (length ts))
-      windowTicks m m ticks ms vs ts ms′ vs′ ts′ r
-      → LongCalled m words log ticks ms vs ts ms′ vs′ ts′ r
-  ran R = go (testing (rowsIn m words) log ticks maxLongTicks (windowTicks * m) m shortWindow (length ms) (length vs) (length ts)) refl
-    where
-      past : Ticks
-      past = finished m words log ticks P K .0
+  -- and behind the test of its tallies
+  abbrev wide : Result (List Row)
+  wide = unless (leb (tallySize * m) (length ts)) shortWindow 0 (good (rowsIn m words))
 
-      window : (g : Cell → ℕ) → g absent ≡ 0 → (l l′ : List ℕ) → windowTicks * m ≤ length l → Regular m past → l′ ≡ placed windowTicks m g l past
-          → Windowed windowTicks m g past l l′
-      window g z l l′ h w e =
-          subst (Windowed windowTicks m g past l) (sym e)
-          (windowed windowTicks m g l z (omega arith) past w (window-fits windowTicks m (length past) (length l) (omega arith) h))
+  tests : longRows m words log ticks (length ms) (length vs) (length ts) ≡ then limited (λ u. wide)
+  unfolding longRows Plain Clocked
+  tests =
+      rw (P, K .1)
+      (ap (λ (x : Result (List Row)). unless (leb ticks maxLongTicks) tooManyTicks 0 (unless (eqb (length log) (ticks * inputs (rowsIn m words))) wrongLog 0 x))
+      (unless-both (leb (windowTicks * m) (length ms) && leb (windowTicks * m) (length vs)) (leb (tallySize * m) (length ts)) shortWindow 0 (good (rowsIn m words)))
+      ∙ sym (limits-then ticks maxLongTicks (length log) (inputs (rowsIn m words)) (windowTicks * m) shortWindow (length ms) (length vs) wide))
 
-      go : (x : Result Ran) → testing (rowsIn m words) log ticks maxLongTicks (windowTicks * m) m shortWindow (length ms) (length vs) (length ts) ≡ x
-          → LongCalled m words log ticks ms vs ts ms′ vs′ ts′ r
-      go (refused why f) e =
-          let D = R .refuses why f e in
-          called m words log ticks ms vs ts ms′ vs′ ts′ r (refused why f) (tests ∙ e) (D .0) (D .1, D .2, D .3)
-      go (good x) e =
-          let G = granted (rowsIn m words) log ticks maxLongTicks (windowTicks * m) m shortWindow (length ms) (length vs) (length ts) x e in
-          let ends : x ≡ done past = sym (G .0) ∙ finished m words log ticks P K .1 in
-          let D : RanTo (done past) windowTicks m m ticks ms vs ts ms′ vs′ ts′ r =
-          subst (λ (y : Ran). RanTo y windowTicks m m ticks ms vs ts ms′ vs′ ts′ r) ends (R .ran x e) in
-          called m words log ticks ms vs ts ms′ vs′ ts′ r (good (done past)) (tests ∙ e ∙ ap good ends) (D .answer) (
-            window markByte refl ms ms′ (G .1) (D .regular) (D .marks),
-            window value refl vs vs′ (G .2) (D .regular) (D .values),
-            D .tallied past refl,
-          )
+  pub turned-down : (r : Answer) → r ≡ answer (λ (u : Unit {0}). 0) limited → (r .number ≡ 0 → ⊥) → LongCalled m words log ticks ms vs ts ms vs ts r
+  turned-down r a z =
+      let x = answer-other (λ (u : Unit {0}). 0) limited (λ q. z (ap (λ (b : Answer). b .number) a ∙ q)) in
+      called m words log ticks ms vs ts ms vs ts r (refused (x .0) (x .1)) (tests ∙ ap (λ (y : Result (Unit {0})). then y (λ u. wide)) (x .2))
+      (a ∙ ap (answer (λ (u : Unit {0}). 0)) (x .2)) (refl, refl, refl)
+
+  -- behind limits that are kept
+  module _ (r : Answer) (a : r ≡ answer (λ (u : Unit {0}). 0) limited) (z : r .number ≡ 0) where
+    passed : (u : Unit {0}) × (limited ≡ good u)
+    passed = answer-zero (λ (u : Unit {0}). 0) limited (ap (λ (b : Answer). b .number) (sym a) ∙ z)
+
+    pub within : (ticks ≤ maxLongTicks) × (length log ≡ ticks * inputs (rowsIn m words)) × (windowTicks * m ≤ length ms) × (windowTicks * m ≤ length vs)
+    within = kept ticks maxLongTicks (length log) (inputs (rowsIn m words)) (windowTicks * m) shortWindow (length ms) (length vs) (passed .0) (passed .1)
+
+    behind : longRows m words log ticks (length ms) (length vs) (length ts) ≡ wide
+    behind = tests ∙ ap (λ (y : Result (Unit {0})). then y (λ u. wide)) (passed .1)
+
+    pub short-tallies : (q : Answer) → q ≡ refusal shortWindow 0 → length ts < tallySize * m → LongCalled m words log ticks ms vs ts ms vs ts q
+    short-tallies q e l =
+        called m words log ticks ms vs ts ms vs ts q (refused shortWindow 0) (behind ∙ rw (lt-leb (tallySize * m) (length ts) l)) e (refl, refl, refl)
+
+    pub ran : (ts₁ ms′ vs′ ts′ : List ℕ) → tallySize * m ≤ length ts → Tallied m [] ts ts₁ → LongRan m log ticks (rowsIn m words) ms vs ts₁ ms′ vs′ ts′
+        → LongCalled m words log ticks ms vs ts ms′ vs′ ts′ (success ticks)
+    ran ts₁ ms′ vs′ ts′ l A L =
+        called m words log ticks ms vs ts ms′ vs′ ts′ (success ticks) (good (rowsIn m words)) (behind ∙ rw (le-leb (tallySize * m) (length ts) l)) refl
+        (record { past = L .past; ran = L .ran; marks = L .marks; values = L .values; tallies = tallied-from m (L .past) ts ts₁ ts′ A (L .tallies) })
 
 -- what the check's answer tells
 pub accepted : (m : ℕ) (words : List ℕ) (room : ℕ) (r : Answer) → clockSize * maxFlows ≤ room → r ≡ checkAnswer m words room → r .number ≡ 0
@@ -96,18 +108,22 @@ accepted m words room r b e z =
     (rows-good true m words (t .0) (t .1), (x .0, ap (λ (y : Result (List Row)). clocksOf (goodRows y)) (t .1) ∙ t .2))
 
 -- the check's refusal is the long run's
-down-by : (m : ℕ) (words log : List ℕ) (ticks a b c : ℕ) (why : Refusal) (f : ℕ) → clocksFor m words ≡ refused why f
-    → longRunning m words log ticks a b c ≡ refused why f
-unfolding longRunning testing
-down-by m words log ticks a b c why f = go (tableOf m words)
+down-by : (m : ℕ) (words log : List ℕ) (ticks a b c : ℕ) (why : Refusal) (f : ℕ) → clocksFor m words ≡ refused why f → longRows m words log ticks a b c ≡ refused why f
+unfolding longRows
+down-by m words log ticks a b c why f =
+    go (tableOf m words)
+    (λ rows.
+    unless (leb ticks maxLongTicks) tooManyTicks 0
+    (unless (eqb (length log) (ticks * inputs rows)) wrongLog 0
+    (unless (leb (windowTicks * m) a && leb (windowTicks * m) b && leb (tallySize * m) c) shortWindow 0 (good rows))))
   where
-    go : (y : Result (List Row)) → then y clocksOf ≡ refused why f
-        → (then y λ rows. then (clocksOf rows) λ clocks. testing rows log ticks maxLongTicks (windowTicks * m) m shortWindow a b c) ≡ refused why f
-    go (refused u g) q =
-        let x : u ≡ why = cc in
-        let y : g ≡ f = cc in
+    go : (y : Result (List Row)) (x : List Row → Result (List Row)) → then y clocksOf ≡ refused why f
+        → (then y λ rows. then (clocksOf rows) λ clocks. x rows) ≡ refused why f
+    go (refused u g) x q =
+        let i : u ≡ why = cc in
+        let j : g ≡ f = cc in
         cc
-    go (good rows) q = rw q
+    go (good rows) x q = rw q
 
 pub handed-on : (m : ℕ) (words log : List ℕ) (ticks room : ℕ) (ms vs ts : List ℕ) (r : Answer) → clockSize * maxFlows ≤ room → r ≡ checkAnswer m words room
     → (r .number ≡ 0 → ⊥) → LongCalled m words log ticks ms vs ts ms vs ts r

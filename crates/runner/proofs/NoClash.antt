@@ -7,21 +7,20 @@ use mathlib.Core.List.{List}
 use lib.ListN.{length}
 use lib.Dec.{leb, eqb}
 use Rattle.table.specs.declared.Answer.{Answer}
-use Rattle.table.specs.Answers.{number, clash, Result, good, refused, unless, then, tooManyTicks, wrongLog, shortWindow, noRoom}
+use Rattle.table.specs.Answers.{number, clash, Result, good, refused, unless, then, answer, tooManyTicks, wrongLog, shortWindow, noRoom}
 use Rattle.table.specs.Rows.{Row}
 use Rattle.table.specs.Plain.{tableOf, rowsIn}
 use Rattle.table.proofs.AnswerLaws.{answer-zero}
-use Rattle.table.proofs.Tests.{good-inj, unless-good, then-good}
+use Rattle.table.proofs.Tests.{unless-good, then-good}
 use Rattle.checker.specs.Clocks.{Clock}
 use Rattle.checker.specs.Rules.{clocksOf}
 use Rattle.checker.specs.Answers.{clockSize, checking}
 use Rattle.checker.proofs.Causes.{Unclashing, unless-other, then-other, is-good, table-other, clocks-other}
-use Rattle.semantics.specs.Runs.{Ticks, inputs, Ran, done, clashed, run}
-use Rattle.semantics.specs.Answers.{ranAnswer}
+use Rattle.semantics.specs.Runs.{Ticks, inputs, done, run}
 use Rattle.semantics.specs.Windows.{tallySize}
 use Rattle.calendar.specs.Calendar.{Accepts}
 use Rattle.calendar.proofs.Unclashed.{unclashed}
-use Rattle.runner.specs.Long.{windowTicks, maxLongTicks, longRunning, longAnswer, LongCalled}
+use Rattle.runner.specs.Long.{windowTicks, maxLongTicks, longRows, longAnswer, LongCalled}
 use Rattle.runner.specs.NoClash.{NoClash}
 
 -- the rows and clocks of a table that the check accepts
@@ -40,52 +39,35 @@ ends m words clocks a log ticks =
     let u = unclashed m words (A .0) (A .2) (A .1) (A .3) log ticks in
     (u .0, ap (λ (x : Result (List Row)). run (rowsIn x) log ticks) (A .1) ∙ u .1, u .2)
 
--- what a long run comes to has no clash
+-- a long run is refused for other causes
 module _ (m : ℕ) (words log : List ℕ) (ticks a b c : ℕ) where
   abbrev room : Bool
   room = leb (windowTicks * m) a && leb (windowTicks * m) b && leb (tallySize * m) c
 
-  abbrev logged : List Row → Result Ran
-  logged rows = unless (eqb (length log) (ticks * inputs rows)) wrongLog 0 (unless room shortWindow 0 (good (run rows log ticks)))
+  abbrev logged : List Row → Result (List Row)
+  logged rows = unless (eqb (length log) (ticks * inputs rows)) wrongLog 0 (unless room shortWindow 0 (good rows))
 
-  abbrev limited : List Row → Result Ran
+  abbrev limited : List Row → Result (List Row)
   limited rows = unless (leb ticks maxLongTicks) tooManyTicks 0 (logged rows)
 
   limited-other : (rows : List Row) → Unclashing (limited rows)
   limited-other rows =
       unless-other (leb ticks maxLongTicks) tooManyTicks 0 (logged rows) (λ e. omega arith)
-      (unless-other (eqb (length log) (ticks * inputs rows)) wrongLog 0 (unless room shortWindow 0 (good (run rows log ticks))) (λ e. omega arith)
-      (unless-other room shortWindow 0 (good (run rows log ticks)) (λ e. omega arith) (is-good (run rows log ticks))))
+      (unless-other (eqb (length log) (ticks * inputs rows)) wrongLog 0 (unless room shortWindow 0 (good rows)) (λ e. omega arith)
+      (unless-other room shortWindow 0 (good rows) (λ e. omega arith) (is-good rows)))
 
-  long-other : Unclashing (longRunning m words log ticks a b c)
-  unfolding longRunning
+  long-other : Unclashing (longRows m words log ticks a b c)
+  unfolding longRows
   long-other =
       then-other (tableOf m words) (λ rows. then (clocksOf rows) λ clocks. limited rows) (table-other m words)
       (λ rows. then-other (clocksOf rows) (λ clocks. limited rows) (clocks-other rows) (λ clocks. limited-other rows))
 
-  -- the rows behind a long run that is not refused, and their run
-  taken : (x : Ran) → longRunning m words log ticks a b c ≡ good x
-      → (rows : List Row) × (tableOf m words ≡ good rows) × (ks : List Clock) × (clocksOf rows ≡ good ks) × (run rows log ticks ≡ x)
-  unfolding longRunning
-  taken x e =
-      let T = then-good (tableOf m words) (λ rows. then (clocksOf rows) λ clocks. limited rows) x e in
-      let K = then-good (clocksOf (T .0)) (λ clocks. limited (T .0)) x (T .2) in
-      let few = unless-good (leb ticks maxLongTicks) tooManyTicks 0 (logged (T .0)) x (K .2) in
-      let exact = unless-good (eqb (length log) (ticks * inputs (T .0))) wrongLog 0 (unless room shortWindow 0 (good (run (T .0) log ticks))) x (few .1) in
-      let ran = unless-good room shortWindow 0 (good (run (T .0) log ticks)) x (exact .1) in
-      (T .0, T .1, K .0, K .1, good-inj (ran .1))
-
   never-34 : longAnswer m words log ticks a b c .number ≡ number clash → ⊥
-  never-34 z = go (longRunning m words log ticks a b c) refl z
+  never-34 z = go (longRows m words log ticks a b c) refl z
     where
-      go : (x : Result Ran) → longRunning m words log ticks a b c ≡ x → ranAnswer ticks x .number ≡ number clash → ⊥
+      go : (x : Result (List Row)) → longRows m words log ticks a b c ≡ x → answer (λ (rows : List Row). ticks) x .number ≡ number clash → ⊥
       go (refused why f) e q = long-other .other why f e q
-      go (good (done past)) e q = omega arith
-      go (good (clashed t f now past)) e q =
-          let T = taken (clashed t f now past) e in
-          let u = unclashed m words (T .0) (T .2) (T .1) (T .3) log ticks in
-          let d : done (u .0) ≡ clashed t f now past = sym (u .1) ∙ T .4 in
-          absurd (let z : _≡_ {A = ℕ} 0 1 = cc in omega arith)
+      go (good rows) e q = omega arith
 
 pub no-clash : NoClash
 no-clash =

@@ -16,10 +16,10 @@ use Rattle.table.specs.Answers.{over}
 use Rattle.table.specs.Rows.{maxFlows}
 use Rattle.table.proofs.Tests.{Tried, passed, failed, try}
 use Rattle.semantics.specs.Cells.{Cell, absent, back}
-use Rattle.semantics.specs.Runs.{Tick, Ticks, cellIn, history, cells, Ran, done, clashed, trace, Regular}
-use Rattle.semantics.specs.Windows.{workedOut, lastAt, shown, Windowed}
-use Rattle.semantics.proofs.Traces.{cells-length}
-use Rattle.runner.specs.Private.Placed.{Mask, firstCell, Fitting, splice, placed, filledTicks}
+use Rattle.semantics.specs.Runs.{Tick, Ticks, cellIn, history, cells, Regular}
+use Rattle.semantics.specs.Windows.{Windowed}
+use Rattle.semantics.proofs.Traces.{cells-length, history-length, tick-back}
+use Rattle.runner.specs.Private.Placed.{Mask, firstCell, Fitting, splice, placed}
 use Rattle.runner.proofs.Words.{place-small}
 
 -- a mask leaves the remainder
@@ -89,6 +89,23 @@ apart n p q f ne l = go (try (ltb p q))
         let m : suc q * n ≤ p * n = mul-le-mul-right n (omega arith) in
         inr (omega (arith, suc-mul q n))
 
+-- ticks that are fewer than room apart have different places
+differ : (room s j : ℕ) → suc j < room → (s + suc j) % room ≡ s % room → ⊥
+differ room s j l e = go (try (ltb (s % room + suc j) room))
+  where
+    b : s % room < room
+    b = mod-lt s {m = room} (omega arith)
+
+    go : Tried (ltb (s % room + suc j) room) → ⊥
+    go (passed t) =
+        let x : (s % room + suc j) % room ≡ s % room + suc j = mod-eq-of-lt (ltb-true (s % room + suc j) room t) in
+        omega (arith, mod-add-mod s room (suc j))
+    go (failed t) =
+        let u : room ≤ s % room + suc j = ltb-false (s % room + suc j) room t in
+        let x : (s % room + suc j) % room ≡ (s % room + suc j - room) % room = mod-eq-sub-mod u in
+        let y : (s % room + suc j - room) % room ≡ s % room + suc j - room = mod-eq-of-lt (omega (arith, b)) in
+        omega (arith, mod-add-mod s room (suc j))
+
 -- ticks have their places in a longer list, and fewer of them too
 pub longer : {room n ticks : ℕ} (size size′ : ℕ) → size ≤ size′ → Fitting room n ticks size → Fitting room n ticks size′
 longer size size′ l F = record { place = λ t h. omega (arith, F .place t h) }
@@ -116,38 +133,55 @@ module _ (room n : ℕ) (g : Cell → ℕ) (old : List ℕ) where
       let e : length (placed room n g old past) ≡ length old = placed-length past (r .1) (fewer (length past) (omega arith) F) in
       splice-length (firstCell room n (length past)) (map g now) (placed room n g old past) (room-left now past (r .0) F e) ∙ e
 
-  pub placed-at : g absent ≡ 0 → (ts : Ticks) → Regular n ts → Fitting room n (length ts) (length old) → (q f : ℕ) → f < n
-      → getD (placed room n g old ts) (q * n + f) 0 ≡ shown g (lastAt room q f ts) (getD old (q * n + f) 0)
-  unfolding placed lastAt
-  placed-at z [] r F q f l = refl
-  placed-at z (now ∷ past) r F q f l =
-      go (placed-at z past (r .1) (fewer (length past) (omega arith) F) q f l) (try (eqb (length past % room) q))
-    where
-      e : length (placed room n g old past) ≡ length old
-      e = placed-length past (r .1) (fewer (length past) (omega arith) F)
-
-      go : getD (placed room n g old past) (q * n + f) 0 ≡ shown g (lastAt room q f past) (getD old (q * n + f) 0) → Tried (eqb (length past % room) q)
-          → getD (splice (firstCell room n (length past)) (map g now) (placed room n g old past)) (q * n + f) 0
-          ≡ shown g (cond (eqb (length past % room) q && ltb f (length now)) (some (cellIn now f)) (lastAt room q f past)) (getD old (q * n + f) 0)
-      go so-far (passed a) =
-          rw (a, lt-ltb f (length now) (omega (arith, r .0)))
-          (ap (λ (p : ℕ). getD (splice (firstCell room n (length past)) (map g now) (placed room n g old past)) (p * n + f) 0) (sym (eqb-true (length past % room) q a))
-          ∙ cell-at g z (firstCell room n (length past)) f now (placed room n g old past) (omega (arith, length-map now g, room-left now past (r .0) F e)) (omega (arith, r .0)))
-      go so-far (failed a) =
-          rw (a) (kept now past (r .0) F e (q * n + f) (apart n q (length past % room) f (λ p. eqb-false (length past % room) q a (sym p)) l) ∙ so-far)
-
-  placed-rest : 0 < room → (ts : Ticks) → Regular n ts → Fitting room n (length ts) (length old) → (i : ℕ) → room * n ≤ i
-      → getD (placed room n g old ts) i 0 ≡ getD old i 0
-  unfolding placed
-  placed-rest pos [] r F i l = refl
-  placed-rest pos (now ∷ past) r F i l =
-      let m : suc (length past % room) * n ≤ room * n = mul-le-mul-right n (mod-lt (length past) {m = room} pos) in
+  -- a flow's cells stand at their places as far back as there is room
+  pub placed-last : g absent ≡ 0 → (past : Ticks) → Regular n past → Fitting room n (length past) (length old) → (a t k : ℕ) → a < n → t + suc k ≡ length past → k < room
+      → getD (placed room n g old past) (firstCell room n t + a) 0 ≡ g (back (history past a) k)
+  unfolding placed history
+  placed-last z [] r F a t k l e b = absurd (omega arith)
+  placed-last z (now ∷ past) r F a t zero l e b =
+      let q : t ≡ length past = omega arith in
       let G : Fitting room n (length past) (length old) = fewer (length past) (omega arith) F in
-      kept now past (r .0) F (placed-length past (r .1) G) i (inr (omega (arith, suc-mul (length past % room) n))) ∙ placed-rest pos past (r .1) G i l
+      ap (λ (i : ℕ). getD (splice (firstCell room n (length past)) (map g now) (placed room n g old past)) (firstCell room n i + a) 0) q
+      ∙ cell-at g z (firstCell room n (length past)) a now (placed room n g old past)
+      (omega (arith, length-map now g, room-left now past (r .0) F (placed-length past (r .1) G))) (omega (arith, r .0))
+  placed-last z (now ∷ past) r F a t (suc k) l e b =
+      let q : t + suc k ≡ length past = omega arith in
+      let G : Fitting room n (length past) (length old) = fewer (length past) (omega arith) F in
+      kept now past (r .0) F (placed-length past (r .1) G) (firstCell room n t + a)
+      (apart n (t % room) (length past % room) a (λ i. differ room t k b (ap (λ (j : ℕ). j % room) q ∙ sym i)) l)
+      ∙ placed-last z past (r .1) G a t k l q (omega arith)
 
-  pub windowed : g absent ≡ 0 → 0 < room → (ts : Ticks) → Regular n ts → Fitting room n (length ts) (length old) → Windowed room n g ts old (placed room n g old ts)
-  windowed z pos ts r F =
-      record { size = placed-length ts r F; places = λ q f k l. placed-at z ts r F q f l; rest = placed-rest pos ts r F }
+  -- what lies behind every tick's cells is as it was
+  placed-off : (past : Ticks) → Regular n past → Fitting room n (length past) (length old) → (i : ℕ) → ((t : ℕ) → t < length past → firstCell room n t + n ≤ i)
+      → getD (placed room n g old past) i 0 ≡ getD old i 0
+  unfolding placed
+  placed-off [] r F i h = refl
+  placed-off (now ∷ past) r F i h =
+      let G : Fitting room n (length past) (length old) = fewer (length past) (omega arith) F in
+      kept now past (r .0) F (placed-length past (r .1) G) i (inr (h (length past) (omega arith))) ∙ placed-off past (r .1) G i (λ t l. h t (omega arith))
+
+  pub windowed : g absent ≡ 0 → 0 < room → (past : Ticks) → Regular n past → Fitting room n (length past) (length old)
+      → Windowed room n g past old (placed room n g old past)
+  windowed z pos past r F =
+      record {
+        size = placed-length past r F;
+        last =
+            λ t f lo hi l.
+            let k : ℕ = length past - suc t in
+            let e : t + suc k ≡ length past = omega arith in
+            placed-last z past r F f t k l e (omega arith) ∙ ap g (sym (tick-back (history past f) t k (omega (arith, history-length past f))));
+        unreached =
+            λ i l.
+            placed-off past r F i
+            (λ t h.
+            let a : t % room * n ≤ t * n = mul-le-mul-right n (mod-le t room) in
+            let b : suc t * n ≤ length past * n = mul-le-mul-right n h in
+            omega (arith, suc-mul t n));
+        rest =
+            λ i l.
+            placed-off past r F i
+            (λ t h. let a : suc (t % room) * n ≤ room * n = mul-le-mul-right n (mod-lt t {m = room} pos) in omega (arith, suc-mul (t % room) n));
+      }
 
   -- where no tick falls on the place of another, each stands behind those before it
   one-more : (now : Tick) (past : Ticks) → Regular n past → length past < room → placed room n g old past ≡ over (map g (cells past)) old
@@ -160,53 +194,14 @@ module _ (room n : ℕ) (g : Cell → ℕ) (old : List ℕ) where
       (length-map (cells past) g ∙ cells-length n past r ∙ ap (λ (k : ℕ). k * n) (sym q))
       ∙ ap (λ (y : List ℕ). over y old) (sym (map-append g (cells past) now))
 
-  placed-whole : (past : Ticks) → Regular n past → length past ≤ room → placed room n g old past ≡ over (map g (cells past)) old
+  -- so they are the trace, and the cells of a tick that clashed come last
+  pub placed-trace : (past : Ticks) → Regular n past → length past ≤ room → placed room n g old past ≡ over (map g (cells past)) old
   unfolding placed cells
-  placed-whole [] r l = refl
-  placed-whole (now ∷ past) r l = one-more now past (r .1) (omega arith) (placed-whole past (r .1) (omega arith))
+  placed-trace [] r l = refl
+  placed-trace (now ∷ past) r l = one-more now past (r .1) (omega arith) (placed-trace past (r .1) (omega arith))
 
-  -- so they are the trace
-  pub placed-trace : (x : Ran) → Regular n (filledTicks x) → length (workedOut x) ≤ room → placed room n g old (workedOut x) ≡ over (map g (trace x)) old
-  placed-trace (done past) r l = placed-whole past r l
-  placed-trace (clashed t f now past) r l = one-more now past r (omega arith) (placed-whole past r (omega arith))
-
--- ticks that are fewer than room apart have different places
-differ : (room s j : ℕ) → suc j < room → (s + suc j) % room ≡ s % room → ⊥
-differ room s j l e = go (try (ltb (s % room + suc j) room))
-  where
-    b : s % room < room
-    b = mod-lt s {m = room} (omega arith)
-
-    go : Tried (ltb (s % room + suc j) room) → ⊥
-    go (passed t) =
-        let x : (s % room + suc j) % room ≡ s % room + suc j = mod-eq-of-lt (ltb-true (s % room + suc j) room t) in
-        omega (arith, mod-add-mod s room (suc j))
-    go (failed t) =
-        let u : room ≤ s % room + suc j = ltb-false (s % room + suc j) room t in
-        let x : (s % room + suc j) % room ≡ (s % room + suc j - room) % room = mod-eq-sub-mod u in
-        let y : (s % room + suc j - room) % room ≡ s % room + suc j - room = mod-eq-of-lt (omega (arith, b)) in
-        omega (arith, mod-add-mod s room (suc j))
-
--- a flow's cells are at their places as far back as the window goes
-pub last-back : (room n a : ℕ) → a < n → (past : Ticks) → Regular n past → (s k : ℕ) → s + suc k ≡ length past → k < room
-    → lastAt room (s % room) a past ≡ some (back (history past a) k)
-unfolding lastAt history
-last-back room n a l [] r s k e b = absurd (omega arith)
-last-back room n a l (now ∷ past) r s zero e b =
-    let q : s ≡ length past = omega arith in
-    rw (eq-eqb (length past % room) (s % room) (ap (λ (i : ℕ). i % room) (sym q)), lt-ltb a (length now) (omega (arith, r .0)))
-last-back room n a l (now ∷ past) r s (suc k) e b =
-    let q : s + suc k ≡ length past = omega arith in
-    rw (ne-eqb (length past % room) (s % room) (λ i. differ room s k b (ap (λ (j : ℕ). j % room) q ∙ i)))
-    (last-back room n a l past (r .1) s k q (omega arith))
-
--- a place that no tick has come to yet
-pub none-yet : (room q f : ℕ) (past : Ticks) → length past ≤ q → q < room → lastAt room q f past ≡ none
-unfolding lastAt
-none-yet room q f [] l h = refl
-none-yet room q f (now ∷ past) l h =
-    let e : length past % room ≡ length past = mod-eq-of-lt (omega arith) in
-    rw (ne-eqb (length past % room) q (λ i. omega arith)) (none-yet room q f past (omega arith) h)
+  pub placed-clash : (now : Tick) (past : Ticks) → Regular n past → length past < room → placed room n g old (now ∷ past) ≡ over (map g (cells past ++ now)) old
+  placed-clash now past r l = one-more now past r l (placed-trace past r (omega arith))
 
 -- every tick has its place where there is room for all, and where there is room for a window
 pub whole-fits : (room n ticks size : ℕ) → ticks ≤ room → ticks * n ≤ size → Fitting room n ticks size

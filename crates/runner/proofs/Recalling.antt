@@ -3,17 +3,15 @@ use mathlib.Core.Path.{_≡_, refl, _∙_, ap, ap₂}
 use Prim.Native.Nat.{ℕ, _+_, _-_, _%_, _^_, _≤_, _<_}
 use native.Mathlib.Omega.{arith}
 use mathlib.Core.List.{List}
-use mathlib.Core.Option.{Option}
 use lib.ListN.{length, getD}
 use Rattle.semantics.specs.Cells.{Cell, absent, value, back}
 use Rattle.table.specs.Rows.{Row}
 use Rattle.semantics.specs.Runs.{Ticks, history, Regular}
 use Rattle.semantics.proofs.Traces.{history-length, run-length}
 use Rattle.semantics.specs.Answers.{markByte}
-use Rattle.semantics.specs.Windows.{shown}
 use Rattle.runner.specs.Private.Carried.{cellAt}
 use Rattle.runner.specs.Private.Placed.{firstCell, Fitting, placed, Recalls, Nearby}
-use Rattle.runner.proofs.Placing.{fewer, placed-at, last-back}
+use Rattle.runner.proofs.Placing.{fewer, placed-last}
 use Rattle.runner.proofs.Cells.{cell-back}
 use Rattle.runner.proofs.Views.{first-low}
 
@@ -22,8 +20,7 @@ module _ (room n t : ℕ) (past : Ticks) (z : length past ≡ t) (r : Regular n 
       → getD l (firstCell room n (t - d) + a) 0 ≡ g (back (history past a) (d - 1))
   one g e l₀ l F q a d b p k m =
       ap (λ (y : List ℕ). getD y (firstCell room n (t - d) + a) 0) q
-      ∙ placed-at room n g l₀ e past r (fewer (length past) (omega arith) F) ((t - d) % room) a b
-      ∙ ap (λ (o : Option Cell). shown g o (getD l₀ (firstCell room n (t - d) + a) 0)) (last-back room n a b past r (t - d) (d - 1) (omega arith) (omega arith))
+      ∙ placed-last room n g l₀ e past r (fewer (length past) (omega arith) F) a (t - d) (d - 1) b (omega arith) (omega arith)
 
   pub recalls : (ms₀ vs₀ ms vs : List ℕ) → Fitting room n t (length ms₀) → Fitting room n t (length vs₀) → ms ≡ placed room n markByte ms₀ past
       → vs ≡ placed room n value vs₀ past → Recalls room n t past ms vs

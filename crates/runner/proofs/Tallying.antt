@@ -1,55 +1,89 @@
 -- The tallies after a tick, and the loops that clear and add. Assumes nothing.
 use mathlib.Core.Path.{_≡_, refl, sym, _∙_, ap, subst}
-use Prim.Native.Nat.{ℕ, _+_, _*_, _^_, _≤_, _<_}
+use Prim.Native.Nat.{ℕ, suc, _+_, _*_, _-_, _≤_, _<_}
 use native.Mathlib.Omega.{arith}
 use native.Mathlib.Nat.{eq-or-lt-of-le}
 use mathlib.Core.Bool.{cond}
 use mathlib.Core.Logic.{⊎-elim}
 use mathlib.Core.List.{List, [], _∷_}
-use lib.Seq.{getD-set-same, getD-set-other}
-use lib.ListN.{length, getD, set, length-set}
+use lib.Seq.{getD-set-same, getD-set-other, drop-cons}
+use lib.ListN.{length, getD, set, drop, length-set, List·getD-map}
 use lib.Dec.{eqb}
 use Rattle.table.proofs.Tests.{Tried, passed, failed, try}
-use Rattle.semantics.specs.Cells.{Cell, absent, present, mark, value}
-use Rattle.table.specs.declared.Answer.{Answer}
-use Rattle.semantics.specs.Runs.{Tick, Ticks, cellIn, Ran}
-use Rattle.semantics.specs.Answers.{markByte}
+use Rattle.semantics.specs.Cells.{Cell, mark, value, back}
+use Rattle.semantics.specs.Runs.{Tick, Ticks, cellIn, history}
 use Rattle.semantics.specs.Windows.{tallySize, Tallied}
-use Rattle.semantics.proofs.Tallies.{tallied-more, tallied-none, tallied-from, tally-few}
-use Rattle.runner.specs.Private.Placed.{WroteAt, Cleared, Low, Counted, RanTo}
-use Rattle.runner.proofs.Placing.{cell-at}
+use Rattle.semantics.proofs.Tallies.{tallied-more, tallied-none, tally-few}
+use Rattle.runner.specs.Private.Carried.{cellAt}
+use Rattle.runner.specs.Private.Placed.{firstCell, Recalls, Cleared, Low, Counted}
 
-by-mark : (c : Cell) (a b : ℕ) → cond (eqb (markByte c) 0) a b ≡ cond (mark c) b a
-by-mark absent a b = refl
-by-mark (present v) a b = refl
+-- what a cell's mark and value in the buffers tell
+module _ (m v : ℕ) (c : Cell) (e : cellAt m v ≡ c) (a : ℕ) where
+  by-mark : (b : ℕ) → cond (eqb m 0) a b ≡ cond (mark c) b a
+  by-mark b = go (try (eqb m 0)) ∙ ap (λ (d : Cell). cond (mark d) b a) e
+    where
+      go : Tried (eqb m 0) → cond (eqb m 0) a b ≡ cond (mark (cellAt m v)) b a
+      go (passed t) = rw t
+      go (failed t) = rw t
 
--- a tick's cells are tallied
-pub tallied-tick : (n k first : ℕ) (past : Ticks) (now : Tick) (ms vs ms′ vs′ ts₀ ts ts′ : List ℕ) → k ≤ n → length now ≡ n → first + n ≤ length ms → first + n ≤ length vs
-    → WroteAt first now ms vs ms′ vs′ → Counted first k ms′ vs′ ts ts′ → length ts′ ≡ length ts → Tallied k past ts₀ ts → Tallied k (now ∷ past) ts₀ ts′
-tallied-tick n k first past now ms vs ms′ vs′ ts₀ ts ts′ few size hm hv W C z T = tallied-more k past now ts₀ ts ts′ T z counts lasts (C .rest)
+  by-value : cond (eqb m 0) a v ≡ cond (mark c) (value c) a
+  by-value = go (try (eqb m 0)) ∙ ap (λ (d : Cell). cond (mark d) (value d) a) e
+    where
+      go : Tried (eqb m 0) → cond (eqb m 0) a v ≡ cond (mark (cellAt m v)) (value (cellAt m v)) a
+      go (passed t) = rw t
+      go (failed t) = rw t
+
+-- the ticks up to the next one are those before it, and this one
+split-at : (t to : ℕ) (past : Ticks) → length past ≡ to → t < to → drop (to - (t + 1)) past ≡ getD past (to - (t + 1)) [] ∷ drop (to - t) past
+split-at t to past z h =
+    let e : suc (to - (t + 1)) ≡ to - t = omega arith in
+    drop-cons past (to - (t + 1)) [] (omega arith) ∙ ap (λ (k : ℕ). getD past (to - (t + 1)) [] ∷ drop k past) e
+
+-- its cells stand at their places
+cell-of : (room n t to f : ℕ) (past : Ticks) (ms vs : List ℕ) → t < to → to ≤ t + room → f < n → Recalls room n to past ms vs
+    → cellAt (getD ms (firstCell room n t + f) 0) (getD vs (firstCell room n t + f) 0) ≡ cellIn (getD past (to - (t + 1)) []) f
+unfolding history
+cell-of room n t to f past ms vs h w l W =
+    let e : to - (to - t) ≡ t = omega arith in
+    let k : to - t - 1 ≡ to - (t + 1) = omega arith in
+    ap (λ (j : ℕ). cellAt (getD ms (firstCell room n j + f) 0) (getD vs (firstCell room n j + f) 0)) (sym e)
+    ∙ W .cell f (to - t) l (omega arith) (omega arith) (omega arith)
+    ∙ ap (back (history past f)) k
+    ∙ List·getD-map (λ (y : Tick). cellIn y f) past (to - (t + 1)) []
+
+-- one tick more is tallied, of those that the window has
+pub tallied-on : (room n t to : ℕ) (past : Ticks) (ms vs ts₀ ts ts′ : List ℕ) → length past ≡ to → t < to → to ≤ t + room → Recalls room n to past ms vs
+    → Counted (firstCell room n t) n ms vs ts ts′ → length ts′ ≡ length ts → Tallied n (drop (to - t) past) ts₀ ts → Tallied n (drop (to - (t + 1)) past) ts₀ ts′
+tallied-on room n t to past ms vs ts₀ ts ts′ z h w W C q T =
+    subst (λ (y : Ticks). Tallied n y ts₀ ts′) (sym (split-at t to past z h))
+    (tallied-more n (drop (to - t) past) now ts₀ ts ts′ T q
+    (λ f l. C .counts f l ∙ by-mark (m f) (v f) (cellIn now f) (cell-of room n t to f past ms vs h w l W) (getD ts (tallySize * f) 0) (getD ts (tallySize * f) 0 + 1))
+    (λ f l. C .lasts f l ∙ by-value (m f) (v f) (cellIn now f) (cell-of room n t to f past ms vs h w l W) (getD ts (tallySize * f + 1) 0))
+    (C .rest))
   where
-    mark-is : (f : ℕ) → f < k → getD ms′ (first + f) 0 ≡ markByte (cellIn now f)
-    mark-is f l = ap (λ (y : List ℕ). getD y (first + f) 0) (W .marks) ∙ cell-at markByte refl first f now ms (omega arith) (omega arith)
+    now : Tick
+    now = getD past (to - (t + 1)) []
 
-    value-is : (f : ℕ) → f < k → getD vs′ (first + f) 0 ≡ value (cellIn now f)
-    value-is f l = ap (λ (y : List ℕ). getD y (first + f) 0) (W .values) ∙ cell-at value refl first f now vs (omega arith) (omega arith)
+    m : ℕ → ℕ
+    m f = getD ms (firstCell room n t + f) 0
 
-    counts : (f : ℕ) → f < k → getD ts′ (tallySize * f) 0 ≡ cond (mark (cellIn now f)) (getD ts (tallySize * f) 0 + 1) (getD ts (tallySize * f) 0)
-    counts f l =
-        C .counts f l
-        ∙ ap (λ (i : ℕ). cond (eqb i 0) (getD ts (tallySize * f) 0) (getD ts (tallySize * f) 0 + 1)) (mark-is f l)
-        ∙ by-mark (cellIn now f) (getD ts (tallySize * f) 0) (getD ts (tallySize * f) 0 + 1)
+    v : ℕ → ℕ
+    v f = getD vs (firstCell room n t + f) 0
 
-    lasts : (f : ℕ) → f < k → getD ts′ (tallySize * f + 1) 0 ≡ cond (mark (cellIn now f)) (value (cellIn now f)) (getD ts (tallySize * f + 1) 0)
-    lasts f l =
-        C .lasts f l
-        ∙ ap (λ (i : ℕ). cond (eqb i 0) (getD ts (tallySize * f + 1) 0) (getD vs′ (first + f) 0)) (mark-is f l)
-        ∙ by-mark (cellIn now f) (getD ts (tallySize * f + 1) 0) (getD vs′ (first + f) 0)
-        ∙ ap (λ (i : ℕ). cond (mark (cellIn now f)) i (getD ts (tallySize * f + 1) 0)) (value-is f l)
+-- a count grows by at most 1
+pub low-on : (first n limit : ℕ) (ms vs ts ts′ : List ℕ) → Counted first n ms vs ts ts′ → Low n limit ts → Low n (limit + 1) ts′
+low-on first n limit ms vs ts ts′ C L = record { count = λ f l. go f l (try (eqb (getD ms (first + f) 0) 0)) }
+  where
+    go : (f : ℕ) → f < n → Tried (eqb (getD ms (first + f) 0) 0) → getD ts′ (tallySize * f) 0 < limit + 1
+    go f l (passed e) = let c : getD ts′ (tallySize * f) 0 ≡ getD ts (tallySize * f) 0 = rw e at (C .counts f l) in omega (arith, L .count f l)
+    go f l (failed e) = let c : getD ts′ (tallySize * f) 0 ≡ getD ts (tallySize * f) 0 + 1 = rw e at (C .counts f l) in omega (arith, L .count f l)
 
--- a count is at most the tick, so it can grow
-pub tallied-low : (k t : ℕ) (past : Ticks) (ts₀ ts : List ℕ) → length past ≡ t → t < 2 ^ 24 → Tallied k past ts₀ ts → Low k ts
-tallied-low k t past ts₀ ts z l T = record { count = λ f h. omega (arith, tally-few k past ts₀ ts T f h) }
+pub low-within : (n limit limit′ : ℕ) (ts : List ℕ) → limit ≤ limit′ → Low n limit ts → Low n limit′ ts
+low-within n limit limit′ ts l L = record { count = λ f h. omega (arith, L .count f h) }
+
+-- a count is at most the tick
+pub tallied-low : (n t : ℕ) (past : Ticks) (ts₀ ts : List ℕ) → length past ≡ t → Tallied n past ts₀ ts → Low n (t + 1) ts
+tallied-low n t past ts₀ ts z T = record { count = λ f h. omega (arith, tally-few n past ts₀ ts T f h) }
 
 -- words that were cleared
 pub tallied-cleared : (n : ℕ) (ts ts′ : List ℕ) → length ts′ ≡ length ts → Cleared (tallySize * n) ts ts′ → Tallied n [] ts ts′
@@ -135,16 +169,3 @@ counts-more first f m v ms vs ts₀ ts l p q C = go (try (eqb m 0))
               (λ g h. other (tallySize * g + 1) (λ i. omega arith) (λ i. omega arith) ∙ C .lasts g h);
           rest = λ i k. other i (λ j. omega arith) (λ j. omega arith) ∙ C .rest i (omega arith);
         })
-
--- a run over tallies that were cleared before
-pub ran-from : (x : Ran) (room n k ticks : ℕ) (ms vs ts₀ ts ms′ vs′ ts′ : List ℕ) (r : Answer) → Tallied k [] ts₀ ts → RanTo x room n k ticks ms vs ts ms′ vs′ ts′ r
-    → RanTo x room n k ticks ms vs ts₀ ms′ vs′ ts′ r
-ran-from x room n k ticks ms vs ts₀ ts ms′ vs′ ts′ r A R =
-    record {
-      answer = R .answer;
-      regular = R .regular;
-      few = R .few;
-      marks = R .marks;
-      values = R .values;
-      tallied = λ past e. tallied-from k past ts₀ ts ts′ A (R .tallied past e);
-    }

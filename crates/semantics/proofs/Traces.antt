@@ -1,10 +1,10 @@
 -- How many cells the ticks so far have, and where a flow's stand. Assumes nothing.
 use mathlib.Core.Path.{_≡_, refl, sym, _∙_, ap}
 use Prim.Native.Nat.{ℕ, zero, suc, _+_, _*_, _≤_, _<_}
-use native.Mathlib.Nat.{suc-mul, zero-mul, mul-le-mul-right}
+use native.Mathlib.Nat.{zero-add, suc-mul, zero-mul, mul-le-mul-right}
 use native.Mathlib.Omega.{arith}
 use mathlib.Core.List.{List, [], _∷_, _++_}
-use lib.ListN.{length, getD, length-append, length-map, List·getD-append}
+use lib.ListN.{length, getD, drop, length-append, length-map, List·getD-append}
 use lib.Seq.{getD-append-add}
 use borrow.Author.Tests.{eq-eqb, ne-eqb}
 use Rattle.semantics.specs.Cells.{Cell, absent, History, back, cellOn}
@@ -62,5 +62,26 @@ run-length rows log (suc t) past e = go (run rows log t) refl e (run-length rows
 
     go : (x : Ran) → run rows log t ≡ x → onRun x (λ old. onTick t old (tickOf rows log old)) ≡ done past → ((q : Ticks) → run rows log t ≡ done q → length q ≡ t)
         → length past ≡ suc t
+    go (done front) q e next = ended (tickOf rows log front) front e (next front q)
+    go (clashed s f now front) q e next = absurd (let z : _≡_ {A = ℕ} 0 1 = cc in omega arith)
+
+-- the ticks of a shorter run are those of a longer one without its last
+pub run-earlier : (rows : List Row) (log : List ℕ) (t i : ℕ) (past late : Ticks) → run rows log t ≡ done past → run rows log (i + t) ≡ done late → drop i late ≡ past
+unfolding run
+run-earlier rows log t zero past late e d =
+    let z : done late ≡ done past = sym d ∙ ap (run rows log) (zero-add t) ∙ e in
+    let q : late ≡ past = cc in
+    q
+run-earlier rows log t (suc i) past late e d = go (run rows log (i + t)) refl (ap (run rows log) n ∙ d) (λ q f. run-earlier rows log t i past q e f)
+  where
+    n : suc (i + t) ≡ suc i + t
+    n = omega arith
+
+    ended : (x : TickEnd) (front : Ticks) → onTick (i + t) front x ≡ done late → drop i front ≡ past → drop (suc i) late ≡ past
+    ended (filled now) front e h = let z : now ∷ front ≡ late = cc in ap (drop (suc i)) (sym z) ∙ h
+    ended (stopped f now) front e h = absurd (let z : _≡_ {A = ℕ} 0 1 = cc in omega arith)
+
+    go : (x : Ran) → run rows log (i + t) ≡ x → onRun x (λ old. onTick (i + t) old (tickOf rows log old)) ≡ done late
+        → ((q : Ticks) → run rows log (i + t) ≡ done q → drop i q ≡ past) → drop (suc i) late ≡ past
     go (done front) q e next = ended (tickOf rows log front) front e (next front q)
     go (clashed s f now front) q e next = absurd (let z : _≡_ {A = ℕ} 0 1 = cc in omega arith)

@@ -1,35 +1,18 @@
--- A run whose cells go round in a window of some ticks, and the tally of each flow: what they hold when the run has ended.
+-- A window of a run's ticks, and the tally of each flow: what they hold when the run has ended.
 use mathlib.Core.Path.{_≡_}
 use Prim.Native.Nat.{ℕ, _+_, _*_, _%_, _≤_, _<_}
-use mathlib.Core.Bool.{cond, _&&_}
-use mathlib.Core.List.{List, [], _∷_}
-use mathlib.Core.Option.{Option, none, some}
+use mathlib.Core.List.{List}
 use lib.ListN.{length, getD}
-use lib.Dec.{ltb, eqb}
-use Rattle.semantics.specs.Cells.{Cell, count, latest}
+use Rattle.semantics.specs.Cells.{Cell, cellOn, count, latest}
 use Rattle.semantics.specs.Operators.{valueOr}
-use Rattle.semantics.specs.Runs.{Ticks, cellIn, history, Ran, done, clashed}
+use Rattle.semantics.specs.Runs.{Ticks, history}
 
--- the ticks worked out, the latest first; of a tick that clashed, the cells worked out by then
-abbrev pub workedOut : Ran → Ticks
-workedOut (done past) = past
-workedOut (clashed t f now past) = now ∷ past
-
--- Flow f's cell at the last tick worked out that falls on place q of the window, if any. A tick is the count of those before it.
-unfoldable pub lastAt : ℕ → ℕ → ℕ → Ticks → Option Cell
-lastAt room q f [] = none
-lastAt room q f (now ∷ past) =
-    cond (eqb (length past % room) q && ltb f (length now)) (some (cellIn now f)) (lastAt room q f past)
-
--- that cell as g gives it, or what stood there
-abbrev pub shown : (Cell → ℕ) → Option Cell → ℕ → ℕ
-shown g none old = old
-shown g (some c) old = g c
-
--- A window of room ticks of n flows: each place holds the last cell worked out for it, if any, and the rest is as it was.
+-- A window of room ticks of n flows has the last room of the ticks, or all of them, tick t at place t modulo room, each cell as g gives it. What
+-- no tick has come to, and what is beyond the window, is as it was.
 pub record Windowed (room n : ℕ) (g : Cell → ℕ) (ticks : Ticks) (old new : List ℕ) : Type 0 where
   pub size : length new ≡ length old
-  pub places : (q f : ℕ) → q < room → f < n → getD new (q * n + f) 0 ≡ shown g (lastAt room q f ticks) (getD old (q * n + f) 0)
+  pub last : (t f : ℕ) → t < length ticks → length ticks ≤ t + room → f < n → getD new (t % room * n + f) 0 ≡ g (cellOn (history ticks f) t)
+  pub unreached : (i : ℕ) → length ticks * n ≤ i → getD new i 0 ≡ getD old i 0
   pub rest : (i : ℕ) → room * n ≤ i → getD new i 0 ≡ getD old i 0
 
 -- how many words a tally has

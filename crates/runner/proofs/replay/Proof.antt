@@ -1,29 +1,32 @@
 -- `replay` meets its contract. Assumes nothing.
-use Rattle.runner.proofs.Replaying.{too-many, wrong-log, short-marks, short-values, short-tallies, replayed}
-use Rattle.runner.proofs.Placing.{longer}
+use Rattle.runner.proofs.Called.{turned-down, within, ended, stopped}
+use Rattle.runner.proofs.Running.{starts}
+use Rattle.runner.proofs.Placing.{whole-fits}
+use Rattle.runner.proofs.Recalling.{everywhere}
 use Rattle.runner.proofs.Starting.{inputs-all}
-use Rattle.runner.proofs.Words.{place-small}
 use Rattle.runner.proofs.Tabled.{plain-table}
+use Rattle.runner.proofs.Words.{place-small}
+use Rattle.runner.specs.Private.Placed.{limits}
 use Rattle.runner.specs.Private.Ready.{rowsIn}
+use Rattle.semantics.specs.Answers.{maxTicks}
+use Rattle.semantics.specs.Runs.{inputs}
+use Rattle.table.specs.Answers.{answer, shortTrace}
 use lib.ListN.{length}
-use Prim.Native.Nat.{ℕ, _+_, _*_, _^_}
-use mathlib.Core.Path.{sym, _∙_, ap}
+use Prim.Native.Nat.{_*_, _^_}
+use mathlib.Core.Path.{_≡_, refl}
 use native.Mathlib.Omega.{arith}
 use borrow.Author.Needs.{needs}
 use Rattle.runner.proofs.replay.Statement.{statement}
 use Rattle.runner.proofs.replay.Tie as tie
 
-refusal-requires : tie.Need-refusal-requires
-refusal-requires c κs = search needs
-
-returns : tie.Need-returns
-returns c =
-    let then1 = c .before in
-    let start = then1 .before .before .before .before .before .before in
-    λ why e.
-    let a = start .args in
-    too-many _ (a .log .now) (a .ticks) (a .most) (a .cells) (a .k) why (a .mask + 1) (a .n) (a .marks .now) (a .values .now) (a .tallies .now) _ (c .refusal .ensures)
-    (then1 .if1 .taken)
+-- what the limits come to
+limited : (c : tie.After-limits)
+    → (let a = c .before .before .before .before .before .before .before .before .args in
+    c .limits .result
+    ≡ answer (λ (u : Unit {0}). 0)
+    (limits (a .ticks) maxTicks (length (a .log .now)) (inputs (rowsIn (a .n) (a .words .now))) (a .ticks * a .n) shortTrace (length (a .marks .now))
+    (length (a .values .now))))
+limited c = let after-start = c .before .before in rw (after-start .start .ensures .0) at (c .limits .ensures shortTrace refl)
 
 slice-aggregate-start : tie.Need-slice-aggregate-start
 slice-aggregate-start c = search needs
@@ -34,118 +37,100 @@ start-requires c κs = search needs
 cast-inputs : tie.Need-cast-inputs
 cast-inputs c = search needs
 
-mul-if2 : tie.Need-mul-if2
-mul-if2 c =
+mul-cells : tie.Need-mul-cells
+mul-cells c =
+    let start = c .before .before .before .before .before .before .before in
+    let a = start .args in
+    omega (arith, place-small (a .ticks) (a .n) (2 ^ 32) (omega arith) (plain-table (a .n) (a .words .now) (start .pre) .few))
+
+limits-requires : tie.Need-limits-requires
+limits-requires c κs =
     let after-start = c .before in
-    let else1 = after-start .before .before in
-    let entry = else1 .before .before .before .before .before .before in
-    let a = entry .args in
-    let T = plain-table (a .n) (a .words .now) (entry .pre .0) in
-    let start = after-start .start in
-    let few = else1 .if1 .left in
-    omega (
-      arith,
-      place-small (a .ticks) (start .result) (2 ^ 24) (omega (arith, few, entry .pre .1))
-          (omega (arith, start .ensures .0, inputs-all (rowsIn (a .n) (a .words .now)), T .size, T .few)),
+    let start = after-start .before .before .before .before .before .before in
+    let a = start .args in
+    let T = plain-table (a .n) (a .words .now) (start .pre) in
+    omega (arith, after-start .start .ensures .0, inputs-all (rowsIn (a .n) (a .words .now)), T .size, T .few)
+
+returns : tie.Need-returns
+returns c =
+    let after-limits = c .before .before in
+    let start = after-limits .before .before .before .before .before .before .before .before in
+    let a = start .args in
+    turned-down (a .n) (a .words .now) (a .log .now) (a .ticks) (a .marks .now) (a .values .now) (start .pre) _ (limited after-limits) (c .if1 .taken)
+
+slice-aggregate-listed : tie.Need-slice-aggregate-listed
+slice-aggregate-listed c = search needs
+
+listed-requires : tie.Need-listed-requires
+listed-requires c κs =
+    let start = c .before .before .before .before .before .before .before .before .before .before .before in
+    let T = plain-table (start .args .n) (start .args .words .now) (start .pre) in
+    (T .few, T .words-size, T .few)
+
+slice-aggregate-listed-2 : tie.Need-slice-aggregate-listed-2
+slice-aggregate-listed-2 c = search needs
+
+listed-requires-2 : tie.Need-listed-requires-2
+listed-requires-2 c κs =
+    let start = c .before .before .before .before .before .before .before .before .before .before .before .before .before .before in
+    let T = plain-table (start .args .n) (start .args .words .now) (start .pre) in
+    (T .few, T .words-size, T .few)
+
+slice-aggregate-run-ticks : tie.Need-slice-aggregate-run-ticks
+slice-aggregate-run-ticks c = search needs
+
+slice-aggregate-run-ticks-2 : tie.Need-slice-aggregate-run-ticks-2
+slice-aggregate-run-ticks-2 c = search needs
+
+slice-aggregate-run-ticks-3 : tie.Need-slice-aggregate-run-ticks-3
+slice-aggregate-run-ticks-3 c = search needs
+
+run-ticks-requires : tie.Need-run-ticks-requires
+run-ticks-requires c κs =
+    let after-listed2 = c .before .before .before .before .before .before in
+    let after-listed = after-listed2 .before .before .before in
+    let else1 = after-listed .before .before in
+    let after-limits = else1 .before .before in
+    let after-start = after-limits .before .before in
+    let start = after-start .before .before .before .before .before .before in
+    let a = start .args in
+    let W = within (a .n) (a .words .now) (a .log .now) (a .ticks) (a .marks .now) (a .values .now) (start .pre) _ (limited after-limits) (else1 .if1 .left) in (
+      start .pre,
+      whole-fits (2 ^ 32) (a .n) (a .ticks) (length (a .marks .now)) (omega arith) (W .2),
+      whole-fits (2 ^ 32) (a .n) (a .ticks) (length (a .values .now)) (omega arith) (W .3),
+      omega (arith, after-start .start .kept .1 .1 .0),
+      after-listed .listed .ensures,
+      after-listed2 .listed2 .ensures,
+      omega arith,
+      omega (arith, W .0),
+      after-start .start .ensures .0,
+      record { width = 32; is = refl },
+      omega arith,
+      everywhere (2 ^ 32) _ (a .log .now) (omega arith),
     )
 
-refusal-requires-2 : tie.Need-refusal-requires-2
-refusal-requires-2 c κs = search needs
+enum-known-end : tie.Need-enum-known-end
+enum-known-end c = search needs
 
-returns-2 : tie.Need-returns-2
-returns-2 c =
-    let then2 = c .before in
-    let after-start = then2 .before .before in
-    let else1 = after-start .before .before in
-    let start = else1 .before .before .before .before .before .before in
-    λ why e.
+cast-t40 : tie.Need-cast-t40
+cast-t40 c =
+    let after-end = c .before in
+    let after-run-ticks = after-end .before .before .before .before .before .before .before in
+    let else1 = after-run-ticks .before .before .before .before .before .before .before .before .before .before .before .before in
+    let after-limits = else1 .before .before in
+    let after-start = after-limits .before .before in
+    let start = after-start .before .before .before .before .before .before in
     let a = start .args in
-    wrong-log _ (a .log .now) (a .ticks) (a .most) (a .cells) (a .k) why (a .mask + 1) (a .n) (a .marks .now) (a .values .now) (a .tallies .now) (else1 .if1 .left) _
-    (c .refusal2 .ensures) (λ q. then2 .if2 .taken (q ∙ ap (λ (i : ℕ). a .ticks * i) (sym (after-start .start .ensures .0))))
+    let clash =
+    stopped (a .n) (a .words .now) (a .log .now) (a .ticks) (a .marks .now) (a .values .now) (start .pre) _ (limited after-limits) (else1 .if1 .left) (2 ^ 32) (omega arith)
+    _ _ _ _ (after-run-ticks .run-ticks .ensures (a .marks .now) (a .values .now) (starts (after-start .start .ensures .1))) _ _ (after-end .end .given .1) in
+    omega (arith, clash .1, plain-table (a .n) (a .words .now) (start .pre) .few)
 
-refusal-requires-3 : tie.Need-refusal-requires-3
-refusal-requires-3 c κs = search needs
+enum-told : tie.Need-enum-told
+enum-told c = search needs
 
-returns-3 : tie.Need-returns-3
-returns-3 c =
-    let then3 = c .before in
-    let else2 = then3 .before in
-    let after-start = else2 .before .before in
-    let else1 = after-start .before .before in
-    let start = else1 .before .before .before .before .before .before in
-    λ why e.
-    let a = start .args in
-    let log = else2 .if2 .left ∙ ap (λ (i : ℕ). a .ticks * i) (after-start .start .ensures .0) in
-    short-marks _ (a .log .now) (a .ticks) (a .most) (a .cells) (a .k) why (a .mask + 1) (a .n) (a .marks .now) (a .values .now) (a .tallies .now) (else1 .if1 .left) log _ _
-    (c .refusal3 .ensures) e (then3 .if3 .taken)
-
-refusal-requires-4 : tie.Need-refusal-requires-4
-refusal-requires-4 c κs = search needs
-
-returns-4 : tie.Need-returns-4
-returns-4 c =
-    let then4 = c .before in
-    let else3 = then4 .before in
-    let else2 = else3 .before in
-    let after-start = else2 .before .before in
-    let else1 = after-start .before .before in
-    let start = else1 .before .before .before .before .before .before in
-    λ why e.
-    let a = start .args in
-    let log = else2 .if2 .left ∙ ap (λ (i : ℕ). a .ticks * i) (after-start .start .ensures .0) in
-    short-values _ (a .log .now) (a .ticks) (a .most) (a .cells) (a .k) why (a .mask + 1) (a .n) (a .marks .now) (a .values .now) (a .tallies .now) (else1 .if1 .left) log _ _
-    (c .refusal4 .ensures) e (else3 .if3 .left) (then4 .if4 .taken)
-
-mul-if5 : tie.Need-mul-if5
-mul-if5 c =
-    let start = c .before .before .before .before .before .before .before .before .before .before .before .before in
-    omega (arith, plain-table (start .args .n) (start .args .words .now) (start .pre .0) .few, start .pre .5)
-
-refusal-requires-5 : tie.Need-refusal-requires-5
-refusal-requires-5 c κs = search needs
-
-returns-5 : tie.Need-returns-5
-returns-5 c =
-    let then5 = c .before in
-    let else4 = then5 .before in
-    let else3 = else4 .before in
-    let else2 = else3 .before in
-    let after-start = else2 .before .before in
-    let else1 = after-start .before .before in
-    let start = else1 .before .before .before .before .before .before in
-    λ why e.
-    let a = start .args in
-    let log = else2 .if2 .left ∙ ap (λ (i : ℕ). a .ticks * i) (after-start .start .ensures .0) in
-    short-tallies _ (a .log .now) (a .ticks) (a .most) (a .cells) (a .k) why (a .mask + 1) (a .n) (a .marks .now) (a .values .now) (a .tallies .now) (else1 .if1 .left) log _ _
-    (c .refusal5 .ensures) e (else3 .if3 .left) (else4 .if4 .left) (then5 .if5 .taken)
-
-slice-aggregate-run-from : tie.Need-slice-aggregate-run-from
-slice-aggregate-run-from c = search needs
-
-run-from-requires : tie.Need-run-from-requires
-run-from-requires c κs =
-    let else5 = c .before .before .before .before in
-    let else4 = else5 .before in
-    let else3 = else4 .before in
-    let after-start = else3 .before .before .before in
-    let else1 = after-start .before .before in
-    let entry = else1 .before .before .before .before .before .before in
-    let pre = entry .pre in
-    let a = entry .args in
-    let start = after-start .start in (
-      pre .0,
-      longer (a .cells) (length (a .marks .now)) (else3 .if3 .left) (pre .2),
-      longer (a .cells) (length (a .values .now)) (else4 .if4 .left) (pre .2),
-      omega (arith, start .kept .1 .1 .0),
-      omega (arith, else1 .if1 .left, pre .1),
-      start .ensures .0,
-      start .ensures .1,
-      pre .3,
-      pre .4,
-      pre .5,
-      else5 .if5 .left,
-      pre .6,
-    )
+success-requires : tie.Need-success-requires
+success-requires c κs = search needs
 
 same-length : tie.Need-same-length
 same-length c = search needs
@@ -153,47 +138,62 @@ same-length c = search needs
 same-length-2 : tie.Need-same-length-2
 same-length-2 c = search needs
 
+returns-2 : tie.Need-returns-2
+returns-2 c =
+    let after-end = c .before in
+    let after-run-ticks = after-end .before .before .before .before .before .before .before in
+    let else1 = after-run-ticks .before .before .before .before .before .before .before .before .before .before .before .before in
+    let after-limits = else1 .before .before in
+    let after-start = after-limits .before .before in
+    let start = after-start .before .before .before .before .before .before in
+    let a = start .args in
+    stopped (a .n) (a .words .now) (a .log .now) (a .ticks) (a .marks .now) (a .values .now) (start .pre) _ (limited after-limits) (else1 .if1 .left) (2 ^ 32) (omega arith)
+    _ _ _ _ (after-run-ticks .run-ticks .ensures (a .marks .now) (a .values .now) (starts (after-start .start .ensures .1))) _ _ (after-end .end .given .1) .0
+
 same-length-3 : tie.Need-same-length-3
 same-length-3 c = search needs
 
-returns-6 : tie.Need-returns-6
-returns-6 c =
-    let after-run-from = c .before .before .before .before .before .before .before in
-    let else5 = after-run-from .before .before .before .before .before in
-    let else4 = else5 .before in
-    let else3 = else4 .before in
-    let else2 = else3 .before in
-    let after-start = else2 .before .before in
-    let else1 = after-start .before .before in
-    let start = else1 .before .before .before .before .before .before in
-    λ why e.
+same-length-4 : tie.Need-same-length-4
+same-length-4 c = search needs
+
+returns-3 : tie.Need-returns-3
+returns-3 c =
+    let after-enum-told = c .before in
+    let after-run-ticks = after-enum-told .before .before .before .before .before .before .before in
+    let else1 = after-run-ticks .before .before .before .before .before .before .before .before .before .before .before .before in
+    let after-limits = else1 .before .before in
+    let after-start = after-limits .before .before in
+    let start = after-start .before .before .before .before .before .before in
     let a = start .args in
-    let log = else2 .if2 .left ∙ ap (λ (i : ℕ). a .ticks * i) (after-start .start .ensures .0) in
-    replayed _ (a .log .now) (a .ticks) (a .most) (a .cells) (a .k) why (a .mask + 1) (a .n) (a .marks .now) (a .values .now) (a .tallies .now) (else1 .if1 .left) log _ _ _ _
-    (else3 .if3 .left) (else4 .if4 .left) (else5 .if5 .left) (after-run-from .run-from .ensures)
+    rw (c .success .ensures)
+    (ended (a .n) (a .words .now) (a .log .now) (a .ticks) (a .marks .now) (a .values .now) (start .pre) _ (limited after-limits) (else1 .if1 .left) (2 ^ 32) (omega arith)
+    _ _ _ _ (after-run-ticks .run-ticks .ensures (a .marks .now) (a .values .now) (starts (after-start .start .ensures .1))) (after-enum-told .enum-told .given .1))
 
 pub replay-spec : {M : Type 1} → statement M
 replay-spec =
     tie.close
     (tie.spec
-    refusal-requires
-    returns
     slice-aggregate-start
     start-requires
     cast-inputs
-    mul-if2
-    refusal-requires-2
-    returns-2
-    refusal-requires-3
-    returns-3
-    refusal-requires-4
-    returns-4
-    mul-if5
-    refusal-requires-5
-    returns-5
-    slice-aggregate-run-from
-    run-from-requires
+    mul-cells
+    limits-requires
+    returns
+    slice-aggregate-listed
+    listed-requires
+    slice-aggregate-listed-2
+    listed-requires-2
+    slice-aggregate-run-ticks
+    slice-aggregate-run-ticks-2
+    slice-aggregate-run-ticks-3
+    run-ticks-requires
+    enum-known-end
+    cast-t40
+    enum-told
+    success-requires
     same-length
     same-length-2
+    returns-2
     same-length-3
-    returns-6)
+    same-length-4
+    returns-3)

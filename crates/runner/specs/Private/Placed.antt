@@ -6,16 +6,17 @@ use mathlib.Core.Option.{some}
 use mathlib.Core.List.{List, [], _∷_, _++_, map}
 use lib.ListN.{length, getD, take, drop}
 use lib.Dec.{eqb, leb}
-use Rattle.table.specs.declared.Answer.{Answer}
-use Rattle.table.specs.Answers.{Refusal, tooManyTicks, wrongLog, Result, good, refused, unless, refusal, over}
+use Rattle.table.specs.Answers.{Refusal, tooManyTicks, wrongLog, Result, good, unless, over}
 use Rattle.table.specs.Rows.{Row, view}
 use Rattle.table.specs.Tables.{rowAt}
+use Rattle.runner.specs.declared.Reached.{Reached}
+use Rattle.runner.specs.declared.Reached.the-variants as reached
 use Rattle.runner.specs.declared.ticks.Ticked.{Ticked}
 use Rattle.runner.specs.declared.ticks.Ticked.the-variants as ticked
 use Rattle.semantics.specs.Cells.{Cell, absent, value, back, first}
-use Rattle.semantics.specs.Runs.{Ticks, history, inputs, TickEnd, filled, stopped, Ran, done, clashed, run, Regular}
-use Rattle.semantics.specs.Answers.{markByte, ranAnswer}
-use Rattle.semantics.specs.Windows.{workedOut, tallySize, Tallied}
+use Rattle.semantics.specs.Runs.{Tick, Ticks, history, TickEnd, filled, stopped, Ran, done, clashed, run, Regular}
+use Rattle.semantics.specs.Answers.{markByte}
+use Rattle.semantics.specs.Windows.{tallySize}
 use Rattle.runner.specs.Private.Carried.{cellAt, heldIn, heldSize, lookFor}
 use Rattle.runner.specs.Private.Ready.{AllCarry}
 
@@ -92,12 +93,12 @@ pub record Cleared (n : ℕ) (s s′ : List ℕ) : Type 0 where
   pub zeros : (i : ℕ) → i < n → getD s′ i 0 ≡ 0
   pub rest : (i : ℕ) → n ≤ i → getD s′ i 0 ≡ getD s i 0
 
--- each of k counts is low enough to grow
+-- each of k counts is below a limit; one below countLimit can grow
 abbrev pub countLimit : ℕ
 countLimit = 2 ^ 31
 
-pub record Low (k : ℕ) (ts : List ℕ) : Type 0 where
-  pub count : (f : ℕ) → f < k → getD ts (tallySize * f) 0 < countLimit
+pub record Low (k limit : ℕ) (ts : List ℕ) : Type 0 where
+  pub count : (f : ℕ) → f < k → getD ts (tallySize * f) 0 < limit
 
 -- the cells of k flows from a place on are tallied
 pub record Counted (first k : ℕ) (ms vs ts ts′ : List ℕ) : Type 0 where
@@ -107,29 +108,44 @@ pub record Counted (first k : ℕ) (ms vs ts ts′ : List ℕ) : Type 0 where
       → getD ts′ (tallySize * f + 1) 0 ≡ cond (eqb (getD ms (first + f) 0) 0) (getD ts (tallySize * f + 1) 0) (getD vs (first + f) 0)
   pub rest : (i : ℕ) → tallySize * k ≤ i → getD ts′ i 0 ≡ getD ts i 0
 
--- the ticks of a run that were filled
-abbrev pub filledTicks : Ran → Ticks
-filledTicks (done past) = past
-filledTicks (clashed t f now past) = past
+-- A run before tick t: its ticks so far stand at their places in marks and values, which held ms₀ and vs₀ before the first, and the rows carry
+-- what they have to.
+pub record Running (n room t : ℕ) (rows : List Row) (log ms₀ vs₀ s ms vs : List ℕ) : Type 0 where
+  pub past : Ticks
+  pub ticks : length past ≡ t
+  pub so-far : run rows log t ≡ done past
+  pub regular : Regular n past
+  pub marks : ms ≡ placed room n markByte ms₀ past
+  pub values : vs ≡ placed room n value vs₀ past
+  pub marks-size : length ms ≡ length ms₀
+  pub values-size : length vs ≡ length vs₀
+  pub carried : AllCarry rows t past s
 
--- How the ticks end, where k flows are tallied. A tick that clashed is not tallied: only a run to its end has its tallies.
-pub record RanTo (x : Ran) (room n k ticks : ℕ) (ms vs ts ms′ vs′ ts′ : List ℕ) (r : Answer) : Type 0 where
-  pub answer : r ≡ ranAnswer ticks (good x)
-  pub regular : Regular n (filledTicks x)
-  pub few : length (workedOut x) ≤ ticks
-  pub marks : ms′ ≡ placed room n markByte ms (workedOut x)
-  pub values : vs′ ≡ placed room n value vs (workedOut x)
-  pub tallied : (past : Ticks) → x ≡ done past → Tallied k past ts ts′
+-- a run that clashed at flow f of a tick before another: the cells before the clash stand at their places as well
+pub record Clashed (n room to f : ℕ) (now : Tick) (past : Ticks) (ms₀ vs₀ ms vs : List ℕ) : Type 0 where
+  pub flow : f < n
+  pub few : length past < to
+  pub regular : Regular n past
+  pub marks : ms ≡ placed room n markByte ms₀ (now ∷ past)
+  pub values : vs ≡ placed room n value vs₀ (now ∷ past)
 
--- what either run comes to within its limits: the most ticks, the cells that marks and values need, and the refusal where they are short
-unfoldable pub testing : List Row → List ℕ → ℕ → ℕ → ℕ → ℕ → Refusal → ℕ → ℕ → ℕ → Result Ran
-testing rows log ticks most cells k short marks values tallies =
+-- how the ticks up to one end
+abbrev pub TicksEnd : ℕ → ℕ → ℕ → List Row → List ℕ → Ran → List ℕ → List ℕ → List ℕ → List ℕ → List ℕ → Reached → Type 0
+TicksEnd n room to rows log (done past) ms₀ vs₀ s ms vs r = (r ≡ reached.End) × Running n room to rows log ms₀ vs₀ s ms vs
+TicksEnd n room to rows log (clashed t f now past) ms₀ vs₀ s ms vs r = (r ≡ reached.Clash t f) × Clashed n room to f now past ms₀ vs₀ ms vs
+
+-- no tick of a run clashes
+pub record Unclashed (rows : List Row) (log : List ℕ) : Type 0 where
+  pub ends : (t : ℕ) → (past : Ticks) × (run rows log t ≡ done past)
+
+-- the most ticks that a long run works out before it tallies them
+abbrev pub stretchTicks : ℕ
+stretchTicks = 64
+
+-- the limits that either run tests: the most ticks, the log's length, and the cells that marks and values need
+abbrev pub limits : ℕ → ℕ → ℕ → ℕ → ℕ → Refusal → ℕ → ℕ → Result (Unit {0})
+limits ticks most logged inputs cells short marks values =
     unless (leb ticks most) tooManyTicks 0
-    (unless (eqb (length log) (ticks * inputs rows)) wrongLog 0
-    (unless (leb cells marks && leb cells values && leb (tallySize * k) tallies) short 0
-    (good (run rows log ticks))))
-
--- and what it leaves
-pub record Replayed (x : Result Ran) (room n k ticks : ℕ) (ms vs ts ms′ vs′ ts′ : List ℕ) (r : Answer) : Type 0 where
-  pub ran : (y : Ran) → x ≡ good y → RanTo y room n k ticks ms vs ts ms′ vs′ ts′ r
-  pub refuses : (why : Refusal) (f : ℕ) → x ≡ refused why f → (r ≡ refusal why f) × (ms′ ≡ ms) × (vs′ ≡ vs) × (ts′ ≡ ts)
+    (unless (eqb logged (ticks * inputs)) wrongLog 0
+    (unless (leb cells marks && leb cells values) short 0
+    (good tt)))
