@@ -5,7 +5,7 @@ use mathlib.Core.Bool.{Bool, true, false, _&&_}
 use lib.Dec.{leb, eqb}
 use borrow.Author.Tests.{leb-true, eqb-true, le-leb, lt-leb, eq-eqb, ne-eqb}
 use Rattle.table.specs.declared.Answer.{Answer}
-use Rattle.table.specs.Answers.{Refusal, number, tooManyTicks, wrongLog, Result, good, refused, unless, then, numbered, refusal, success, answer}
+use Rattle.table.specs.Answers.{Refusal, number, tooManyTicks, wrongLog, Result, good, unless, then, numbered, refusal, success, answer}
 use Rattle.table.proofs.Tests.{and-left, and-right, unless-good}
 use Rattle.runner.specs.Private.Placed.{limits}
 

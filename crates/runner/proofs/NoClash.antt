@@ -1,12 +1,11 @@
 -- No long run clashes. Assumes nothing.
-use mathlib.Core.Path.{_≡_, refl, sym, _∙_, ap}
+use mathlib.Core.Path.{_≡_, refl, _∙_, ap}
 use Prim.Native.Nat.{ℕ, _*_}
 use native.Mathlib.Omega.{arith}
 use mathlib.Core.Bool.{Bool, _&&_}
 use mathlib.Core.List.{List}
 use lib.ListN.{length}
 use lib.Dec.{leb, eqb}
-use Rattle.table.specs.declared.Answer.{Answer}
 use Rattle.table.specs.Answers.{number, clash, Result, good, refused, unless, then, answer, tooManyTicks, wrongLog, shortWindow, noRoom}
 use Rattle.table.specs.Rows.{Row}
 use Rattle.table.specs.Plain.{tableOf, rowsIn}
@@ -15,12 +14,12 @@ use Rattle.table.proofs.Tests.{unless-good, then-good}
 use Rattle.checker.specs.Clocks.{Clock}
 use Rattle.checker.specs.Rules.{clocksOf}
 use Rattle.checker.specs.Answers.{clockSize, checking}
-use Rattle.checker.proofs.Causes.{Unclashing, unless-other, then-other, is-good, table-other, clocks-other}
+use Rattle.checker.proofs.Causes.{OtherCause, unless-other, then-other, is-good, table-other, clocks-other}
 use Rattle.semantics.specs.Runs.{Ticks, inputs, done, run}
 use Rattle.semantics.specs.Windows.{tallySize}
 use Rattle.calendar.specs.Calendar.{Accepts}
 use Rattle.calendar.proofs.Unclashed.{unclashed}
-use Rattle.runner.specs.Long.{windowTicks, maxLongTicks, longRows, longAnswer, LongCalled}
+use Rattle.runner.specs.Long.{windowTicks, maxLongTicks, longRows, longAnswer}
 use Rattle.runner.specs.NoClash.{NoClash}
 
 -- the rows and clocks of a table that the check accepts
@@ -50,30 +49,24 @@ module _ (m : ℕ) (words log : List ℕ) (ticks a b c : ℕ) where
   abbrev limited : List Row → Result (List Row)
   limited rows = unless (leb ticks maxLongTicks) tooManyTicks 0 (logged rows)
 
-  limited-other : (rows : List Row) → Unclashing (limited rows)
+  limited-other : (rows : List Row) → OtherCause (limited rows)
   limited-other rows =
       unless-other (leb ticks maxLongTicks) tooManyTicks 0 (logged rows) (λ e. omega arith)
       (unless-other (eqb (length log) (ticks * inputs rows)) wrongLog 0 (unless room shortWindow 0 (good rows)) (λ e. omega arith)
       (unless-other room shortWindow 0 (good rows) (λ e. omega arith) (is-good rows)))
 
-  long-other : Unclashing (longRows m words log ticks a b c)
+  long-other : OtherCause (longRows m words log ticks a b c)
   unfolding longRows
   long-other =
       then-other (tableOf m words) (λ rows. then (clocksOf rows) λ clocks. limited rows) (table-other m words)
       (λ rows. then-other (clocksOf rows) (λ clocks. limited rows) (clocks-other rows) (λ clocks. limited-other rows))
 
-  never-34 : longAnswer m words log ticks a b c .number ≡ number clash → ⊥
-  never-34 z = go (longRows m words log ticks a b c) refl z
+  never : longAnswer m words log ticks a b c .number ≡ number clash → ⊥
+  never z = go (longRows m words log ticks a b c) refl z
     where
       go : (x : Result (List Row)) → longRows m words log ticks a b c ≡ x → answer (λ (rows : List Row). ticks) x .number ≡ number clash → ⊥
       go (refused why f) e q = long-other .other why f e q
       go (good rows) e q = omega arith
 
 pub no-clash : NoClash
-no-clash =
-    record {
-      runs-out = ends;
-      never-clashes =
-          λ m words log ticks ms vs ts ms′ vs′ ts′ r L z.
-          never-34 m words log ticks (length ms) (length vs) (length ts) (ap (λ (b : Answer). b .number) (sym (L .answer)) ∙ z);
-    }
+no-clash = record { accepted-ends = ends; never-clashes = never }

@@ -3,15 +3,13 @@ use mathlib.Core.Path.{_≡_, refl, sym, _∙_, ap, subst}
 use Prim.Native.Nat.{ℕ, zero, suc, _+_, _*_, _-_, _%_, _^_, _≤_, _<_}
 use native.Mathlib.Nat.{mod-lt, mod-le, mod-eq-of-lt, mod-eq-sub-mod, mod-add-mod, mul-le-mul-right, suc-mul}
 use native.Mathlib.Omega.{arith}
-use mathlib.Core.Bool.{cond, _&&_}
 use mathlib.Core.Logic.{_⊎_, inl, inr}
 use mathlib.Core.List.{List, [], _∷_, _++_, map, append-assoc, map-append}
-use mathlib.Core.Option.{none, some}
 use lib.ListN.{length, getD, take, drop, length-append, length-drop, length-map, List·getD-append, List·getD-map}
 use lib.Seq.{length-take-le, getD-append-add, getD-take, getD-drop, take-append-seam, drop-append-seam, drop-drop}
 use lib.Bits.{bitAnd, and-mask}
-use lib.Dec.{eqb, ltb}
-use borrow.Author.Tests.{eq-eqb, ne-eqb, lt-ltb, eqb-true, eqb-false, ltb-true, ltb-false}
+use lib.Dec.{ltb}
+use borrow.Author.Tests.{ltb-true, ltb-false}
 use Rattle.table.specs.Answers.{over}
 use Rattle.table.specs.Rows.{maxFlows}
 use Rattle.table.proofs.Tests.{Tried, passed, failed, try}
@@ -106,10 +104,7 @@ differ room s j l e = go (try (ltb (s % room + suc j) room))
         let y : (s % room + suc j - room) % room ≡ s % room + suc j - room = mod-eq-of-lt (omega (arith, b)) in
         omega (arith, mod-add-mod s room (suc j))
 
--- ticks have their places in a longer list, and fewer of them too
-pub longer : {room n ticks : ℕ} (size size′ : ℕ) → size ≤ size′ → Fitting room n ticks size → Fitting room n ticks size′
-longer size size′ l F = record { place = λ t h. omega (arith, F .place t h) }
-
+-- fewer ticks have their places in a list too
 pub fewer : {room n ticks size : ℕ} (k : ℕ) → k ≤ ticks → Fitting room n ticks size → Fitting room n k size
 fewer k l F = record { place = λ t h. F .place t (omega arith) }
 

@@ -8,7 +8,7 @@ use mathlib.Core.List.{List, [], _∷_, map}
 use lib.ListN.{length}
 use Rattle.table.specs.Rows.{Row}
 use Rattle.semantics.specs.Cells.{Cell, value}
-use Rattle.semantics.specs.Runs.{Tick, Ticks, TickEnd, filled, stopped, tickOf, Ran, done, clashed, onTick, onRun, run, Regular}
+use Rattle.semantics.specs.Runs.{Tick, Ticks, TickEnd, filled, stopped, tickOf, Ran, done, clashed, onTick, onRun, run}
 use Rattle.semantics.specs.Answers.{markByte}
 use Rattle.runner.specs.declared.Reached.{Reached}
 use Rattle.runner.specs.declared.Reached.the-variants as reached

@@ -6,7 +6,7 @@ use mathlib.Core.List.{List, []}
 use lib.ListN.{length, drop}
 use Rattle.table.specs.Rows.{Row}
 use Rattle.semantics.specs.Cells.{Cell, absent, value}
-use Rattle.semantics.specs.Runs.{Ticks, done, run}
+use Rattle.semantics.specs.Runs.{Ticks, run}
 use Rattle.semantics.specs.Answers.{markByte}
 use Rattle.semantics.specs.Windows.{Windowed, Tallied}
 use Rattle.semantics.proofs.Traces.{run-earlier}

@@ -3,19 +3,17 @@ use mathlib.Core.Path.{_≡_}
 use Prim.Native.Nat.{ℕ}
 use mathlib.Core.List.{List}
 use lib.ListN.{length}
-use Rattle.table.specs.declared.Answer.{Answer}
 use Rattle.table.specs.Answers.{number, clash}
 use Rattle.table.specs.Plain.{tableOf, rowsIn}
 use Rattle.semantics.specs.Runs.{Ticks, done, run}
 use Rattle.calendar.specs.Calendar.{Accepts}
-use Rattle.runner.specs.Long.{LongCalled}
+use Rattle.runner.specs.Long.{longAnswer}
 
 pub record NoClash : Type 0 where
   -- a table that the check accepts runs to its end, over every log and for every count of ticks
-  pub runs-out :
+  pub accepted-ends :
       (m : ℕ) (words clocks : List ℕ) → Accepts m words clocks
       → (log : List ℕ) (ticks : ℕ) → (past : Ticks) × (run (rowsIn (tableOf m words)) log ticks ≡ done past) × (length past ≡ ticks)
-  -- no long run answers 34, whatever its table, log, count of ticks and buffers
+  -- no long run answers 34, whatever its table, its log, its count of ticks and the lengths of its buffers
   pub never-clashes :
-      (m : ℕ) (words log : List ℕ) (ticks : ℕ) (ms vs ts ms′ vs′ ts′ : List ℕ) (r : Answer)
-      → LongCalled m words log ticks ms vs ts ms′ vs′ ts′ r → r .number ≡ number clash → ⊥
+      (m : ℕ) (words log : List ℕ) (ticks marks values tallies : ℕ) → longAnswer m words log ticks marks values tallies .number ≡ number clash → ⊥

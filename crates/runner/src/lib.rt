@@ -333,10 +333,10 @@ pub fn long_run(
         (now (tallies .entry)) (now (marks .exit)) (now (values .exit)) (now (tallies .exit)) r ⌝ }
 {
     let mut clocks = [0u32; checker::CLOCKS];
-    let found = checker::check(count, words, &mut clocks);
-    if found.number == 0 {
+    let checked = checker::check(count, words, &mut clocks);
+    if checked.number == 0 {
         long::replay(count as usize, words, log, ticks, marks, values, tallies)
     } else {
-        found
+        checked
     }
 }

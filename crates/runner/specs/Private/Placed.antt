@@ -122,7 +122,7 @@ pub record Running (n room t : ℕ) (rows : List Row) (log ms₀ vs₀ s ms vs :
   pub carried : AllCarry rows t past s
 
 -- a run that clashed at flow f of a tick before another: the cells before the clash stand at their places as well
-pub record Clashed (n room to f : ℕ) (now : Tick) (past : Ticks) (ms₀ vs₀ ms vs : List ℕ) : Type 0 where
+pub record ClashedAt (n room to f : ℕ) (now : Tick) (past : Ticks) (ms₀ vs₀ ms vs : List ℕ) : Type 0 where
   pub flow : f < n
   pub few : length past < to
   pub regular : Regular n past
@@ -132,7 +132,7 @@ pub record Clashed (n room to f : ℕ) (now : Tick) (past : Ticks) (ms₀ vs₀ 
 -- how the ticks up to one end
 abbrev pub TicksEnd : ℕ → ℕ → ℕ → List Row → List ℕ → Ran → List ℕ → List ℕ → List ℕ → List ℕ → List ℕ → Reached → Type 0
 TicksEnd n room to rows log (done past) ms₀ vs₀ s ms vs r = (r ≡ reached.End) × Running n room to rows log ms₀ vs₀ s ms vs
-TicksEnd n room to rows log (clashed t f now past) ms₀ vs₀ s ms vs r = (r ≡ reached.Clash t f) × Clashed n room to f now past ms₀ vs₀ ms vs
+TicksEnd n room to rows log (clashed t f now past) ms₀ vs₀ s ms vs r = (r ≡ reached.Clash t f) × ClashedAt n room to f now past ms₀ vs₀ ms vs
 
 -- no tick of a run clashes
 pub record Unclashed (rows : List Row) (log : List ℕ) : Type 0 where

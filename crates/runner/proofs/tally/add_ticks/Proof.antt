@@ -5,7 +5,7 @@ use Rattle.semantics.specs.Runs.{Ticks}
 use Rattle.semantics.specs.Windows.{Tallied}
 use lib.ListN.{length, drop}
 use mathlib.Core.List.{List}
-use mathlib.Core.Path.{_≡_, refl, sym, _∙_, ap, subst}
+use mathlib.Core.Path.{_≡_, refl, _∙_, subst}
 use native.Mathlib.Omega.{arith}
 use Prim.Native.Nat.{ℕ, _+_, _-_, _≤_}
 use Rattle.runner.proofs.tally.add_ticks.Statement.{statement}
