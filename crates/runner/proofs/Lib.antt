@@ -21,4 +21,4 @@ pub mod Limiting
 pub mod Underway
 pub mod Called
 pub mod LongCalled
-pub mod NoClash
+pub mod LongRuns

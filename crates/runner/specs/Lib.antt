@@ -1,4 +1,4 @@
 pub mod Called
 pub mod Long
-pub mod NoClash
+pub mod LongRuns
 pub mod Private

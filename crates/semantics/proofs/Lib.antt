@@ -1,3 +1,4 @@
 pub mod Traces
 pub mod Tallies
 pub mod TwosComplement
+pub mod Windows

@@ -1,5 +1,5 @@
--- No long run clashes. Assumes nothing.
-use mathlib.Core.Path.{_≡_, refl, _∙_, ap}
+-- The long run never clashes, and its contract leaves nothing free. Assumes nothing.
+use mathlib.Core.Path.{_≡_, refl, sym, _∙_, ap, subst}
 use Prim.Native.Nat.{ℕ, _*_}
 use native.Mathlib.Omega.{arith}
 use mathlib.Core.Bool.{Bool, _&&_}
@@ -16,11 +16,14 @@ use Rattle.checker.specs.Rules.{clocksOf}
 use Rattle.checker.specs.Answers.{clockSize, checking}
 use Rattle.checker.proofs.Causes.{OtherCause, unless-other, then-other, is-good, table-other, clocks-other}
 use Rattle.semantics.specs.Runs.{Ticks, inputs, done, run}
-use Rattle.semantics.specs.Windows.{tallySize}
+use Rattle.semantics.specs.Cells.{value}
+use Rattle.semantics.specs.Answers.{markByte}
+use Rattle.semantics.specs.Windows.{Windowed, tallySize, Tallied}
+use Rattle.semantics.proofs.Windows.{windows-same, tallies-same}
 use Rattle.calendar.specs.Calendar.{Accepts}
 use Rattle.calendar.proofs.Unclashed.{unclashed}
-use Rattle.runner.specs.Long.{windowTicks, maxLongTicks, longRows, longAnswer}
-use Rattle.runner.specs.NoClash.{NoClash}
+use Rattle.runner.specs.Long.{windowTicks, maxLongTicks, longRows, longAnswer, LongLeft}
+use Rattle.runner.specs.LongRuns.{LongRuns}
 
 -- the rows and clocks of a table that the check accepts
 accepted : (m : ℕ) (words clocks : List ℕ) → Accepts m words clocks
@@ -68,5 +71,26 @@ module _ (m : ℕ) (words log : List ℕ) (ticks a b c : ℕ) where
       go (refused why f) e q = long-other .other why f e q
       go (good rows) e q = omega arith
 
-pub no-clash : NoClash
-no-clash = record { accepted-ends = ends; never-clashes = never }
+-- what a call leaves is given by its rows
+module _ (m : ℕ) (log : List ℕ) (ticks : ℕ) (ms vs ts ms′ vs′ ts′ ms″ vs″ ts″ : List ℕ) where
+  left-same : (x : Result (List Row)) → LongLeft m log ticks x ms vs ts ms′ vs′ ts′ → LongLeft m log ticks x ms vs ts ms″ vs″ ts″
+      → (ms′ ≡ ms″) × (vs′ ≡ vs″) × (ts′ ≡ ts″)
+  left-same (refused why f) a b = (a .0 ∙ sym (b .0), a .1 ∙ sym (b .1), a .2 ∙ sym (b .2))
+  left-same (good rows) a b =
+      let z : done (b .past) ≡ done (a .past) = sym (b .ran) ∙ a .ran in
+      let p : b .past ≡ a .past = cc in (
+        windows-same windowTicks m markByte (a .past) ms ms′ ms″ (a .marks) (subst (λ (y : Ticks). Windowed windowTicks m markByte y ms ms″) p (b .marks)),
+        windows-same windowTicks m value (a .past) vs vs′ vs″ (a .values) (subst (λ (y : Ticks). Windowed windowTicks m value y vs vs″) p (b .values)),
+        tallies-same m (a .past) ts ts′ ts″ (a .tallies) (subst (λ (y : Ticks). Tallied m y ts ts″) p (b .tallies)),
+      )
+
+pub long-runs : LongRuns
+long-runs =
+    record {
+      accepted-ends = ends;
+      never-clashes = never;
+      determined =
+          λ m words log ticks ms vs ts ms′ vs′ ts′ ms″ vs″ ts″ r q A B.
+          let S = left-same m log ticks ms vs ts ms′ vs′ ts′ ms″ vs″ ts″ (longRows m words log ticks (length ms) (length vs) (length ts)) (A .left) (B .left) in
+          (A .answer ∙ sym (B .answer), S .0, S .1, S .2);
+    }
