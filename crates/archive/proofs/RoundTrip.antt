@@ -6,17 +6,17 @@ use native.Mathlib.Omega.{arith}
 use mathlib.Core.Bool.{true}
 use mathlib.Core.List.{List, _++_, map, append-nil}
 use lib.ListN.{length, getD, drop, length-map, drop-of-length-le}
-use lib.Dec.{leb, eqb}
+use lib.Dec.{eqb}
 use borrow.Author.Tests.{le-leb, eq-eqb, eqb-true}
 use Rattle.table.specs.declared.Answer.{Answer}
-use Rattle.table.specs.Answers.{Result, good, over, leaves, answer, success, wrongLength, offCalendar, noRoom}
+use Rattle.table.specs.Answers.{Result, good, over, leaves, answer, success, wrongLength, offCalendar}
 use Rattle.table.specs.Rows.{Row}
 use Rattle.table.specs.Plain.{tableOf}
 use Rattle.table.proofs.Tests.{and-left, and-right, and-both, unless-good, then-good}
 use Rattle.table.proofs.AnswerLaws.{answer-zero}
 use Rattle.checker.specs.Clocks.{Clock}
 use Rattle.checker.specs.Rules.{clockAt, clocksOf}
-use Rattle.checker.specs.Answers.{clockSize, checking}
+use Rattle.checker.proofs.Bounds.{accepted-rows}
 use Rattle.semantics.specs.Cells.{Cell, absent, present, mark, value, onGrid}
 use Rattle.semantics.specs.Runs.{done, cells}
 use Rattle.semantics.specs.Answers.{maxTicks, running, markByte, marksAfter, valuesAfter}
@@ -193,11 +193,7 @@ module _ (m : ℕ) (rows : List Row) (ks : List Clock) (log : List ℕ) (ticks :
 module _ (m : ℕ) (words clocks : List ℕ) (accepted : Accepts m words clocks) (u : free m words ≡ true) (log : List ℕ) (ticks : ℕ) (marks values : List ℕ)
     (few : ticks ≤ maxTicks) (asked : Asked m words log ticks marks values) (lm : length marks ≡ ticks * m) (lv : length values ≡ ticks * m) where
   found : (rows′ : List Row) × (ks′ : List Clock) × (tableOf m words ≡ good rows′) × (clocksOf rows′ ≡ good ks′)
-  unfolding checking
-  found =
-      let a = answer-zero length (checking m words (length clocks)) accepted in
-      let b = then-good (tableOf m words) _ (a .0) (a .1) in
-      (b .0, a .0, b .1, unless-good (leb (clockSize * m) (length clocks)) noRoom 0 (clocksOf (b .0)) (a .0) (b .2) .1)
+  found = let a = accepted-rows m words (length clocks) accepted in (a .0, a .1, a .2, a .3)
 
   rows : List Row
   rows = found .0

@@ -14,7 +14,7 @@ use Rattle.table.specs.Answers.{wrongLog, shortTrace}
 use Rattle.table.specs.Rows.{Row}
 use Rattle.table.specs.Plain.{tableOf}
 use Rattle.table.proofs.Tests.{good-inj, unless-good, then-good}
-use Rattle.table.proofs.AnswerLaws.{no-zero, answer-zero, is-differing}
+use Rattle.table.proofs.AnswerLaws.{no-zero, is-differing}
 use Rattle.table.proofs.Lists.{Each}
 use Rattle.table.proofs.Registers.{Passes}
 use Rattle.table.proofs.Tables.{AllFit, table-made}
@@ -22,6 +22,7 @@ use Rattle.checker.specs.Clocks.{Clock}
 use Rattle.checker.specs.Rules.{clockAt, sourceFits, clocksOf}
 use Rattle.checker.specs.Answers.{clockSize, clocksWords, checking, checkAnswer}
 use Rattle.checker.proofs.CheckLaws.{Clocked, Ruled, clocks-ruled, AllSane, all-sane}
+use Rattle.checker.proofs.Bounds.{accepted-rows}
 use Rattle.semantics.specs.Cells.{value}
 use Rattle.semantics.specs.Runs.{Ticks, inputs, Ran, done, clashed, run, cells, Regular as Wide}
 use Rattle.semantics.specs.Answers.{maxTicks, running, ranAnswer, markByte}
@@ -46,24 +47,21 @@ record Accepted (m : ℕ) (words : List ℕ) (room : ℕ) : Type 0 where
   found : checking m words room ≡ good clocks
 
 accepted : (m : ℕ) (words : List ℕ) (room : ℕ) → checkAnswer m words room .number ≡ 0 → Accepted m words room
-unfolding checking
 accepted m words room e =
-    let a = answer-zero length (checking m words room) e in
-    let b = then-good (tableOf m words) (λ rows. unless (leb (clockSize * m) room) noRoom 0 (clocksOf rows)) (a .0) (a .1) in
-    let c = unless-good (leb (clockSize * m) room) noRoom 0 (clocksOf (b .0)) (a .0) (b .2) in
-    let fit : AllFit (length (b .0)) 0 (b .0) = rows-fit m words (b .0) (b .1) in
-    let size : length (b .0) ≡ m = table-made m words (b .0) (b .1) .size in
-    let f : Ruled (b .0) (a .0) = clocks-ruled (length (b .0)) (b .0) (a .0) fit (c .1) in
+    let a = accepted-rows m words room e in
+    let fit : AllFit (length (a .0)) 0 (a .0) = rows-fit m words (a .0) (a .2) in
+    let size : length (a .0) ≡ m = table-made m words (a .0) (a .2) .size in
+    let f : Ruled (a .0) (a .1) = clocks-ruled (length (a .0)) (a .0) (a .1) fit (a .3) in
     record {
-      rows = b .0;
-      clocks = a .0;
-      table = b .1;
+      rows = a .0;
+      clocks = a .1;
+      table = a .2;
       size = size;
       clocks-size = f .0 ∙ size;
       fits = fit;
       clocked = f .1;
       sources = f .2;
-      found = a .1;
+      found = a .4;
     }
 
 -- where the lengths are those asked, the run is the rows'

@@ -36,13 +36,27 @@ accepted-sane m words rows ks e c =
     let s = sane-clocks m rows ks (t .fits) c in
     (s .0 ∙ t .size, t .few, subst (AllSane (clockAt ks)) (t .size) (s .1))
 
+-- the rows whose clocks the check comes to
+checked-rows : (m : ℕ) (words : List ℕ) (room : ℕ) (ks : List Clock) → checking m words room ≡ good ks
+    → (rows : List Row) × (tableOf m words ≡ good rows) × (clocksOf rows ≡ good ks)
+unfolding checking
+checked-rows m words room ks e =
+    let x = then-good (tableOf m words) (λ rows. unless (leb (clockSize * m) room) noRoom 0 (clocksOf rows)) ks e in
+    (x .0, x .1, unless-good (leb (clockSize * m) room) noRoom 0 (clocksOf (x .0)) ks (x .2) .1)
+
+-- the rows and clocks of a table that it accepts
+pub accepted-rows : (m : ℕ) (words : List ℕ) (room : ℕ) → checkAnswer m words room .number ≡ 0
+    → (rows : List Row) × (ks : List Clock) × (tableOf m words ≡ good rows) × (clocksOf rows ≡ good ks) × (checking m words room ≡ good ks)
+accepted-rows m words room z =
+    let a = answer-zero length (checking m words room) z in
+    let x = checked-rows m words room (a .0) (a .1) in
+    (x .0, a .0, x .1, x .2, a .1)
+
 -- so they are within the limits
 pub checked-within : (m : ℕ) (words : List ℕ) (room : ℕ) (ks : List Clock) → checking m words room ≡ good ks → (length ks ≡ m) × (m ≤ maxFlows) × AllWithin ks
-unfolding checking
 checked-within m words room ks e =
-    let x = then-good (tableOf m words) (λ rows. unless (leb (clockSize * m) room) noRoom 0 (clocksOf rows)) ks e in
-    let c : clocksOf (x .0) ≡ good ks = unless-good (leb (clockSize * m) room) noRoom 0 (clocksOf (x .0)) ks (x .2) .1 in
-    let s = accepted-sane m words (x .0) ks (x .1) c in
+    let x = checked-rows m words room ks e in
+    let s = accepted-sane m words (x .0) ks (x .1) (x .2) in
     (s .0, s .1, λ f l. sane-within (clockAt ks) f (clockAt ks f) (omega (arith, s .0, s .1)) (s .2 f (omega (arith, s .0))))
 
 -- with room for the clocks of any table, the check comes to what the rules come to

@@ -12,11 +12,10 @@ use Rattle.table.specs.Answers.{Refusal, tooManyTicks, wrongLog, shortWindow, R
 use Rattle.table.specs.Rows.{Row, maxFlows}
 use Rattle.table.specs.Plain.{tableOf, rowsIn as goodRows}
 use Rattle.table.proofs.AnswerLaws.{answer-zero, answer-other}
-use Rattle.table.proofs.Tests.{then-good}
 use Rattle.table.proofs.Tables.{rows-good, table-made}
 use Rattle.checker.specs.Rules.{clocksOf}
 use Rattle.checker.specs.Answers.{clockSize, clocksFor, checkAnswer}
-use Rattle.checker.proofs.Bounds.{told-clocks, told-refusal}
+use Rattle.checker.proofs.Bounds.{accepted-rows, told-refusal}
 use Rattle.semantics.specs.Runs.{inputs}
 use Rattle.semantics.specs.Windows.{tallySize, Tallied}
 use Rattle.semantics.proofs.Tallies.{tallied-from}
@@ -99,13 +98,11 @@ module _ (m : ℕ) (words log : List ℕ) (ticks : ℕ) (ms vs ts : List ℕ) (P
         (record { past = L .past; ran = L .ran; marks = L .marks; values = L .values; tallies = tallied-from m (L .past) ts ts₁ ts′ A (L .tallies) })
 
 -- what the check's answer tells
-pub accepted : (m : ℕ) (words : List ℕ) (room : ℕ) (r : Answer) → clockSize * maxFlows ≤ room → r ≡ checkAnswer m words room → r .number ≡ 0
-    → Plain m words × Clocked m words
+pub accepted : (m : ℕ) (words : List ℕ) (room : ℕ) (r : Answer) → r ≡ checkAnswer m words room → r .number ≡ 0 → Plain m words × Clocked m words
 unfolding Plain rowsIn Clocked
-accepted m words room r b e z =
-    let x = told-clocks m words room r b e z in
-    let t = then-good (tableOf m words) clocksOf (x .0) (x .2) in
-    (rows-good true m words (t .0) (t .1), (x .0, ap (λ (y : Result (List Row)). clocksOf (goodRows y)) (t .1) ∙ t .2))
+accepted m words room r e z =
+    let x = accepted-rows m words room (ap (λ (a : Answer). a .number) (sym e) ∙ z) in
+    (rows-good true m words (x .0) (x .2), (x .1, ap (λ (y : Result (List Row)). clocksOf (goodRows y)) (x .2) ∙ x .3))
 
 -- the check's refusal is the long run's
 down-by : (m : ℕ) (words log : List ℕ) (ticks a b c : ℕ) (why : Refusal) (f : ℕ) → clocksFor m words ≡ refused why f → longRows m words log ticks a b c ≡ refused why f

@@ -6,14 +6,11 @@ use mathlib.Core.Bool.{Bool, _&&_}
 use mathlib.Core.List.{List}
 use lib.ListN.{length}
 use lib.Dec.{leb, eqb}
-use Rattle.table.specs.Answers.{number, clash, Result, good, refused, unless, then, answer, tooManyTicks, wrongLog, shortWindow, noRoom}
+use Rattle.table.specs.Answers.{number, clash, Result, good, refused, unless, then, answer, tooManyTicks, wrongLog, shortWindow}
 use Rattle.table.specs.Rows.{Row}
 use Rattle.table.specs.Plain.{tableOf, rowsIn}
-use Rattle.table.proofs.AnswerLaws.{answer-zero}
-use Rattle.table.proofs.Tests.{unless-good, then-good}
-use Rattle.checker.specs.Clocks.{Clock}
 use Rattle.checker.specs.Rules.{clocksOf}
-use Rattle.checker.specs.Answers.{clockSize, checking}
+use Rattle.checker.proofs.Bounds.{accepted-rows}
 use Rattle.checker.proofs.Causes.{OtherCause, unless-other, then-other, is-good, table-other, clocks-other}
 use Rattle.semantics.specs.Runs.{Ticks, inputs, done, run}
 use Rattle.semantics.specs.Cells.{value}
@@ -25,21 +22,13 @@ use Rattle.calendar.proofs.Unclashed.{unclashed}
 use Rattle.runner.specs.Long.{windowTicks, maxLongTicks, longRows, longAnswer, LongLeft}
 use Rattle.runner.specs.LongRuns.{LongRuns}
 
--- the rows and clocks of a table that the check accepts
-accepted : (m : ℕ) (words clocks : List ℕ) → Accepts m words clocks
-    → (rows : List Row) × (tableOf m words ≡ good rows) × (ks : List Clock) × (clocksOf rows ≡ good ks)
-unfolding checking
-accepted m words clocks a =
-    let x = answer-zero length (checking m words (length clocks)) a in
-    let t = then-good (tableOf m words) (λ rows. unless (leb (clockSize * m) (length clocks)) noRoom 0 (clocksOf rows)) (x .0) (x .1) in
-    (t .0, t .1, x .0, unless-good (leb (clockSize * m) (length clocks)) noRoom 0 (clocksOf (t .0)) (x .0) (t .2) .1)
-
+-- a table that the check accepts runs to its end
 ends : (m : ℕ) (words clocks : List ℕ) → Accepts m words clocks → (log : List ℕ) (ticks : ℕ)
     → (past : Ticks) × (run (rowsIn (tableOf m words)) log ticks ≡ done past) × (length past ≡ ticks)
 ends m words clocks a log ticks =
-    let A = accepted m words clocks a in
-    let u = unclashed m words (A .0) (A .2) (A .1) (A .3) log ticks in
-    (u .0, ap (λ (x : Result (List Row)). run (rowsIn x) log ticks) (A .1) ∙ u .1, u .2)
+    let x = accepted-rows m words (length clocks) a in
+    let u = unclashed m words (x .0) (x .1) (x .2) (x .3) log ticks in
+    (u .0, ap (λ (y : Result (List Row)). run (rowsIn y) log ticks) (x .2) ∙ u .1, u .2)
 
 -- a long run is refused for other causes
 module _ (m : ℕ) (words log : List ℕ) (ticks a b c : ℕ) where

@@ -1,7 +1,7 @@
 -- What a window and tallies hold is said outright: what they held before and a run's ticks leave no cell free. Assumes nothing.
 use mathlib.Core.Path.{_≡_, sym, _∙_, ap, subst}
 use Prim.Native.Nat.{ℕ, suc, _+_, _*_, _-_, _/_, _%_, _≤_, _<_}
-use native.Mathlib.Nat.{mod-lt, mod-eq-of-lt, mul-le-mul-right, div-add-mod, div-add-mod', div-lt-iff-lt-mul, add-mul-mod-self-left}
+use native.Mathlib.Nat.{mod-lt, mod-eq-of-lt, div-add-mod, div-add-mod', div-lt-iff-lt-mul, add-mul-mod-self-left}
 use native.Mathlib.Decide.{decLt}
 use native.Mathlib.Omega.{arith}
 use mathlib.Core.List.{List}

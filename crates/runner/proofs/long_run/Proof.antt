@@ -22,7 +22,7 @@ replay-requires c κs =
     let start = after-check .before .before .before .before .before .before .before in
     let a = start .args in
     let check = after-check .check in
-    accepted (a .count) (a .words .now) _ (check .result) (omega (arith, length-replicate {A = ℕ} (clockSize * maxFlows) 0)) (check .ensures .0) (then1 .if1 .taken)
+    accepted (a .count) (a .words .now) _ (check .result) (check .ensures .0) (then1 .if1 .taken)
 
 same-length : tie.Need-same-length
 same-length c = search needs
