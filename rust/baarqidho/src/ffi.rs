@@ -300,10 +300,9 @@ pub fn run(plan_count: u32, words: &[u32], log: &[u32], ticks: u32, marks: &mut 
 /// of tick t from place `t % WINDOW_TICKS * plan_count` on. Of all ticks, [`TALLY_WORDS`](crate::TALLY_WORDS) words a
 /// flow are kept: how many values it had, and its last one, 0 if it had none.
 ///
-/// Success gives the count of ticks, and writes the tallies and the cells of the window that the ticks reach. Refusals
-/// that touch nothing: 11, 13, 14, 15, those of the check (23, 21, 22 and 40), 31, 32, and 35 where marks, values or
-/// tallies are too short, however few the ticks. A clash, 34, names tick and flow: each cell of the window is the last
-/// one worked out for its place, if any, and the tallies are those of the cells worked out by then.
+/// Success gives the count of ticks, and writes the tallies and the cells of the window that the ticks reach. Refusals,
+/// none of which touches marks, values or tallies: 11, 13, 14, 15, those of the check (23, 21, 22 and 40), 31, 32, and
+/// 35 where one of the three is too short, however few the ticks. A plan that the check accepts has no clash.
 ///
 /// ```
 /// use baarqidho::{TALLY_WORDS, WINDOW_TICKS};

@@ -8,6 +8,7 @@
 
 mod archive;
 mod outcome;
+mod tally;
 
 use std::ops::RangeInclusive;
 
@@ -20,10 +21,19 @@ use crate::{Answer, MOST_FLOWS, WINDOW};
 /// The words that a row carries from tick to tick.
 type Held = [u32; 4];
 
+/// The ticks of a long run that are worked out and then tallied.
+const STRETCH: u32 = 64;
+
 /// What a tick comes to: all of it, or a clash that names a flow.
 enum Ticked {
     Full,
     Stopped(usize),
+}
+
+/// How far ticks came: to the end, or to a clash at a tick, which names a flow.
+enum Reached {
+    End,
+    Clash(u32, usize),
 }
 
 /// The flows of some kinds, in ascending order.
@@ -49,13 +59,23 @@ impl Listed {
     }
 }
 
+/// The registers of a plan, its later rows and its views.
+fn lists(rows: &[Row]) -> [Listed; 3] {
+    [7..=7, 10..=10, 17..=18].map(|kinds| Listed::new(kinds, rows))
+}
+
 /// Runs a plain table over a log for some ticks. The count of the answer is that of the ticks.
 pub fn run(plan_count: u32, words: &[u32], log: &[u32], ticks: u32, marks: &mut [u8], values: &mut [u32]) -> Answer {
     let (rows, inputs) = match runnable(plan_count, words, log, ticks, marks, values) {
         Ok(ready) => ready,
         Err(refusal) => return refusal,
     };
-    run_ticks(rows, inputs, log, ticks, u32::MAX, 0, marks, values, &mut [])
+    let mut state = [[0; 4]; MOST_FLOWS];
+    start(rows, &mut state);
+    match run_ticks(rows, &lists(rows), log, inputs, 0, ticks, u32::MAX, &mut state, marks, values) {
+        Reached::End => Answer::success(ticks as usize),
+        Reached::Clash(tick, flow) => Answer { number: 34, flow: flow as u32, tick, count: 0 },
+    }
 }
 
 /// Checks a plain table and runs it over a log for many ticks, into a window and tallies. The count of the answer is
@@ -73,49 +93,72 @@ pub fn long_run(
         Ok(ready) => ready,
         Err(refusal) => return refusal,
     };
-    tallies[..2 * rows.len()].fill(0);
-    run_ticks(rows, inputs, log, ticks, WINDOW - 1, rows.len(), marks, values, tallies)
-}
-
-/// The ticks from 0 on, each at the place that the mask leaves of it. The first flows, so many, are tallied; a tick that
-/// clashed is not, since only the run can clash.
-#[allow(clippy::too_many_arguments)]
-fn run_ticks(
-    rows: &[Row],
-    inputs: usize,
-    log: &[u32],
-    ticks: u32,
-    mask: u32,
-    tallied: usize,
-    marks: &mut [u8],
-    values: &mut [u32],
-    tallies: &mut [u32],
-) -> Answer {
     let mut state = [[0; 4]; MOST_FLOWS];
     start(rows, &mut state);
-    let [registers, laters, views] = [7..=7, 10..=10, 17..=18].map(|kinds| Listed::new(kinds, rows));
-    for t in 0..ticks {
-        collect(laters.flows(), rows, t, mask, marks, values, &mut state);
-        look(views.flows(), rows, t, mask, marks, values, &mut state);
-        let first = (t & mask) as usize * rows.len();
-        let at = t as usize * inputs;
-        let (marks, values) = (&mut marks[first..], &mut values[first..]);
-        match tick(rows, registers.flows(), log, at, t, &mut state, marks, values) {
-            Ticked::Full => tally(tallied, marks, values, tallies),
-            Ticked::Stopped(flow) => return Answer { number: 34, flow: flow as u32, tick: t, count: 0 },
-        }
-    }
+    tally::clear(rows.len(), tallies);
+    long_ticks(rows, &lists(rows), log, inputs, ticks, &mut state, marks, values, tallies);
     Answer::success(ticks as usize)
 }
 
-/// The first cells of a tick, so many, are tallied: how many values each flow had, and its last one.
-fn tally(cells: usize, marks: &[u8], values: &[u32], tallies: &mut [u32]) {
-    for ((tally, &mark), &value) in tallies.chunks_exact_mut(2).zip(&marks[..cells]).zip(&values[..cells]) {
-        if mark != 0 {
-            tally[0] += 1;
-            tally[1] = value;
+/// The ticks of a long run, stretch by stretch: worked out, and then tallied. None of them clashes, as the check
+/// accepts the plan.
+#[allow(clippy::too_many_arguments)]
+fn long_ticks(
+    rows: &[Row],
+    lists: &[Listed; 3],
+    log: &[u32],
+    inputs: usize,
+    ticks: u32,
+    state: &mut [Held],
+    marks: &mut [u8],
+    values: &mut [u32],
+    tallies: &mut [u32],
+) {
+    let mut t = 0;
+    while t < ticks {
+        let next = stretch_end(t, ticks);
+        run_ticks(rows, lists, log, inputs, t, next, WINDOW - 1, state, marks, values);
+        tally::add_ticks(t, next, WINDOW - 1, rows.len(), marks, values, tallies);
+        t = next;
+    }
+}
+
+/// The tick before which the stretch from tick t on ends.
+fn stretch_end(t: u32, ticks: u32) -> u32 {
+    ticks.min(t + STRETCH)
+}
+
+/// The ticks from one on, up to but not including another, each at the place that the mask leaves of it.
+#[allow(clippy::too_many_arguments)]
+fn run_ticks(
+    rows: &[Row],
+    lists: &[Listed; 3],
+    log: &[u32],
+    inputs: usize,
+    from: u32,
+    to: u32,
+    mask: u32,
+    state: &mut [Held],
+    marks: &mut [u8],
+    values: &mut [u32],
+) -> Reached {
+    let [registers, laters, views] = lists.each_ref().map(Listed::flows);
+    for t in from..to {
+        collect(laters, rows, t, mask, marks, values, state);
+        look(views, rows, t, mask, marks, values, state);
+        let first = first_cell(t, mask, rows.len());
+        let at = t as usize * inputs;
+        match tick(rows, registers, log, at, t, state, &mut marks[first..], &mut values[first..]) {
+            Ticked::Full => {}
+            Ticked::Stopped(flow) => return Reached::Clash(t, flow),
         }
     }
+    Reached::End
+}
+
+/// The place of the first of n cells of tick t.
+fn first_cell(t: u32, mask: u32, n: usize) -> usize {
+    (t & mask) as usize * n
 }
 
 /// The words that the rows carry into tick 0.
@@ -141,7 +184,7 @@ fn collect(laters: &[usize], rows: &[Row], t: u32, mask: u32, marks: &[u8], valu
         let [_, a, d, _] = rows[flow];
         let held = &mut state[flow];
         if d <= t {
-            let place = ((t - d) & mask) as usize * rows.len() + a as usize;
+            let place = first_cell(t - d, mask, rows.len()) + a as usize;
             held[0] = u32::from(marks[place]);
             held[1] = values[place];
         } else {
@@ -156,7 +199,7 @@ fn look(views: &[usize], rows: &[Row], t: u32, mask: u32, marks: &[u8], values: 
     for &flow in views {
         let held = &mut state[flow];
         if held[0] == t && held[1] != 0 {
-            let place = ((t - held[1]) & mask) as usize * rows.len() + rows[flow][2] as usize;
+            let place = first_cell(t - held[1], mask, rows.len()) + rows[flow][2] as usize;
             held[2] = status(Signal { mark: marks[place], value: values[place] });
         }
     }

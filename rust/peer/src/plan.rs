@@ -90,15 +90,34 @@ fn test_ticks(ticks: u32, most: u32) -> Result<(), Answer> {
     }
 }
 
-/// How many rows are inputs, the log having a word for each of them at each tick: numbers 31 and 32.
+/// How many rows are inputs, each with a word a tick in the log.
 #[inline]
-fn inputs(rows: &[Row], log: &[u32], ticks: u32, most: u32) -> Result<usize, Answer> {
+fn inputs(rows: &[Row]) -> usize {
+    rows.iter().filter(|row| row[0] == 0).count()
+}
+
+/// The lengths of log, marks and values in a run that takes so many ticks at the most and needs so many cells: numbers
+/// 31, 32, and `short`.
+#[allow(clippy::too_many_arguments)]
+#[inline]
+fn limits(
+    ticks: u32,
+    most: u32,
+    logged: usize,
+    inputs: usize,
+    cells: usize,
+    marks: usize,
+    values: usize,
+    short: u32,
+) -> Result<(), Answer> {
     test_ticks(ticks, most)?;
-    let inputs = rows.iter().filter(|row| row[0] == 0).count();
-    if log.len() != ticks as usize * inputs {
+    if logged != ticks as usize * inputs {
         return Err(Answer::number(32));
     }
-    Ok(inputs)
+    if marks < cells || values < cells {
+        return Err(Answer::number(short));
+    }
+    Ok(())
 }
 
 /// The rows of a plain table that is to run, and how many of them are inputs: numbers 11 to 15, 31, 32 and 33.
@@ -112,11 +131,8 @@ pub fn runnable<'a>(
     values: &[u32],
 ) -> Result<(&'a [Row], usize), Answer> {
     let rows = rows(plan_count, words)?;
-    let inputs = inputs(rows, log, ticks, MOST_TICKS)?;
-    let cells = ticks as usize * rows.len();
-    if marks.len() < cells || values.len() < cells {
-        return Err(Answer::number(33));
-    }
+    let (inputs, cells) = (inputs(rows), ticks as usize * rows.len());
+    limits(ticks, MOST_TICKS, log.len(), inputs, cells, marks.len(), values.len(), 33)?;
     Ok((rows, inputs))
 }
 
@@ -133,9 +149,9 @@ pub fn long_runnable<'a>(
 ) -> Result<(&'a [Row], usize), Answer> {
     let rows = rows(plan_count, words)?;
     derive(rows, &mut [Clock::default(); MOST_FLOWS])?;
-    let inputs = inputs(rows, log, ticks, MOST_LONG_TICKS)?;
-    let cells = WINDOW as usize * rows.len();
-    if marks.len() < cells || values.len() < cells || tallies.len() < 2 * rows.len() {
+    let (inputs, cells) = (inputs(rows), WINDOW as usize * rows.len());
+    limits(ticks, MOST_LONG_TICKS, log.len(), inputs, cells, marks.len(), values.len(), 35)?;
+    if tallies.len() < 2 * rows.len() {
         return Err(Answer::number(35));
     }
     Ok((rows, inputs))

@@ -13,7 +13,10 @@ pub fn run(plan_count: u32, words: &[u32], log: &[u32], ticks: u32, marks: &mut 
         Err(refusal) => return refusal,
     };
     let mut steps = steps(rows);
-    ended(ticks, lap(&mut steps[..rows.len()], inputs, log, 0..ticks, marks, values, |_, _| {}))
+    match lap(&mut steps[..rows.len()], inputs, log, 0..ticks, marks, values, |_, _| {}) {
+        Ok(()) => Answer::success(ticks as usize),
+        Err((tick, flow)) => Answer { number: 34, flow: flow as u32, tick, count: 0 },
+    }
 }
 
 /// Checks a plain table and runs it over a log for many ticks, lap after lap of a window. The count of the answer is
@@ -36,16 +39,17 @@ pub fn long_run(
     let (marks, values) = (&mut marks[..cells], &mut values[..cells]);
     // How many values each flow had, and its last one.
     let mut counted = [[0; 2]; MOST_FLOWS];
-    let clash = (0..ticks).step_by(WINDOW as usize).try_for_each(|first| {
+    for first in (0..ticks).step_by(WINDOW as usize) {
         let ticks = first..ticks.min(first + WINDOW);
-        lap(&mut steps[..flows], inputs, log, ticks, marks, values, |flow, cell| {
+        let ended = lap(&mut steps[..flows], inputs, log, ticks, marks, values, |flow, cell| {
             let [count, last] = &mut counted[flow % MOST_FLOWS];
             *count += u32::from(cell.mark());
             *last = if cell.is_present() { cell.value() } else { *last };
-        })
-    });
+        });
+        ended.expect("no plan that the check accepts can clash");
+    }
     tallies[..2 * flows].copy_from_slice(counted[..flows].as_flattened());
-    ended(ticks, clash)
+    Answer::success(ticks as usize)
 }
 
 /// Tested rows, ready for tick 0.
@@ -57,14 +61,6 @@ fn steps(rows: &[Row]) -> [Step; MOST_FLOWS] {
         column += u32::from(row[0] == 0);
     }
     steps
-}
-
-/// The answer of a run that came to its end, or to a clash at a tick and a flow.
-fn ended(ticks: u32, clash: Result<(), (u32, usize)>) -> Answer {
-    match clash {
-        Ok(()) => Answer::success(ticks as usize),
-        Err((tick, flow)) => Answer { number: 34, flow: flow as u32, tick, count: 0 },
-    }
 }
 
 /// The flows that are registers, and how many there are.

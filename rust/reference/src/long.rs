@@ -27,6 +27,7 @@ pub fn long_run(
             return refuse(35);
         }
         let (history, ended) = run_ticks(&rows, log, ticks);
+        ended.expect("Wish 12: no table that the check accepts can clash");
         // Tick t at place t modulo 131,072: the last cell of a place stays.
         for (tick, flow, cell) in history.cells() {
             put(cell, tick % WINDOW * rows.len() + flow, marks, values);
@@ -34,7 +35,6 @@ pub fn long_run(
         for flow in 0..rows.len() {
             tallies[2 * flow..2 * flow + 2].copy_from_slice(&tally(&history, flow));
         }
-        ended?;
         Ok(success(ticks))
     }))
 }

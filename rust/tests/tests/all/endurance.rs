@@ -1,14 +1,15 @@
 //! Long runs of random plans: the implementations against each other, and against the trace of a plain run.
 
-use tests::compare::{check, keeps, long_run, long_run_exactly, run, run_exactly, window, Lengths, Outcome};
-use tests::faults::any_rows;
+use tests::compare::{check, keeps, long_run, long_run_exactly, read, run, run_exactly, window, Lengths, Outcome};
+use tests::faults::{any_rows, break_clocks, damage};
 use tests::generate::{accepted, Shape};
-use tests::implementation::{Implementation, ALL, LIBRARY, MIRROR, PEER, REFERENCE};
+use tests::implementation::{Implementation, ALL, LIBRARY, MIRROR, PEER, QUICK, REFERENCE};
 use tests::rng::Rng;
 use tests::tally::Tally;
 use tests::{rounds, Plan, CLOCK_WORDS, TICKS, WINDOW, WRITTEN};
 
-use crate::short::{faulty, sound, ticks_and_log};
+use crate::packed::packed;
+use crate::short::{faulty, sound};
 use crate::views::viewing;
 
 /// All, with the one that takes the library's own steps.
@@ -49,20 +50,55 @@ pub fn ends(of: &[&Implementation], plan: &Plan, log: &[u32], ticks: u32) -> Out
     trace
 }
 
-/// Few ticks of sound plans, plans with faults and rows that were not made to fit, with logs and buffers of right and
-/// wrong lengths. The check's refusals are handed on, and a plan whose run clashes has one.
+/// A plan of any sort: made to be accepted, with faults or with clocks that differ in it, of rows that were not made to
+/// fit, or what is read from damaged bytes.
+fn of_any_sort(rng: &mut Rng) -> Plan {
+    match rng.below(8) {
+        0..=2 => sound(rng).0,
+        3 => faulty(rng),
+        4 => {
+            let (mut plan, _) = sound(rng);
+            break_clocks(rng, &mut plan);
+            plan
+        }
+        5 | 6 => any_rows(rng),
+        _ => loop {
+            let mut bytes = packed(rng);
+            damage(rng, &mut bytes);
+            if let Outcome { parts: (0, _, _, count), words, .. } = read(&[&LIBRARY], &bytes, 256) {
+                return Plan { count, words: words[..4 * count as usize].to_vec() };
+            }
+        },
+    }
+}
+
+/// The most of few ticks.
+const FEW: u32 = 300;
+
+/// Few ticks, often around the 64 of a stretch that the library works out at once, now and then too many; and a log for
+/// the first of them, now and then of the wrong length.
+fn few_ticks_and_log(rng: &mut Rng, plan: &Plan) -> (u32, Vec<u32>) {
+    let ticks = match rng.below(40) {
+        0 => rng.pick(&[4_194_304, u32::MAX]),
+        1..=5 => rng.pick(&[0, 1, 63, 64, 65, 127, 128, 129, 192]),
+        6..=9 => rng.range(0, FEW),
+        _ => rng.range(0, 48),
+    };
+    let words = ticks.min(FEW) as usize * plan.inputs();
+    let log_len = if rng.percent(95) { words } else { rng.around(words) };
+    (ticks, rng.log(log_len))
+}
+
+/// Few ticks of plans of any sort, with logs and buffers of right and wrong lengths: the number is what the paper says,
+/// and never a clash. The check's refusals are handed on, and a plan whose run clashes has one, whichever row it is at.
 #[test]
 fn few_ticks() {
     let mut rng = Rng::new(101);
     let mut tally = Tally::default();
-    let (mut clashed, plans) = (0, rounds(2_000));
-    for round in 0..plans {
-        let plan = match round % 4 {
-            0 | 1 => sound(&mut rng).0,
-            2 => any_rows(&mut rng),
-            _ => faulty(&mut rng),
-        };
-        let (ticks, log) = ticks_and_log(&mut rng, &plan, &[4_194_304, u32::MAX]);
+    let (mut clashed, plans) = ([0; 19], rounds(4_000));
+    for _ in 0..plans {
+        let plan = of_any_sort(&mut rng);
+        let (ticks, log) = few_ticks_and_log(&mut rng, &plan);
         let flows = plan.words.len() / 4;
         let Lengths { bytes, words, tallies } = window(flows);
         let lengths = match rng.percent(60) {
@@ -74,23 +110,58 @@ fn few_ticks() {
         tally.add("long run", number);
         let checked = check(&[&LIBRARY], &plan, CLOCK_WORDS * flows).parts;
         assert!(checked.0 == 0 || outcome.parts == checked, "{plan:?}");
-        let trace = run(&[&LIBRARY], &plan, &log, ticks, (64 * flows, 64 * flows));
-        match (number, trace.parts.0) {
-            (0, _) => keeps(&outcome, lengths, &trace, flows, ticks as usize),
-            (_, 34) => {
-                assert!(matches!(number, 21..=23 | 40), "{plan:?}");
-                clashed += 1;
-            }
-            _ => assert!(outcome.is_untouched(), "{plan:?}"),
+        let trace = run(&[&LIBRARY], &plan, &log, ticks, (FEW as usize * flows, FEW as usize * flows));
+        if number == 0 {
+            keeps(&outcome, lengths, &trace, flows, ticks as usize);
+        } else {
+            assert!(outcome.is_untouched(), "{plan:?}");
+        }
+        if let (34, flow, ..) = trace.parts {
+            assert!(matches!(number, 21..=23 | 40), "{plan:?}");
+            clashed[plan.words[4 * flow as usize] as usize] += 1;
         }
     }
+    every_number_but_a_clash(&tally, plans);
+    many_clashed(&clashed, plans);
+}
+
+/// Each number of a long run occurred, and no other: 34 neither.
+fn every_number_but_a_clash(tally: &Tally, plans: usize) {
     for number in [0, 11, 13, 14, 15, 21, 22, 23, 31, 32, 35, 40] {
         assert!(tally.count("long run", number) > plans / 1_000, "number {number} occurs: {tally}");
     }
-    for number in [10, 33, 34] {
+    for number in [10, 12, 16, 33, 34].into_iter().chain(36..=39).chain(41..=43) {
         assert_eq!(tally.count("long run", number), 0, "{tally}");
     }
-    assert!(clashed > plans / 20, "{clashed}");
+}
+
+/// Many runs clashed, by the kind of the row: every kind that can.
+fn many_clashed(clashed: &[usize; 19], plans: usize) {
+    for (kind, &count) in clashed.iter().enumerate() {
+        assert_eq!(count > 0, matches!(kind, 2..=8 | 11 | 13..=15 | 17 | 18), "clashes by kind: {clashed:?}");
+    }
+    assert!(clashed.iter().sum::<usize>() > plans / 10, "clashes by kind: {clashed:?}");
+}
+
+/// Plans whose runs go on for thousands of ticks before they clash: long runs of them are refused at once.
+#[test]
+fn late_clashes() {
+    let mut rng = Rng::new(105);
+    let (mut late, plans) = (0, rounds(3_000));
+    for _ in 0..plans {
+        let flows = 2 + rng.below(6);
+        let (mut plan, _) = accepted(&mut rng, Shape { flows, scale: WRITTEN, sampling: true });
+        break_clocks(&mut rng, &mut plan);
+        let log = rng.log(TICKS as usize * plan.inputs());
+        let (number, _, tick, _) = run_exactly(&QUICK, &plan, &log, TICKS).parts;
+        if number == 34 && tick > WRITTEN {
+            let outcome = long_run_exactly(&FOUR, &plan, &log, TICKS);
+            assert!(matches!(outcome.parts.0, 21..=23 | 40), "{plan:?}");
+            assert!(outcome.is_untouched(), "{plan:?}");
+            late += 1;
+        }
+    }
+    assert!(late > plans / 20, "{late} of {plans}");
 }
 
 /// Once and more often round the window: sound plans of all sizes.
@@ -123,14 +194,15 @@ fn round_the_window_word_by_word() {
     }
 }
 
-/// Millions of ticks, with views.
+/// Millions of ticks, and as many as there may be, with views.
 #[test]
 fn millions_of_ticks() {
     let mut rng = Rng::new(104);
     for (flows, scale) in [(3, 2), (5, 6), (8, 100), (16, WRITTEN)] {
-        let (plan, _) = viewing(&mut rng, |_| Shape { flows, scale, sampling: true });
-        let ticks = rng.range(1_000_000, 4_194_303);
-        let log = rng.log(ticks as usize * plan.inputs());
-        assert_eq!(long_run_exactly(&THREE, &plan, &log, ticks).parts, (0, 0, 0, ticks));
+        for ticks in [rng.range(1_000_000, 4_194_302), 4_194_303] {
+            let (plan, _) = viewing(&mut rng, |_| Shape { flows, scale, sampling: true });
+            let log = rng.log(ticks as usize * plan.inputs());
+            assert_eq!(long_run_exactly(&THREE, &plan, &log, ticks).parts, (0, 0, 0, ticks));
+        }
     }
 }

@@ -13,6 +13,7 @@ mod header;
 mod least;
 mod limits;
 mod long;
+mod longest;
 mod mirror;
 mod packed;
 mod page;

@@ -49,7 +49,7 @@ pub fn every_call(rng: &mut Rng, of: &[&Implementation], plan: &Plan, tally: &mu
 }
 
 /// Few ticks, now and then one of the others, and a log for the first 64 of them, now and then of the wrong length.
-pub fn ticks_and_log(rng: &mut Rng, plan: &Plan, others: &[u32]) -> (u32, Vec<u32>) {
+fn ticks_and_log(rng: &mut Rng, plan: &Plan, others: &[u32]) -> (u32, Vec<u32>) {
     let ticks = match rng.below(50) {
         0 => 0,
         1 => 1,
@@ -84,6 +84,7 @@ fn short_long_run(rng: &mut Rng, of: &[&Implementation], plan: &Plan, tally: &mu
     };
     let outcome = long_run(of, plan, &log, ticks, lengths);
     tally.add("long run", outcome.parts.0);
+    assert_ne!(outcome.parts.0, 34, "{plan:?}");
     assert!(outcome.parts.0 == 0 || outcome.is_untouched());
 }
 

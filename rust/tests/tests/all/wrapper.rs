@@ -221,7 +221,10 @@ fn long_runs_of_random_plans() {
                 same_window(&run, &outcome);
                 ended += 1;
             }
-            Err(refusal) => assert_eq!(Err(refusal), Answer { number, flow, tick, count }.result(), "{plan:?}"),
+            Err(refusal) => {
+                assert_eq!(Err(refusal), Answer { number, flow, tick, count }.result(), "{plan:?}");
+                assert!(!matches!(refusal, Refusal::Clash { .. }), "{plan:?}");
+            }
         }
     }
     assert!(ended > plans / 10, "{ended}");
