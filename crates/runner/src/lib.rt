@@ -32,8 +32,8 @@ use table::MAX_FLOWS;
 // The mask that leaves every tick as it is: a run's that has room for all.
 const WHOLE: u32 = 4294967295;
 
-// How far ticks came: to the end, or to a clash, at a tick, that names a flow.
-pub enum Reached {
+// How far ticks came: to the end, or to a clash, with its tick and the flow that it names.
+enum Reached {
     End,
     Clash(u32, usize),
 }
