@@ -88,7 +88,7 @@ enum baarqidho_number {
     BAARQIDHO_TOO_MANY_TICKS = 31,     /* more than 131,071 ticks, or 4,194,303 in a long run */
     BAARQIDHO_BAD_LOG_LENGTH = 32,     /* log length not ticks x inputs */
     BAARQIDHO_TRACE_TOO_SHORT = 33,    /* mark or value trace below ticks x flows */
-    BAARQIDHO_CLASH = 34,              /* of a run, not a long run: operands do not fit together; names tick and flow */
+    BAARQIDHO_CLASH = 34,              /* in a run: operands do not fit together; names tick and flow */
     BAARQIDHO_WINDOW_TOO_SHORT = 35,   /* marks or values below 131,072 x flows, or tallies below 2 x flows */
     BAARQIDHO_BAD_TIMES_LENGTH = 36,   /* worst times not one a flow */
     BAARQIDHO_PAGE_TOO_SHORT = 37,     /* page below 26 x (flows + 1) bytes */
@@ -192,7 +192,7 @@ uint32_t baarqidho_run(uint32_t plan_count, const uint32_t *words, size_t words_
  *   32  log_len is not ticks x the number of input rows
  *   35  marks_len or values_len is below BAARQIDHO_WINDOW_TICKS x plan_count, however few the ticks, or tallies_len is
  *       below BAARQIDHO_TALLY_WORDS x plan_count
- * Each leaves all three buffers as they were. A plan that the check accepts has no clash, so 34 is never answered.
+ * Each leaves all three buffers as they were.
  */
 uint32_t baarqidho_long_run(uint32_t plan_count, const uint32_t *words, size_t words_len,
                             const uint32_t *log, size_t log_len, uint32_t ticks,

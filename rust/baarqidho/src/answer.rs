@@ -119,7 +119,7 @@ pub enum Refusal {
     BadLogLength,
     /// 33: the mark trace or the value trace has less than one cell per tick and flow.
     TraceTooShort,
-    /// 34: operands that do not fit together, in a run. A long run has none, as it takes accepted plans alone.
+    /// 34: operands that do not fit together, in a run.
     Clash {
         /// The tick of the clash.
         tick: u32,

@@ -302,7 +302,7 @@ pub fn run(plan_count: u32, words: &[u32], log: &[u32], ticks: u32, marks: &mut 
 ///
 /// Success gives the count of ticks, and writes the tallies and the cells of the window that the ticks reach. Refusals,
 /// none of which touches marks, values or tallies: 11, 13, 14, 15, those of the check (23, 21, 22 and 40), 31, 32, and
-/// 35 where one of the three is too short, however few the ticks. A plan that the check accepts has no clash.
+/// 35 where one of the three is too short, however few the ticks.
 ///
 /// ```
 /// use baarqidho::{TALLY_WORDS, WINDOW_TICKS};

@@ -146,8 +146,7 @@ impl Plan {
     ///
     /// # Errors
     ///
-    /// The refusal of [`long_run()`]: 11, 13, 14, 15, 21, 22, 23, 40, 31 or 32. A plan that the check accepts has no
-    /// clash.
+    /// The refusal of [`long_run()`]: 11, 13, 14, 15, 21, 22, 23, 40, 31 or 32.
     pub fn long_run(&self, log: &[u32], ticks: u32) -> Result<LongRun, Refusal> {
         // Nothing is lent to a run that is refused for its ticks or its count.
         let fits = ticks <= MAX_LONG_TICKS && self.flows() <= MAX_FLOWS;
