@@ -8,7 +8,7 @@ use Rattle.table.specs.declared.Answer.{Answer}
 use Rattle.table.specs.Answers.{Refusal, number, clash, shortTrace, Result, good, refused, then, success, answer, over, leaves}
 use Rattle.table.specs.Rows.{Row}
 use Rattle.table.specs.Plain.{tableOf, rowsIn as goodRows, plainAnswer}
-use Rattle.table.proofs.AnswerLaws.{no-zero, answer-zero, answer-other}
+use Rattle.table.proofs.AnswerLaws.{no-zero}
 use Rattle.semantics.specs.Cells.{Cell, value}
 use Rattle.semantics.specs.Runs.{Ticks, inputs, Ran, done, clashed, run, cells, trace}
 use Rattle.semantics.specs.Answers.{maxTicks, running, ranAnswer, markByte}
@@ -19,7 +19,7 @@ use Rattle.runner.specs.Private.Ready.{rowsIn, Plain}
 use Rattle.runner.specs.Private.Placed.{placed, TicksEnd, limits}
 use Rattle.runner.proofs.Placing.{placed-trace, placed-clash}
 use Rattle.runner.proofs.Running.{end-or-clash, same-clash}
-use Rattle.runner.proofs.Limiting.{limits-then, kept}
+use Rattle.runner.proofs.Limiting.{limits-then, not-kept, kept-all}
 
 -- what a clash is answered with
 abbrev pub clashAnswer : ℕ → ℕ → Answer
@@ -50,20 +50,21 @@ module _ (m : ℕ) (words log : List ℕ) (ticks : ℕ) (ms vs : List ℕ) (P : 
 
   pub turned-down : (r : Answer) → r ≡ answer (λ (u : Unit {0}). 0) limited → (r .number ≡ 0 → ⊥) → Called m words log ticks ms vs ms vs r
   turned-down r a z =
-      let x = answer-other (λ (u : Unit {0}). 0) limited (λ q. z (ap (λ (b : Answer). b .number) a ∙ q)) in
-      called m words log ticks ms vs ms vs r (refused (x .0) (x .1)) (tests ∙ ap (λ (y : Result (Unit {0})). then y (λ u. good (run (rowsIn m words) log ticks))) (x .2))
-      (a ∙ ap (answer (λ (u : Unit {0}). 0)) (x .2)) refl refl
+      let x =
+      not-kept ticks maxTicks (length log) (inputs (rowsIn m words)) (ticks * m) shortTrace (length ms) (length vs) (running m words log ticks (length ms) (length vs))
+      (good (run (rowsIn m words) log ticks)) tests r a z in
+      called m words log ticks ms vs ms vs r (refused (x .0) (x .1)) (x .2) (x .3) refl refl
 
   -- behind limits that are kept
   module _ (r : Answer) (a : r ≡ answer (λ (u : Unit {0}). 0) limited) (z : r .number ≡ 0) where
-    passed : (u : Unit {0}) × (limited ≡ good u)
-    passed = answer-zero (λ (u : Unit {0}). 0) limited (ap (λ (b : Answer). b .number) (sym a) ∙ z)
-
-    pub within : (ticks ≤ maxTicks) × (length log ≡ ticks * inputs (rowsIn m words)) × (ticks * m ≤ length ms) × (ticks * m ≤ length vs)
-    within = kept ticks maxTicks (length log) (inputs (rowsIn m words)) (ticks * m) shortTrace (length ms) (length vs) (passed .0) (passed .1)
+    pub within : (running m words log ticks (length ms) (length vs) ≡ good (run (rowsIn m words) log ticks)) × (ticks ≤ maxTicks)
+        × (length log ≡ ticks * inputs (rowsIn m words)) × (ticks * m ≤ length ms) × (ticks * m ≤ length vs)
+    within =
+        kept-all ticks maxTicks (length log) (inputs (rowsIn m words)) (ticks * m) shortTrace (length ms) (length vs) (running m words log ticks (length ms) (length vs))
+        (good (run (rowsIn m words) log ticks)) tests r a z
 
     ran : (x : Ran) → run (rowsIn m words) log ticks ≡ x → running m words log ticks (length ms) (length vs) ≡ good x
-    ran x e = tests ∙ ap (λ (y : Result (Unit {0})). then y (λ u. good (run (rowsIn m words) log ticks))) (passed .1) ∙ ap good e
+    ran x e = within .0 ∙ ap good e
 
     module _ (room : ℕ) (w : ticks ≤ room) (s ms′ vs′ : List ℕ) (end : Reached)
         (D : TicksEnd m room ticks (rowsIn m words) log (run (rowsIn m words) log ticks) ms vs s ms′ vs′ end) where

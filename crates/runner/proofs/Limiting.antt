@@ -5,7 +5,8 @@ use mathlib.Core.Bool.{Bool, true, false, _&&_}
 use lib.Dec.{leb, eqb}
 use borrow.Author.Tests.{leb-true, eqb-true, le-leb, lt-leb, eq-eqb, ne-eqb}
 use Rattle.table.specs.declared.Answer.{Answer}
-use Rattle.table.specs.Answers.{Refusal, number, tooManyTicks, wrongLog, Result, good, unless, then, numbered, refusal, success, answer}
+use Rattle.table.specs.Answers.{Refusal, number, tooManyTicks, wrongLog, Result, good, refused, unless, then, numbered, refusal, success, answer}
+use Rattle.table.proofs.AnswerLaws.{answer-zero, answer-other}
 use Rattle.table.proofs.Tests.{and-left, and-right, unless-good}
 use Rattle.runner.specs.Private.Placed.{limits}
 
@@ -30,7 +31,7 @@ module _ (ticks most logged inputs cells : ℕ) (short : Refusal) (marks values 
       go false b c = refl
 
   -- limits that are kept
-  pub kept : (u : Unit {0}) → limits ticks most logged inputs cells short marks values ≡ good u
+  kept : (u : Unit {0}) → limits ticks most logged inputs cells short marks values ≡ good u
       → (ticks ≤ most) × (logged ≡ ticks * inputs) × (cells ≤ marks) × (cells ≤ values)
   kept u e =
       let few = unless-good (leb ticks most) tooManyTicks 0 _ u e in
@@ -45,6 +46,23 @@ module _ (ticks most logged inputs cells : ℕ) (short : Refusal) (marks values 
   -- what the tests answer
   abbrev pub Tested : Answer → Type 0
   Tested r = r ≡ answer (λ (u : Unit {0}). 0) (limits ticks most logged inputs cells short marks values)
+
+  -- what the answer tells of a run behind the limits: its refusal, or that the limits are kept
+  module _ {A : Type 0} (whole x : Result A) (tests : whole ≡ then (limits ticks most logged inputs cells short marks values) (λ u. x)) (r : Answer) (a : Tested r) where
+    pub not-kept : (r .number ≡ 0 → ⊥) → (why : Refusal) × (f : ℕ) × (whole ≡ refused why f) × (r ≡ refusal why f)
+    not-kept z =
+        let y = answer-other (λ (u : Unit {0}). 0) (limits ticks most logged inputs cells short marks values) (λ q. z (ap (λ (b : Answer). b .number) a ∙ q)) in (
+          y .0,
+          y .1,
+          tests ∙ ap (λ (v : Result (Unit {0})). then v (λ u. x)) (y .2),
+          a ∙ ap (answer (λ (u : Unit {0}). 0)) (y .2),
+        )
+
+    pub kept-all : r .number ≡ 0 → (whole ≡ x) × (ticks ≤ most) × (logged ≡ ticks * inputs) × (cells ≤ marks) × (cells ≤ values)
+    kept-all z =
+        let y = answer-zero (λ (u : Unit {0}). 0) (limits ticks most logged inputs cells short marks values) (ap (λ (b : Answer). b .number) (sym a) ∙ z) in
+        let k = kept (y .0) (y .1) in
+        (tests ∙ ap (λ (v : Result (Unit {0})). then v (λ u. x)) (y .1), k .0, k .1, k .2, k .3)
 
   pub too-many : (r : Answer) → r ≡ refusal tooManyTicks 0 → most < ticks → Tested r
   too-many r a l = rw (lt-leb ticks most l) a

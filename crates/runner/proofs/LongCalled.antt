@@ -1,6 +1,6 @@
 -- What a long run promises, refusal by refusal. Assumes nothing.
 use mathlib.Core.Path.{_≡_, refl, sym, _∙_, ap, subst}
-use mathlib.Core.Bool.{true, _&&_}
+use mathlib.Core.Bool.{Bool, true, _&&_}
 use Prim.Native.Nat.{ℕ, _*_, _≤_, _<_}
 use native.Mathlib.Omega.{arith}
 use mathlib.Core.List.{List, []}
@@ -11,7 +11,6 @@ use Rattle.table.specs.declared.Answer.{Answer}
 use Rattle.table.specs.Answers.{Refusal, tooManyTicks, wrongLog, shortWindow, Result, good, refused, unless, then, success, refusal, answer}
 use Rattle.table.specs.Rows.{Row, maxFlows}
 use Rattle.table.specs.Plain.{tableOf, rowsIn as goodRows}
-use Rattle.table.proofs.AnswerLaws.{answer-zero, answer-other}
 use Rattle.table.proofs.Tables.{rows-good, table-made}
 use Rattle.checker.specs.Rules.{clocksOf}
 use Rattle.checker.specs.Answers.{clockSize, clocksFor, checkAnswer}
@@ -23,7 +22,7 @@ use Rattle.calendar.proofs.Unclashed.{unclashed, lag}
 use Rattle.runner.specs.Long.{windowTicks, maxLongTicks, longRows, LongRan, LongLeft, LongCalled}
 use Rattle.runner.specs.Private.Ready.{rowsIn, Plain, Clocked}
 use Rattle.runner.specs.Private.Placed.{Nearby, Unclashed, limits}
-use Rattle.runner.proofs.Limiting.{unless-both, limits-then, kept}
+use Rattle.runner.proofs.Limiting.{unless-both, limits-then, not-kept, kept-all}
 
 -- what a call leaves, by the rows that its run takes
 called : (m : ℕ) (words log : List ℕ) (ticks : ℕ) (ms vs ts ms′ vs′ ts′ : List ℕ) (r : Answer) (x : Result (List Row))
@@ -72,29 +71,27 @@ module _ (m : ℕ) (words log : List ℕ) (ticks : ℕ) (ms vs ts : List ℕ) (P
 
   pub turned-down : (r : Answer) → r ≡ answer (λ (u : Unit {0}). 0) limited → (r .number ≡ 0 → ⊥) → LongCalled m words log ticks ms vs ts ms vs ts r
   turned-down r a z =
-      let x = answer-other (λ (u : Unit {0}). 0) limited (λ q. z (ap (λ (b : Answer). b .number) a ∙ q)) in
-      called m words log ticks ms vs ts ms vs ts r (refused (x .0) (x .1)) (tests ∙ ap (λ (y : Result (Unit {0})). then y (λ u. wide)) (x .2))
-      (a ∙ ap (answer (λ (u : Unit {0}). 0)) (x .2)) (refl, refl, refl)
+      let x =
+      not-kept ticks maxLongTicks (length log) (inputs (rowsIn m words)) (windowTicks * m) shortWindow (length ms) (length vs)
+      (longRows m words log ticks (length ms) (length vs) (length ts)) wide tests r a z in
+      called m words log ticks ms vs ts ms vs ts r (refused (x .0) (x .1)) (x .2) (x .3) (refl, refl, refl)
 
   -- behind limits that are kept
   module _ (r : Answer) (a : r ≡ answer (λ (u : Unit {0}). 0) limited) (z : r .number ≡ 0) where
-    passed : (u : Unit {0}) × (limited ≡ good u)
-    passed = answer-zero (λ (u : Unit {0}). 0) limited (ap (λ (b : Answer). b .number) (sym a) ∙ z)
-
-    pub within : (ticks ≤ maxLongTicks) × (length log ≡ ticks * inputs (rowsIn m words)) × (windowTicks * m ≤ length ms) × (windowTicks * m ≤ length vs)
-    within = kept ticks maxLongTicks (length log) (inputs (rowsIn m words)) (windowTicks * m) shortWindow (length ms) (length vs) (passed .0) (passed .1)
-
-    behind : longRows m words log ticks (length ms) (length vs) (length ts) ≡ wide
-    behind = tests ∙ ap (λ (y : Result (Unit {0})). then y (λ u. wide)) (passed .1)
+    pub within : (longRows m words log ticks (length ms) (length vs) (length ts) ≡ wide) × (ticks ≤ maxLongTicks)
+        × (length log ≡ ticks * inputs (rowsIn m words)) × (windowTicks * m ≤ length ms) × (windowTicks * m ≤ length vs)
+    within =
+        kept-all ticks maxLongTicks (length log) (inputs (rowsIn m words)) (windowTicks * m) shortWindow (length ms) (length vs)
+        (longRows m words log ticks (length ms) (length vs) (length ts)) wide tests r a z
 
     pub short-tallies : (q : Answer) → q ≡ refusal shortWindow 0 → length ts < tallySize * m → LongCalled m words log ticks ms vs ts ms vs ts q
     short-tallies q e l =
-        called m words log ticks ms vs ts ms vs ts q (refused shortWindow 0) (behind ∙ rw (lt-leb (tallySize * m) (length ts) l)) e (refl, refl, refl)
+        called m words log ticks ms vs ts ms vs ts q (refused shortWindow 0) (within .0 ∙ rw (lt-leb (tallySize * m) (length ts) l)) e (refl, refl, refl)
 
     pub ran : (ts₁ ms′ vs′ ts′ : List ℕ) → tallySize * m ≤ length ts → Tallied m [] ts ts₁ → LongRan m log ticks (rowsIn m words) ms vs ts₁ ms′ vs′ ts′
         → LongCalled m words log ticks ms vs ts ms′ vs′ ts′ (success ticks)
     ran ts₁ ms′ vs′ ts′ l A L =
-        called m words log ticks ms vs ts ms′ vs′ ts′ (success ticks) (good (rowsIn m words)) (behind ∙ rw (le-leb (tallySize * m) (length ts) l)) refl
+        called m words log ticks ms vs ts ms′ vs′ ts′ (success ticks) (good (rowsIn m words)) (within .0 ∙ rw (le-leb (tallySize * m) (length ts) l)) refl
         (record { past = L .past; ran = L .ran; marks = L .marks; values = L .values; tallies = tallied-from m (L .past) ts ts₁ ts′ A (L .tallies) })
 
 -- what the check's answer tells
@@ -104,15 +101,22 @@ accepted m words room r e z =
     let x = accepted-rows m words room (ap (λ (a : Answer). a .number) (sym e) ∙ z) in
     (rows-good true m words (x .0) (x .2), (x .1, ap (λ (y : Result (List Row)). clocksOf (goodRows y)) (x .2) ∙ x .3))
 
+-- what follows on table and check
+module _ (m : ℕ) (log : List ℕ) (ticks a b c : ℕ) where
+  abbrev pub roomy : Bool
+  roomy = leb (windowTicks * m) a && leb (windowTicks * m) b && leb (tallySize * m) c
+
+  abbrev pub logged : List Row → Result (List Row)
+  logged rows = unless (eqb (length log) (ticks * inputs rows)) wrongLog 0 (unless roomy shortWindow 0 (good rows))
+
+  abbrev pub behind : List Row → Result (List Row)
+  behind rows = unless (leb ticks maxLongTicks) tooManyTicks 0 (logged rows)
+
 -- the check's refusal is the long run's
 down-by : (m : ℕ) (words log : List ℕ) (ticks a b c : ℕ) (why : Refusal) (f : ℕ) → clocksFor m words ≡ refused why f → longRows m words log ticks a b c ≡ refused why f
 unfolding longRows
 down-by m words log ticks a b c why f =
-    go (tableOf m words)
-    (λ rows.
-    unless (leb ticks maxLongTicks) tooManyTicks 0
-    (unless (eqb (length log) (ticks * inputs rows)) wrongLog 0
-    (unless (leb (windowTicks * m) a && leb (windowTicks * m) b && leb (tallySize * m) c) shortWindow 0 (good rows))))
+    go (tableOf m words) (behind m log ticks a b c)
   where
     go : (y : Result (List Row)) (x : List Row → Result (List Row)) → then y clocksOf ≡ refused why f
         → (then y λ rows. then (clocksOf rows) λ clocks. x rows) ≡ refused why f

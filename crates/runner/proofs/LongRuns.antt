@@ -2,7 +2,6 @@
 use mathlib.Core.Path.{_≡_, refl, sym, _∙_, ap, subst}
 use Prim.Native.Nat.{ℕ, _*_}
 use native.Mathlib.Omega.{arith}
-use mathlib.Core.Bool.{Bool, _&&_}
 use mathlib.Core.List.{List}
 use lib.ListN.{length}
 use lib.Dec.{leb, eqb}
@@ -15,12 +14,13 @@ use Rattle.checker.proofs.Causes.{OtherCause, unless-other, then-other, is-good
 use Rattle.semantics.specs.Runs.{Ticks, inputs, done, run}
 use Rattle.semantics.specs.Cells.{value}
 use Rattle.semantics.specs.Answers.{markByte}
-use Rattle.semantics.specs.Windows.{Windowed, tallySize, Tallied}
+use Rattle.semantics.specs.Windows.{Windowed, Tallied}
 use Rattle.semantics.proofs.Windows.{windows-same, tallies-same}
 use Rattle.calendar.specs.Calendar.{Accepts}
 use Rattle.calendar.proofs.Unclashed.{unclashed}
 use Rattle.runner.specs.Long.{windowTicks, maxLongTicks, longRows, longAnswer, LongLeft}
 use Rattle.runner.specs.LongRuns.{LongRuns}
+use Rattle.runner.proofs.LongCalled.{roomy, logged, behind}
 
 -- a table that the check accepts runs to its end
 ends : (m : ℕ) (words clocks : List ℕ) → Accepts m words clocks → (log : List ℕ) (ticks : ℕ)
@@ -32,26 +32,17 @@ ends m words clocks a log ticks =
 
 -- a long run is refused for other causes
 module _ (m : ℕ) (words log : List ℕ) (ticks a b c : ℕ) where
-  abbrev room : Bool
-  room = leb (windowTicks * m) a && leb (windowTicks * m) b && leb (tallySize * m) c
-
-  abbrev logged : List Row → Result (List Row)
-  logged rows = unless (eqb (length log) (ticks * inputs rows)) wrongLog 0 (unless room shortWindow 0 (good rows))
-
-  abbrev limited : List Row → Result (List Row)
-  limited rows = unless (leb ticks maxLongTicks) tooManyTicks 0 (logged rows)
-
-  limited-other : (rows : List Row) → OtherCause (limited rows)
-  limited-other rows =
-      unless-other (leb ticks maxLongTicks) tooManyTicks 0 (logged rows) (λ e. omega arith)
-      (unless-other (eqb (length log) (ticks * inputs rows)) wrongLog 0 (unless room shortWindow 0 (good rows)) (λ e. omega arith)
-      (unless-other room shortWindow 0 (good rows) (λ e. omega arith) (is-good rows)))
+  behind-other : (rows : List Row) → OtherCause (behind m log ticks a b c rows)
+  behind-other rows =
+      unless-other (leb ticks maxLongTicks) tooManyTicks 0 (logged m log ticks a b c rows) (λ e. omega arith)
+      (unless-other (eqb (length log) (ticks * inputs rows)) wrongLog 0 (unless (roomy m log ticks a b c) shortWindow 0 (good rows)) (λ e. omega arith)
+      (unless-other (roomy m log ticks a b c) shortWindow 0 (good rows) (λ e. omega arith) (is-good rows)))
 
   long-other : OtherCause (longRows m words log ticks a b c)
   unfolding longRows
   long-other =
-      then-other (tableOf m words) (λ rows. then (clocksOf rows) λ clocks. limited rows) (table-other m words)
-      (λ rows. then-other (clocksOf rows) (λ clocks. limited rows) (clocks-other rows) (λ clocks. limited-other rows))
+      then-other (tableOf m words) (λ rows. then (clocksOf rows) λ clocks. behind m log ticks a b c rows) (table-other m words)
+      (λ rows. then-other (clocksOf rows) (λ clocks. behind m log ticks a b c rows) (clocks-other rows) (λ clocks. behind-other rows))
 
   never : longAnswer m words log ticks a b c .number ≡ number clash → ⊥
   never z = go (longRows m words log ticks a b c) refl z

@@ -96,13 +96,13 @@ run-ticks-requires c κs =
     let a = start .args in
     let W = within (a .n) (a .words .now) (a .log .now) (a .ticks) (a .marks .now) (a .values .now) (start .pre) _ (limited after-limits) (else1 .if1 .left) in (
       start .pre,
-      whole-fits (2 ^ 32) (a .n) (a .ticks) (length (a .marks .now)) (omega arith) (W .2),
-      whole-fits (2 ^ 32) (a .n) (a .ticks) (length (a .values .now)) (omega arith) (W .3),
+      whole-fits (2 ^ 32) (a .n) (a .ticks) (length (a .marks .now)) (omega arith) (W .3),
+      whole-fits (2 ^ 32) (a .n) (a .ticks) (length (a .values .now)) (omega arith) (W .4),
       omega (arith, after-start .start .kept .1 .1 .0),
       after-listed .listed .ensures,
       after-listed2 .listed2 .ensures,
       omega arith,
-      omega (arith, W .0),
+      omega (arith, W .1),
       after-start .start .ensures .0,
       record { width = 32; is = refl },
       omega arith,

@@ -126,12 +126,12 @@ long-ticks-requires c κs =
     let z = clear .kept .1 .0 in
     let W = within (a .n) (a .words .now) (a .log .now) (a .ticks) (a .marks .now) (a .values .now) (a .tallies .now) (pre .0) (pre .1) _ (limited after-limits) (else1 .if1 .left) in (
       pre .0,
-      W .2,
       W .3,
+      W .4,
       omega (arith, after-start .start .kept .1 .1 .0),
       after-listed .listed .ensures,
       after-listed2 .listed2 .ensures,
-      omega (arith, W .0),
+      omega (arith, W .1),
       after-start .start .ensures .0,
       after-start .start .ensures .1,
       omega (arith, z, else2 .if2 .left),
