@@ -7,13 +7,14 @@ use mathlib.Core.List.{List, [], _∷_, append-nil}
 use mathlib.Core.Option.{none}
 use lib.ListN.{length}
 use Rattle.table.specs.Rows.{Row, onRegister, badRegister}
+use Rattle.table.proofs.Tests.{beq-same}
 use Rattle.table.proofs.Lists.{Each, each-map, each-both}
 use Rattle.table.proofs.Registers.{RegisterOr, is-register, is-other, register-or, Passes, none-bad}
 use Rattle.table.specs.Tables.{Fits}
 use Rattle.table.proofs.Tables.{AllFit}
 use Rattle.checker.specs.Clocks.{Clock}
 use Rattle.checker.specs.Rules.{clockAt, sourceFits}
-use Rattle.checker.proofs.ClockLaws.{beq-same, same-clock}
+use Rattle.checker.proofs.ClockLaws.{same-clock}
 use Rattle.checker.proofs.CheckLaws.{Clocked, all-sane}
 use Rattle.semantics.specs.Runs.{Tick, Ticks, filled, flowsFrom, sourceMeets, tickOf, done, run, Regular as Wide}
 use Rattle.calendar.proofs.Dues.{due}

@@ -11,13 +11,14 @@ use lib.Dec.{eqb}
 use borrow.Author.Tests.{eqb-false}
 use Rattle.table.specs.Answers.{Refusal, Result, good, refused, unless, clocksDiffer, beyondLimits, notPlain}
 use Rattle.table.specs.Rows.{Row, input, constant, combine, register, faster, slower, later, head, tail, sample, merge, unrated, view, onRegister}
+use Rattle.table.proofs.Tests.{beq-true}
 use Rattle.table.proofs.Lists.{Each, each-front, each-at}
 use Rattle.table.proofs.Registers.{RegisterOr, is-register, is-other, register-or, Passes, Registers, all-pass, registers}
 use Rattle.table.specs.Tables.{Fits}
 use Rattle.table.proofs.Tables.{AllFit}
 use Rattle.checker.specs.Clocks.{Clock, every, sameClock}
 use Rattle.checker.specs.Rules.{maxDerived, withinLimits, limited, clockOf, clockAt, sourceFits, clocksOf}
-use Rattle.checker.proofs.ClockLaws.{beq-true, plain-differ}
+use Rattle.checker.proofs.ClockLaws.{plain-differ}
 use Rattle.checker.proofs.CheckLaws.{Clocked, Sane, AllSane, all-sane, Checked, fine, bad-row, bad-source, checked}
 use Rattle.semantics.specs.Cells.{mark, onGrid}
 use Rattle.semantics.specs.Operators.{clashes}

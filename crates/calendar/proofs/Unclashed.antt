@@ -52,7 +52,7 @@ module _ (m : ℕ) (words : List ℕ) (rows : List Row) (ks : List Clock) (q : t
       low = omega (arith, table-made m words rows q .size)
 
       at-row : (P : ℕ → Row → Type 0) → Each P 0 rows → P f (view u a c w)
-      at-row P h = subst (P f) v (subst (λ (i : ℕ). P i (rowAt rows f)) (omega arith) (each-get P 0 rows (tail 0) f low h))
+      at-row P h = subst (P f) v (each-get P rows (tail 0) f low h)
 
       fits : Fits (length rows) f (view u a c w)
       fits = at-row (Fits (length rows)) (rows-fit m words rows q)

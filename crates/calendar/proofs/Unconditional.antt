@@ -68,7 +68,7 @@ pub free-rows : (m : ℕ) (words : List ℕ) (rows : List Row) → tableOf m wor
 free-rows m words rows e u = go (table-made m words rows e)
   where
     go : Table m words rows → AllFree 0 rows
-    go t = each-of (λ (g : ℕ). FreeRow) 0 rows (tail 0) (λ f l. at f (rw (t .size) at l))
+    go t = each-of (λ (g : ℕ). FreeRow) rows (tail 0) (λ f l. at f (rw (t .size) at l))
       where
         at : (f : ℕ) → f < m → FreeRow (rowAt rows f)
         at f l =

@@ -10,7 +10,7 @@ use borrow.Author.Tests.{eqb-true, eq-eqb, leb-false, le-leb}
 use Rattle.table.specs.Answers.{Refusal, Result, good, refused, unless, number, beyondLimits, notPlain, badView}
 use Rattle.table.specs.Bits.{bit}
 use Rattle.table.specs.Rows.{maxFlows, maxField}
-use Rattle.table.proofs.Tests.{and-left, and-right, and-both, same-test}
+use Rattle.table.proofs.Tests.{and-left, and-right, and-both, same-test, beq-same}
 use Rattle.checker.specs.Clocks.{Condition, Clock, every, isEmpty, plain, sameConditions, sameClock, under}
 use Rattle.checker.specs.Rules.{withinLimits, limited, maxDerived, viewFits, multiple, Below, FirstViewed, Within}
 use Rattle.checker.specs.Answers.{conditionWord}
@@ -18,7 +18,7 @@ use Rattle.checker.specs.declared.Clock.{Clock as Kept}
 use Rattle.checker.specs.declared.Verdict.{Verdict}
 use Rattle.checker.specs.declared.Verdict.the-variants.{Is, Refused}
 use Rattle.checker.specs.Private.Kept as Kept
-use Rattle.checker.proofs.ClockLaws.{beq-same, same-conditions, plain-empty}
+use Rattle.checker.proofs.ClockLaws.{same-conditions, plain-empty}
 use Rattle.checker.proofs.RuleLaws.{limits}
 use Rattle.checker.proofs.CheckLaws.{every-snoc}
 

@@ -132,9 +132,13 @@ clocks-ruled m rows ks w e = go (clocksOf rows) (checked m rows w) e
     go r (bad-row js why g front r′ back y k z) e = not-good e
     go r (bad-source js g front r′ back k y z) e = not-good e
 
+-- what follows for each condition follows for every one
+pub every-map : (P Q : Condition → Type 0) (cs : List Condition) → ((c : Condition) → P c → Q c) → Every P cs → Every Q cs
+every-map P Q [] h b = tt
+every-map P Q (c ∷ cs) h b = (h c (b .0), every-map P Q cs h (b .1))
+
 pub below-le : (f g : ℕ) (cs : List Condition) → f ≤ g → Below f cs → Below g cs
-below-le f g [] l b = tt
-below-le f g (c ∷ cs) l b = (omega (arith, b .0), below-le f g cs l (b .1))
+below-le f g cs l = every-map (λ (c : Condition). c .flow < f) (λ (c : Condition). c .flow < g) cs (λ (c : Condition) (x : c .flow < f). omega arith)
 
 -- a condition more that has the property too
 pub every-snoc : (P : Condition → Type 0) (cs : List Condition) (c : Condition) → Every P cs → P c → Every P (cs ++ (c ∷ []))

@@ -4,18 +4,8 @@ use mathlib.Core.Bool.{Bool, true, false, _&&_, Bool·beq, false≢true}
 use mathlib.Core.List.{List, [], _∷_}
 use lib.Dec.{eqb}
 use borrow.Author.Tests.{eqb-true, eq-eqb}
-use Rattle.table.proofs.Tests.{and-left, and-right, and-both}
+use Rattle.table.proofs.Tests.{and-left, and-right, and-both, beq-true, beq-same}
 use Rattle.checker.specs.Clocks.{Condition, Clock, isEmpty, plain, sameConditions, sameClock}
-
-pub beq-true : (a b : Bool) → Bool·beq a b ≡ true → a ≡ b
-beq-true true true e = refl
-beq-true true false e = absurd (false≢true e)
-beq-true false true e = absurd (false≢true e)
-beq-true false false e = refl
-
-pub beq-same : (a b : Bool) → a ≡ b → Bool·beq a b ≡ true
-beq-same true b e = rw (← e)
-beq-same false b e = rw (← e)
 
 condition-path : {c d : Condition} → c .flow ≡ d .flow → c .truth ≡ d .truth → c .view ≡ d .view → c ≡ d
 condition-path p q r = λ i. record { flow = p i; truth = q i; view = r i }

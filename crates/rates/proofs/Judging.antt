@@ -124,7 +124,7 @@ module _ (m : ℕ) (words : List ℕ) (rates : ℕ → Rate) where
       is f l = at-words f l .row
 
       at : (P : ℕ → Row → Type 0) (f : ℕ) → f < m → Each P 0 rows → P f (rowMade (filledRow (rates f) (rowWords words f)))
-      at P f l h = subst (P f) (sym (is f l)) (subst (λ (i : ℕ). P i (rowAt rows f)) (omega arith) (each-get P 0 rows (tail 0) f (omega (arith, t .size)) h))
+      at P f l h = subst (P f) (sym (is f l)) (each-get P rows (tail 0) f (omega (arith, t .size)) h)
 
   pub judged : Accepted m words rates → Judged m words rates
   judged a =

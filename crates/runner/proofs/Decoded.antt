@@ -7,20 +7,10 @@ use mathlib.Core.Logic.{_⊎_, inl, inr}
 use lib.Dec.{eqb}
 use borrow.Author.Tests.{eqb-true, eq-eqb, ne-eqb, leb-true}
 use Rattle.table.specs.Rows.{Row, Op, input, constant, combine, register, faster, slower, later, head, tail, sample, merge, unrated, view, kinds, kindCount, decode}
-use Rattle.table.proofs.Tests.{Tried, passed, failed, try}
+use Rattle.table.proofs.Tests.{Tried, passed, failed, try, beq-true}
 use Rattle.table.proofs.Entries.{every, kind-test}
-use Rattle.checker.proofs.ClockLaws.{beq-true}
-use Rattle.semantics.specs.Runs.{isInput}
 use Rattle.runner.specs.Private.Carried.{Combines, startWord}
 use Rattle.runner.specs.Private.Ready.{oneOf, isRegister, looksBack}
-
--- inputs are of kind 0 alone
-inputs-told : (x y z : ℕ) → every (λ n k. Bool·beq (isInput (k .make x y z)) (eqb n 0)) 0 kinds ≡ true
-unfolding kinds
-inputs-told x y z = refl
-
-pub is-input : (n x y z : ℕ) → n < kindCount → isInput (decode n x y z) ≡ eqb n 0
-is-input n x y z l = beq-true (isInput (decode n x y z)) (eqb n 0) (kind-test (λ n k. Bool·beq (isInput (k .make x y z)) (eqb n 0)) (inputs-told x y z) n l)
 
 -- rows of other kinds than 0, 1 and 7 carry nothing into tick 0
 starts-told : (x y z : ℕ) → every (λ n k. eqb n 0 || (eqb n 1 || (eqb n 7 || eqb (startWord (k .make x y z)) 0))) 0 kinds ≡ true

@@ -12,6 +12,7 @@ use Rattle.table.proofs.Tables.{Made, fields-fit, fit-more, row-fits, Table, ta
 use Rattle.table.proofs.Registers.{register-by}
 use Rattle.semantics.specs.Cells.{History}
 use Rattle.semantics.specs.Runs.{isInput}
+use Rattle.semantics.proofs.Inputs.{input-kind}
 use Rattle.runner.specs.Private.Carried.{Held}
 use Rattle.runner.specs.Private.Ready.{rowsIn, Plain, Collected, looksBack}
 use Rattle.runner.proofs.Decoded as decoded
@@ -60,5 +61,5 @@ module _ (m : ℕ) (words : List ℕ) (rows : List Row) (T : Table m words rows)
               of-later = λ a b e p. absurd (decoded.no-later (w .kind) (w .one) (w .two) (w .three) a b (d .known) n (d .row ∙ e));
               of-view = λ u a c x e. absurd (decoded.no-view (w .kind) (w .one) (w .two) (w .three) u a c x (d .known) n (d .row ∙ e));
             };
-        is-input = ap isInput (sym (d .row)) ∙ decoded.is-input (w .kind) (w .one) (w .two) (w .three) (d .known);
+        is-input = ap isInput (sym (d .row)) ∙ input-kind (w .kind) (w .one) (w .two) (w .three) (d .known);
       }

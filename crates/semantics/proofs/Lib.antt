@@ -1,3 +1,4 @@
+pub mod Inputs
 pub mod Traces
 pub mod Tallies
 pub mod TwosComplement

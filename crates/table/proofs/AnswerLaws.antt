@@ -1,11 +1,11 @@
 -- What an answer's number says of the work behind it. Assumes nothing.
 use mathlib.Core.Path.{_≡_, refl, sym, _∙_, ap}
-use Prim.Native.Nat.{ℕ, suc, _<_}
+use Prim.Native.Nat.{ℕ, suc, _+_, _-_, _≤_, _<_}
 use native.Mathlib.Numerals.{add-one}
 use native.Mathlib.Omega.{arith}
 use mathlib.Core.List.{List, [], _∷_, _++_}
 use lib.ListN.{length, getD, set, drop, length-append}
-use lib.Seq.{drop-cons, set-at, append-snoc}
+use lib.Seq.{drop-cons, drop-at, set-at, append-snoc, getD-append-add, getD-drop}
 use Rattle.table.specs.Answers.{Refusal, noRoom, badCount, cutShort, unknownKind, outOfRange, misplaced, badFilling, clocksDiffer}
 use Rattle.table.specs.Answers.{beyondLimits, notPlain, tooManyTicks, wrongLog, shortTrace, clash, shortWindow, wrongTimes, shortPage, notDiffering, unjoined, badView}
 use Rattle.table.specs.Answers.{hasConditions, wrongLength, offCalendar}
@@ -60,6 +60,17 @@ set-over xs ys f a e h =
     ∙ set-at xs (getD ys (length xs) 0) (drop (suc (length xs)) ys) a f e
     ∙ sym (append-snoc xs a (drop (suc (length xs)) ys))
     ∙ ap (λ (k : ℕ). xs ++ (a ∷ []) ++ drop k ys) (sym (add-one (length xs)) ∙ sym (length-append xs (a ∷ [])))
+
+-- the cells behind them are left
+pub over-behind : (xs old : List ℕ) (i : ℕ) → length xs ≤ i → getD (over xs old) i 0 ≡ getD old i 0
+over-behind xs old i l =
+    let e : i ≡ length xs + (i - length xs) = omega arith in
+    ap (λ (j : ℕ). getD (over xs old) j 0) e ∙ getD-append-add xs (drop (length xs) old) (i - length xs) 0
+    ∙ getD-drop (length xs) old (i - length xs) 0 ∙ ap (λ (j : ℕ). getD old j 0) (sym e)
+
+-- as many cells once more over the same
+pub over-again : (xs ys old : List ℕ) → length xs ≡ length ys → over xs (over ys old) ≡ over xs old
+over-again xs ys old e = ap (λ (l : List ℕ). xs ++ l) (drop-at ys (drop (length ys) old) (length xs) (sym e) ∙ ap (λ (i : ℕ). drop i old) (sym e))
 
 -- 21 is the number of one cause
 pub is-differing : (why : Refusal) → number why ≡ number clocksDiffer → why ≡ clocksDiffer

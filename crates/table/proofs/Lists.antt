@@ -1,7 +1,8 @@
 -- A property of each entry of a list, by the entry's number. Assumes nothing.
-use mathlib.Core.Path.{_≡_, subst}
+use mathlib.Core.Path.{_≡_, sym, subst}
 use Prim.Native.Nat.{ℕ, zero, suc, _+_, _<_}
 use native.Mathlib.Decide.{decLt}
+use native.Mathlib.Nat.{zero-add}
 use native.Mathlib.Omega.{arith}
 use mathlib.Core.List.{List, [], _∷_, _++_}
 use mathlib.Core.Option.{some}
@@ -43,15 +44,21 @@ module _ {A : Type 0} where
   each-both P Q i [] h k = tt
   each-both P Q i (a ∷ l) h k = ((h .0, k .0), each-both P Q (suc i) l (h .1) (k .1))
 
-  pub each-of : (P : ℕ → A → Type 0) (i : ℕ) (l : List A) (d : A) → ((j : ℕ) → j < length l → P (i + j) (getD l j d)) → Each P i l
-  each-of P i [] d h = tt
-  each-of P i (a ∷ l) d h = (
+  of-from : (P : ℕ → A → Type 0) (i : ℕ) (l : List A) (d : A) → ((j : ℕ) → j < length l → P (i + j) (getD l j d)) → Each P i l
+  of-from P i [] d h = tt
+  of-from P i (a ∷ l) d h = (
     subst (λ (j : ℕ). P j a) (omega arith) (h 0 (omega arith)),
-    each-of P (suc i) l d (λ j x. subst (λ (n : ℕ). P n (getD l j d)) (omega arith) (h (suc j) (omega arith))),
+    of-from P (suc i) l d (λ j x. subst (λ (n : ℕ). P n (getD l j d)) (omega arith) (h (suc j) (omega arith))),
   )
 
-  -- and back
-  pub each-get : (P : ℕ → A → Type 0) (i : ℕ) (l : List A) (d : A) (j : ℕ) → j < length l → Each P i l → P (i + j) (getD l j d)
-  each-get P i [] d j x h = absurd (omega arith)
-  each-get P i (a ∷ l) d zero x h = subst (λ (n : ℕ). P n a) (omega arith) (h .0)
-  each-get P i (a ∷ l) d (suc j) x h = subst (λ (n : ℕ). P n (getD l j d)) (omega arith) (each-get P (suc i) l d j (omega arith) (h .1))
+  get-from : (P : ℕ → A → Type 0) (i : ℕ) (l : List A) (d : A) (j : ℕ) → j < length l → Each P i l → P (i + j) (getD l j d)
+  get-from P i [] d j x h = absurd (omega arith)
+  get-from P i (a ∷ l) d zero x h = subst (λ (n : ℕ). P n a) (omega arith) (h .0)
+  get-from P i (a ∷ l) d (suc j) x h = subst (λ (n : ℕ). P n (getD l j d)) (omega arith) (get-from P (suc i) l d j (omega arith) (h .1))
+
+  -- each entry of a whole list, and back
+  pub each-of : (P : ℕ → A → Type 0) (l : List A) (d : A) → ((j : ℕ) → j < length l → P j (getD l j d)) → Each P 0 l
+  each-of P l d h = of-from P 0 l d (λ j x. subst (λ (n : ℕ). P n (getD l j d)) (sym (zero-add j)) (h j x))
+
+  pub each-get : (P : ℕ → A → Type 0) (l : List A) (d : A) (j : ℕ) → j < length l → Each P 0 l → P j (getD l j d)
+  each-get P l d j x h = subst (λ (n : ℕ). P n (getD l j d)) (zero-add j) (get-from P 0 l d j x h)

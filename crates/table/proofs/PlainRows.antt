@@ -2,14 +2,16 @@
 use mathlib.Core.Path.{_≡_, refl, sym, _∙_, ap, ap₂}
 use Prim.Native.Nat.{ℕ, zero, suc, _+_, _*_, _≤_, _<_}
 use native.Mathlib.Decide.{decLt}
+use native.Mathlib.Numerals.{add-one}
 use native.Mathlib.Omega.{arith}
 use mathlib.Core.List.{List, [], _∷_, _++_, append-assoc}
-use lib.ListN.{length, getD, take, drop, length-append, List·getD-append}
+use lib.ListN.{length, getD, take, drop, set, length-append, List·getD-append}
 use lib.Seq.{getD-at, take-at, drop-at, drop-drop}
 use borrow.Author.Tests.{le-leb}
 use Rattle.table.specs.Answers.{over}
 use Rattle.table.specs.Rows.{Words, rowSize}
 use Rattle.table.specs.Plain.{split, rowWords, plainRow, joined, perFlow, putRow}
+use Rattle.table.proofs.AnswerLaws.{set-over}
 
 pub length-split : (n : ℕ) (words : List ℕ) → length (split n words) ≡ n
 unfolding split
@@ -66,6 +68,15 @@ module _ {A : Type 0} (make : ℕ → A) where
         | yes x ↦ List·getD-append (perFlow make n) (make n ∷ []) d f (omega (arith, per-length n)) ∙ per-entry d n f x
         | no x ↦ (let e : n ≡ f = omega arith in getD-at (perFlow make n) (make n) [] d f (per-length n ∙ e) ∙ ap make e)
       ]
+
+-- in a buffer that it was written into, flow by flow
+module _ (make : ℕ → ℕ) (old : List ℕ) where
+  pub per-over : (n f : ℕ) → f < n → getD (over (perFlow make n) old) f 0 ≡ make f
+  per-over n f l = List·getD-append (perFlow make n) (drop (length (perFlow make n)) old) 0 f (omega (arith, per-length make n)) ∙ per-entry make 0 n f l
+
+  pub per-next : (f v : ℕ) → f < length old → v ≡ make f → set (over (perFlow make f) old) f v ≡ over (perFlow make (f + 1)) old
+  unfolding perFlow
+  per-next f v l e = rw (add-one f, e) (set-over (perFlow make f) old f (make f) (per-length make f) l)
 
 pub per-same : {A : Type 0} (make make′ : ℕ → A) (n : ℕ) → ((f : ℕ) → f < n → make f ≡ make′ f) → perFlow make n ≡ perFlow make′ n
 unfolding perFlow

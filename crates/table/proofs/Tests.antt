@@ -2,7 +2,7 @@
 use mathlib.Core.Path.{_≡_, refl, sym}
 use Prim.Native.Nat.{ℕ}
 use native.Mathlib.Omega.{arith}
-use mathlib.Core.Bool.{Bool, true, false, _&&_, _||_, false≢true}
+use mathlib.Core.Bool.{Bool, true, false, _&&_, _||_, Bool·beq, false≢true}
 use Rattle.table.specs.Answers.{Refusal, Result, good, refused, unless, then}
 
 -- what a conjunction of tests says
@@ -47,6 +47,16 @@ pub same-test : (a b : Bool) → (a ≡ true → b ≡ true) → (b ≡ true →
 same-test true b f g = sym (f refl)
 same-test false true f g = g refl
 same-test false false f g = refl
+
+pub beq-true : (a b : Bool) → Bool·beq a b ≡ true → a ≡ b
+beq-true true true e = refl
+beq-true true false e = absurd (false≢true e)
+beq-true false true e = absurd (false≢true e)
+beq-true false false e = refl
+
+pub beq-same : (a b : Bool) → a ≡ b → Bool·beq a b ≡ true
+beq-same true b e = rw (← e)
+beq-same false b e = rw (← e)
 
 -- a test is passed or failed
 pub data Tried (b : Bool) : Type 0 where
