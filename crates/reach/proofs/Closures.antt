@@ -28,12 +28,12 @@ unfolding reaching
 reach-told m words room rows e l = rw (e, le-leb m room l)
 
 -- the other way round
-record Reaches (m : ℕ) (words old : List ℕ) : Type 0 where
-  rows : List Row
-  table : tableOf m words ≡ good rows
-  room : m ≤ length old
+pub record Reaches (m : ℕ) (words old : List ℕ) : Type 0 where
+  pub rows : List Row
+  pub table : tableOf m words ≡ good rows
+  pub room : m ≤ length old
 
-reaches : (m : ℕ) (words old : List ℕ) → reachAnswer m words (length old) .number ≡ 0 → Reaches m words old
+pub reaches : (m : ℕ) (words old : List ℕ) → reachAnswer m words (length old) .number ≡ 0 → Reaches m words old
 unfolding reaching
 reaches m words old e =
     let a = answer-zero length (reaching m words (length old)) e in

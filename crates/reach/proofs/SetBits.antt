@@ -4,15 +4,16 @@ use Prim.Native.Nat.{ℕ, zero, suc, _+_, _-_, _*_, _/_, _%_, _^_, _≤_, _<_, m
 use native.Mathlib.Decide.{decLt}
 use native.Mathlib.Nat.{one-mul, zero-mul, pow-suc, div-eq-of-lt}
 use native.Mathlib.Omega.{arith}
-use mathlib.Core.Bool.{Bool, true, false, _&&_, _||_}
-use lib.Bits.{bitOr, or-step, or-shr, or-block, or-shifted, or-self, or-zero-l, or-zero-r}
+use mathlib.Core.Bool.{Bool, true, false, cond, _&&_, _||_}
+use lib.Bits.{bitOr, or-step, or-shr, or-block, or-shifted, or-shifted-r, or-self, or-zero-l, or-zero-r}
+use lib.Bits.{bitAnd, and-block, and-self, and-zero-l, and-zero-r}
 use lib.Dec.{eqb}
 use lib.Pow.{pow-lt, pow-add, pow-pos, shl-shr}
 use borrow.Author.Tests.{lt-ltb, le-ltb, eq-eqb, ne-eqb}
 use Rattle.table.specs.Bits.{bit}
 use Rattle.table.specs.Rows.{maxFlows}
 use Rattle.table.proofs.Tests.{and-true, and-false, or-false}
-use Rattle.reach.specs.Sets.{Flows, setOf, has}
+use Rattle.reach.specs.Sets.{Flows, setOf, has, withFlow}
 
 -- ---- bits
 
@@ -97,18 +98,44 @@ set-one f (suc n) l =
           rw (eq-eqb f n e) (omega (arith, one-mul (2 ^ n), set-none (eqb f) n (λ g y. ne-eqb f g (λ (z : f ≡ g). omega arith)), ap (λ (i : ℕ). 2 ^ i) e)))
     ]
 
--- two sets
+-- the flow behind them with them
+pub set-next : (s : Flows) (n : ℕ) → n < maxFlows → withFlow (setOf s n) (s n) n ≡ setOf s (suc n)
+unfolding setOf
+set-next s n l = rw (lt-ltb n maxFlows l) (go (s n))
+  where
+    go : (b : Bool) → cond (b && true) (bitOr (setOf s n) (2 ^ n)) (setOf s n) ≡ bit b * 2 ^ n + setOf s n
+    go true = ap (bitOr (setOf s n)) (sym (one-mul (2 ^ n))) ∙ or-shifted-r 1 n (setOf s n) (set-lt s n)
+    go false = omega (arith, zero-mul (2 ^ n))
+
+-- two sets, by an operation on their bits
+Blockwise : (ℕ → ℕ → ℕ) → Type 0
+Blockwise op = (k a b r s : ℕ) → r < 2 ^ k → s < 2 ^ k → op (a * 2 ^ k + r) (b * 2 ^ k + s) ≡ op a b * 2 ^ k + op r s
+
+module _ (op : ℕ → ℕ → ℕ) (by : Bool → Bool → Bool) (none : op 0 0 ≡ 0) (block : Blockwise op) (bits : (a b : Bool) → op (bit a) (bit b) ≡ bit (by a b)) (s t : Flows) where
+  set-by : (n : ℕ) → op (setOf s n) (setOf t n) ≡ setOf (λ g. by (s g) (t g)) n
+  unfolding setOf Blockwise
+  set-by zero = none
+  set-by (suc n) =
+      block n (bit (s n)) (bit (t n)) (setOf s n) (setOf t n) (set-lt s n) (set-lt t n)
+      ∙ ap₂ (λ (x y : ℕ). x * 2 ^ n + y) (bits (s n) (t n)) (set-by n)
+
 bit-or : (a b : Bool) → bitOr (bit a) (bit b) ≡ bit (a || b)
 bit-or true true = or-self 1
 bit-or true false = or-zero-r 1
 bit-or false b = or-zero-l (bit b)
 
 pub set-or : (s t : Flows) (n : ℕ) → bitOr (setOf s n) (setOf t n) ≡ setOf (λ g. s g || t g) n
-unfolding setOf
-set-or s t zero = or-zero-l 0
-set-or s t (suc n) =
-    or-block n (bit (s n)) (bit (t n)) (setOf s n) (setOf t n) (set-lt s n) (set-lt t n)
-    ∙ ap₂ (λ (x y : ℕ). x * 2 ^ n + y) (bit-or (s n) (t n)) (set-or s t n)
+unfolding Blockwise
+set-or = set-by bitOr _||_ (or-zero-l 0) or-block bit-or
+
+bit-and : (a b : Bool) → bitAnd (bit a) (bit b) ≡ bit (a && b)
+bit-and true true = and-self 1
+bit-and true false = and-zero-r 1
+bit-and false b = and-zero-l (bit b)
+
+pub set-and : (s t : Flows) (n : ℕ) → bitAnd (setOf s n) (setOf t n) ≡ setOf (λ g. s g && t g) n
+unfolding Blockwise
+set-and = set-by bitAnd _&&_ (and-zero-l 0) and-block bit-and
 
 -- its bits
 module _ (s : Flows) (g : ℕ) (l : g < maxFlows) where

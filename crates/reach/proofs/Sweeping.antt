@@ -1,6 +1,6 @@
 -- The sets of the flows, filled cell by cell: those that each row names, and then each joined with that of flow k. Assumes nothing.
 use mathlib.Core.Path.{_≡_, refl, sym, _∙_, ap, ap₂, subst}
-use Prim.Native.Nat.{ℕ, suc, _+_, _-_, _≤_, _<_}
+use Prim.Native.Nat.{ℕ, suc, _+_, _≤_, _<_}
 use native.Mathlib.Decide.{decLt}
 use native.Mathlib.Numerals.{add-one}
 use native.Mathlib.Omega.{arith}
@@ -9,18 +9,19 @@ use mathlib.Core.List.{List}
 use lib.Bits.{bitOr, or-self}
 use lib.Dec.{eqb}
 use lib.ListN.{length, getD, set, drop, length-set, length-append, length-drop}
-use lib.Seq.{getD-set-same, getD-set-other, getD-append-add, getD-drop, ext-getD}
+use lib.Seq.{getD-set-same, getD-set-other, ext-getD}
 use borrow.Author.Tests.{lt-ltb}
 use Rattle.table.specs.Answers.{good, over}
 use Rattle.table.specs.Rows.{Row, Kind, kindAt, Words, maxFlows}
 use Rattle.table.specs.Plain.{rowWords, tableOf}
 use Rattle.table.specs.Links.{isFlow, fieldNames, names}
 use Rattle.table.proofs.Tests.{or-false}
+use Rattle.table.proofs.AnswerLaws.{over-behind}
 use Rattle.table.proofs.Tables.{table-made}
 use Rattle.table.proofs.Linked.{first-named, second-named, third-named}
-use Rattle.reach.specs.Sets.{Flows, setOf, has}
+use Rattle.reach.specs.Sets.{Flows, setOf, has, withFlow}
 use Rattle.reach.specs.Reach.{named, through, setsOf}
-use Rattle.reach.specs.Private.Steps.{withFlow, namedSet, absorbed, Reached, Swept, Left}
+use Rattle.reach.specs.Private.Steps.{namedSet, absorbed, Reached, Swept, Left}
 use Rattle.reach.proofs.Closing.{named-inside}
 use Rattle.reach.proofs.SetBits.{set-same, set-none, set-one, set-or, set-has}
 use Rattle.reach.proofs.SetLists.{sets-length, over-entry}
@@ -134,21 +135,13 @@ joining-more words n k old sets new few l j size swept left = record {
 
 -- ---- after the sweeps of all flows
 
--- the cells from m on are behind the list
-behind : (m : ℕ) (words old : List ℕ) (i : ℕ) → m ≤ i → getD (over (setsOf m words m) old) i 0 ≡ getD old i 0
-behind m words old i x =
-    let sets : List ℕ = setsOf m words m in
-    let e : i ≡ length sets + (i - length sets) = omega (arith, sets-length m words m) in
-    ap (λ (j : ℕ). getD (over sets old) j 0) e ∙ getD-append-add sets (drop (length sets) old) (i - length sets) 0
-    ∙ getD-drop (length sets) old (i - length sets) 0 ∙ ap (λ (j : ℕ). getD old j 0) (sym e)
-
 closed : (m : ℕ) (words old new : List ℕ) → m ≤ length old → length new ≡ length old → Reached words m m new → Left m old new → new ≡ over (setsOf m words m) old
 closed m words old new room size done left =
     let sets : List ℕ = setsOf m words m in
     ext-getD 0 new (over sets old) (omega (arith, length-append sets (drop (length sets) old), length-drop (length sets) old, sets-length m words m)) λ i l.
     elim (decLt i m) [
       | yes x ↦ done i x ∙ sym (over-entry m words old i x)
-      | no x ↦ left i (omega arith) ∙ sym (behind m words old i (omega arith))
+      | no x ↦ left i (omega arith) ∙ sym (over-behind sets old i (omega (arith, sets-length m words m)))
     ]
 
 pub joined-all : (words : List ℕ) (n k : ℕ) (old start new : List ℕ) → n ≤ k → n ≤ length old → length start ≡ length old → Left n old start → Joining words n k start new

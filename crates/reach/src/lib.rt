@@ -9,9 +9,9 @@ ghost use Prim.Native.Nat.{_<_, _≤_};
 ghost use lib.ListN.{length};
 ghost use Rattle.table.specs.Answers.{good, over};
 ghost use Rattle.table.specs.Plain.{wordsOf, tableOf, rowsIn};
-ghost use Rattle.reach.specs.Sets.{has};
+ghost use Rattle.reach.specs.Sets.{has, withFlow};
 ghost use Rattle.reach.specs.Reach.{setsOf, reachAnswer, setsAfter};
-ghost use Rattle.reach.specs.Private.Steps.{withFlow, namedSet, absorbed, Reached, Swept, Left};
+ghost use Rattle.reach.specs.Private.Steps.{namedSet, absorbed, Reached, Swept, Left};
 
 // Whether a flow is in a set.
 pub fn has(set: u64, flow: u32) -> bool
@@ -24,7 +24,7 @@ pub fn has(set: u64, flow: u32) -> bool
 }
 
 // A set, and flow x with it where the test is passed.
-fn with_flow(set: u64, on: bool, x: u32) -> u64
+pub fn with_flow(set: u64, on: bool, x: u32) -> u64
     ensures { λ r. ⌜ r ≡ withFlow set on x ⌝ }
 {
     if !on {

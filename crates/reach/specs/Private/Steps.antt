@@ -1,19 +1,14 @@
 -- The steps of the closure over sets that are numbers.
 use mathlib.Core.Path.{_≡_}
-use Prim.Native.Nat.{ℕ, _^_, _≤_, _<_}
-use mathlib.Core.Bool.{Bool, true, cond, _&&_}
+use Prim.Native.Nat.{ℕ, _≤_, _<_}
+use mathlib.Core.Bool.{true, cond}
 use mathlib.Core.List.{List}
 use lib.Bits.{bitOr}
-use lib.Dec.{ltb}
 use lib.ListN.{getD}
-use Rattle.table.specs.Rows.{Words, Kind, kindAt, maxFlows}
+use Rattle.table.specs.Rows.{Words, Kind, kindAt}
 use Rattle.table.specs.Links.{isFlow}
-use Rattle.reach.specs.Sets.{setOf, has}
+use Rattle.reach.specs.Sets.{setOf, has, withFlow}
 use Rattle.reach.specs.Reach.{named, through}
-
--- a set, and flow x with it where the test is passed
-abbrev pub withFlow : ℕ → Bool → ℕ → ℕ
-withFlow set on x = cond (on && ltb x maxFlows) (bitOr set (2 ^ x)) set
 
 -- flow f, and the flows that its row names
 unfoldable pub namedSet : ℕ → Words → ℕ
