@@ -11,6 +11,7 @@ ghost use Rattle.lister.specs.Listing.{listingAnswer, textAfter};
 ghost use Rattle.loads.specs.Loads.{pageAnswer, pageAfter};
 ghost use Rattle.least.specs.Answers.{leastAnswer, partAfter, flowsAnswer, flowsAfter};
 ghost use Rattle.rates.specs.Fillings.{Filled};
+ghost use Rattle.influence.specs.Felt.{feltAnswer, feltAfter};
 ghost use Rattle.exports.specs.Parts.{Given, answerOf};
 use table::Answer;
 
@@ -278,5 +279,23 @@ pub extern "C" fn baarqidho_fill_rates(
         (answerOf r (now (flow .exit)) (now (tick .exit)) (now (count .exit))) (now (filled .exit)) ⌝ }
 {
     let answer = rates::fill(flows, words, filled);
+    give(answer, flow, tick, count)
+}
+
+// Gives the input rows that each flow of a table in plain form feels, as a set a flow, bit i for row i: the count of flows.
+#[no_mangle]
+pub extern "C" fn baarqidho_felt_inputs(
+    flows: u32,
+    words: &[u32],
+    sets: &mut [u64],
+    flow: &mut u32,
+    tick: &mut u32,
+    count: &mut u32,
+) -> u32
+    ensures answered { λ r. ⌜ Given (feltAnswer flows (now (words .entry)) (length (now (sets .entry))))
+        r (now (flow .exit)) (now (tick .exit)) (now (count .exit)) ⌝ }
+    ensures stored { λ r. ⌜ now (sets .exit) ≡ feltAfter flows (now (words .entry)) (now (sets .entry)) ⌝ }
+{
+    let answer = influence::felt(flows, words, sets);
     give(answer, flow, tick, count)
 }

@@ -1,0 +1,2 @@
+pub mod Felt
+pub mod Influence
