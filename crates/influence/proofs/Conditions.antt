@@ -32,6 +32,15 @@ module _ (m : ℕ) (words : List ℕ) (ks : List Clock) (p : Plan m words ks) wh
   inside : (f g : ℕ) → f < m → named words f g ≡ true → g < m
   inside = named-inside m words (p .rows) (p .table)
 
+  -- a flow rests on what its row names
+  pub rest-named : (f g : ℕ) → named words f g ≡ true → rests words ks f g ≡ true
+  unfolding rests
+  rest-named f g e = or-left _ _ e
+
+  pub by-rests : (f g : ℕ) → Leads (named words) f g → Leads (rests words ks) f g
+  by-rests f g itself = itself
+  by-rests f g (onward h i x e) = onward h g (by-rests f h x) (rest-named h g e)
+
   -- row f leads to the flow of each condition
   abbrev LedTo : ℕ → List Condition → Type 0
   LedTo f cs = Every (λ (c : Condition). Leads (named words) f (c .flow)) cs
@@ -85,14 +94,6 @@ module _ (m : ℕ) (words : List ℕ) (ks : List Clock) (p : Plan m words ks) wh
           let k : Leads (named words) h g =
           one-of (named words h g) _ (λ z. onward h g itself z) (on-every (Leads (named words) h) (clockAt ks h .conditions) g (all-led m (omega arith) h (y .0))) e in
           (leads-through (named words) m inside h g (y .0) k .0, leads-on (named words) f h g (y .1) k)
-
-  pub rest-named : (f g : ℕ) → named words f g ≡ true → rests words ks f g ≡ true
-  unfolding rests
-  rest-named f g e = or-left (named words f g) _ e
-
-  pub by-rests : (f g : ℕ) → Leads (named words) f g → Leads (rests words ks) f g
-  by-rests f g itself = itself
-  by-rests f g (onward h i x e) = onward h g (by-rests f h x) (rest-named h g e)
 
   pub rests-inside : (f g : ℕ) → f < m → rests words ks f g ≡ true → g < m
   rests-inside f g l e = by-rows f g l (onward f g itself e) .0
