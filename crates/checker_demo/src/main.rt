@@ -1,5 +1,4 @@
 // Writes the listings of some packed tables.
-use libc::STDOUT_FILENO;
 use lister::Listed;
 
 // Writes the listing of a packed table.
@@ -10,7 +9,7 @@ fn show(packed: &[u8]) {
         return;
     };
     let end = size as usize;
-    io::write_all(STDOUT_FILENO, &text[..end]);
+    print::text(&text[..end]);
 }
 
 // Plans A to F.
