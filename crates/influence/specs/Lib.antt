@@ -1,2 +1,3 @@
 pub mod Felt
 pub mod Influence
+pub mod LongRuns
