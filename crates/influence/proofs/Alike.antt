@@ -12,8 +12,8 @@ use Rattle.table.specs.Tables.{RowHas, Linked}
 use Rattle.table.proofs.Lists.{Each, below-suc}
 use Rattle.reach.specs.Sets.{Flows}
 use Rattle.semantics.specs.Cells.{Cell, absent, present, History, onGrid}
-use Rattle.semantics.specs.Operators.{Step, is, clashes, timed, combined, registered, fasterOf, slowerOf, laterOf, tailOf, headOf, sampled}
-use Rattle.semantics.specs.Runs.{Tick, Ticks, cellIn, history, word, cellOf, TickEnd, filled, stopped, onStep, flowsFrom, done, run}
+use Rattle.semantics.specs.Operators.{Step, is, clashes, combined, registered, fasterOf, slowerOf, laterOf, tailOf, headOf, sampled}
+use Rattle.semantics.specs.Runs.{Tick, Ticks, cellIn, history, word, cellOf, TickEnd, filled, onStep, flowsFrom, done, run}
 use Rattle.semantics.proofs.Traces.{run-length}
 use Rattle.calendar.proofs.Endings.{not-filled, Last, last, tick-parts}
 

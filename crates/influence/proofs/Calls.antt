@@ -1,5 +1,5 @@
 -- What the call answers and leaves, by what check and closure told. Assumes nothing.
-use mathlib.Core.Path.{_≡_, refl, sym, _∙_, ap, ap₂}
+use mathlib.Core.Path.{_≡_, sym, _∙_, ap, ap₂}
 use Prim.Native.Nat.{ℕ, _*_, _≤_, _<_}
 use native.Mathlib.Decide.{decLt}
 use native.Mathlib.Omega.{arith}
@@ -9,15 +9,15 @@ use lib.Bits.{bitAnd}
 use lib.ListN.{length, getD, drop, length-append}
 use borrow.Author.Tests.{le-leb, lt-leb}
 use Rattle.table.specs.declared.Answer.{Answer}
-use Rattle.table.specs.Answers.{Refusal, noRoom, good, refused, refusal, success, answer, over}
+use Rattle.table.specs.Answers.{Refusal, noRoom, good, refused, success, answer, over}
 use Rattle.table.specs.Rows.{maxFlows}
-use Rattle.table.specs.Plain.{tableOf, rowsIn, perFlow}
+use Rattle.table.specs.Plain.{perFlow}
 use Rattle.table.proofs.AnswerLaws.{refused-leaves, over-again}
 use Rattle.table.proofs.PlainRows.{per-length, per-same}
 use Rattle.checker.specs.Clocks.{Clock}
 use Rattle.checker.specs.Answers.{clockSize, clocksFor, checkAnswer}
 use Rattle.checker.proofs.Bounds.{told-clocks, told-refusal}
-use Rattle.reach.specs.Sets.{Flows, setOf}
+use Rattle.reach.specs.Sets.{setOf}
 use Rattle.reach.specs.Reach.{closure, setsOf, reaching, reachAnswer, setsAfter}
 use Rattle.reach.proofs.SetBits.{set-same, set-and}
 use Rattle.reach.proofs.Closures.{reach-told, sets-at, reaches}

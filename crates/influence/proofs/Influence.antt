@@ -7,7 +7,7 @@ use mathlib.Core.List.{List}
 use lib.ListN.{length, getD}
 use Rattle.table.specs.Answers.{good}
 use Rattle.checker.specs.Clocks.{Clock}
-use Rattle.semantics.specs.Cells.{Cell, absent, value, back}
+use Rattle.semantics.specs.Cells.{absent, value, back}
 use Rattle.semantics.specs.Runs.{Ticks, history, done, run, cells, Regular}
 use Rattle.semantics.specs.Answers.{running, markByte}
 use Rattle.semantics.proofs.Traces.{cells-length, cells-at}

@@ -3,10 +3,10 @@ use mathlib.Core.Path.{_≡_, sym, _∙_, ap}
 use Prim.Native.Nat.{ℕ, suc, _+_, _*_, _-_, _%_, _≤_, _<_}
 use native.Mathlib.Omega.{arith}
 use mathlib.Core.List.{List}
-use lib.ListN.{length, getD}
+use lib.ListN.{getD}
 use Rattle.table.specs.Answers.{good}
 use Rattle.table.specs.Rows.{Row}
-use Rattle.table.specs.Plain.{tableOf, rowsIn}
+use Rattle.table.specs.Plain.{tableOf}
 use Rattle.semantics.specs.Cells.{Cell, History, back, cellOn, count, latest}
 use Rattle.semantics.specs.Operators.{valueOr}
 use Rattle.semantics.specs.Runs.{Ticks, history, done, run}
@@ -15,7 +15,6 @@ use Rattle.semantics.proofs.Traces.{history-length, tick-back, run-length}
 use Rattle.calendar.specs.Calendar.{cellAt}
 use Rattle.influence.specs.Influence.{Agreeing}
 use Rattle.influence.specs.LongRuns.{Ended, LongRuns}
-use Rattle.influence.proofs.Plans.{Plan}
 use Rattle.influence.proofs.Histories.{agreed, same-back}
 
 -- the run is that of the plan's rows

@@ -1,8 +1,6 @@
 -- `influence::felt` meets its contract. Assumes nothing.
-use mathlib.Core.Path.{_≡_, _∙_}
 use Prim.Native.Nat.{ℕ, _*_, _≤_}
 use native.Mathlib.Omega.{arith}
-use mathlib.Core.List.{List}
 use lib.ListN.{length, replicate, length-replicate}
 use denote.Ref.{now}
 use borrow.Author.Needs.{needs}
