@@ -1,4 +1,5 @@
 // Writes the listings of some packed tables.
+use libc::STDOUT_FILENO;
 use lister::Listed;
 
 // Writes the listing of a packed table.
@@ -9,7 +10,7 @@ fn show(packed: &[u8]) {
         return;
     };
     let end = size as usize;
-    print::text(&text[..end]);
+    io::write_all(STDOUT_FILENO, &text[..end]);
 }
 
 // Plans A to F.

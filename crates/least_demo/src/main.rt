@@ -1,17 +1,45 @@
 // Looks for the least part of some plans and writes, for each, its title, the answer's number, flow, tick and count with the whole buffer of words
 // after it, and the same for the numbers of the part's flows. The buffers hold 9 where nothing was written.
+use libc::STDOUT_FILENO;
+use table::Answer;
+
+// Some text, and a number after it.
+fn part(before: &[u8], n: u32) {
+    io::write_all(STDOUT_FILENO, before);
+    io::print_decimal(STDOUT_FILENO, n as u64);
+}
+
+// Each word, after a space.
+fn listed(words: &[u32]) {
+    let mut i = 0;
+    while i < words.len() {
+        part(b" ", words[i]);
+        i += 1;
+    }
+}
+
+// A line with the four parts of an answer, and the words of a buffer.
+fn line(a: Answer, words: &[u32]) {
+    part(b"", a.number);
+    part(b" ", a.flow);
+    part(b" ", a.tick);
+    part(b" ", a.count);
+    io::write_all(STDOUT_FILENO, b":");
+    listed(words);
+    io::write_all(STDOUT_FILENO, b"\n");
+}
 
 // The least part of a plan, and the numbers of its flows, in buffers.
 fn lent(count: u32, words: &[u32], rows: &mut [u32], flows: &mut [u32]) {
     let a = least::least(count, words, rows);
-    print::line(a, rows);
+    line(a, rows);
     let a = least::least_flows(count, words, flows);
-    print::line(a, flows);
+    line(a, flows);
 }
 
 // The same in buffers of 17 and 5 words.
 fn shown(title: &[u8], count: u32, words: &[u32]) {
-    print::text(title);
+    io::write_all(STDOUT_FILENO, title);
     lent(count, words, &mut [9; 17], &mut [9; 5]);
 }
 
@@ -54,9 +82,9 @@ fn refusals() {
 // A word too few in each buffer, and just enough.
 fn rooms() {
     let words = [0, 10, 0, 0, 0, 20, 0, 0, 2, 0, 1, 0];
-    print::text(b"a word short\n");
+    io::write_all(STDOUT_FILENO, b"a word short\n");
     lent(3, &words, &mut [9; 11], &mut [9; 2]);
-    print::text(b"just enough\n");
+    io::write_all(STDOUT_FILENO, b"just enough\n");
     lent(3, &words, &mut [9; 12], &mut [9; 3]);
 }
 

@@ -1,16 +1,32 @@
 // Makes the load pages of some plans and writes, for each, its title, a line with the answer's number, flow, tick and count, and the whole
 // buffer, which holds dots where nothing was written.
+use libc::STDOUT_FILENO;
+use table::Answer;
 
 const LINE: usize = loads::LINE_SIZE;
+
+// Some text, and a number after it.
+fn part(before: &[u8], n: u32) {
+    io::write_all(STDOUT_FILENO, before);
+    io::print_decimal(STDOUT_FILENO, n as u64);
+}
+
+// The four parts of an answer.
+fn answer(a: Answer) {
+    part(b"", a.number);
+    part(b" ", a.flow);
+    part(b" ", a.tick);
+    part(b" ", a.count);
+    io::write_all(STDOUT_FILENO, b"\n");
+}
 
 // A page in a buffer.
 fn shown(title: &[u8], count: u32, words: &[u32], times: &[u16], page: &mut [u8]) {
     let a = loads::page(count, words, times, page);
-    print::text(title);
-    print::answer(a);
-    print::text(b"\n");
-    print::text(page);
-    print::text(b"\n");
+    io::write_all(STDOUT_FILENO, title);
+    answer(a);
+    io::write_all(STDOUT_FILENO, page);
+    io::write_all(STDOUT_FILENO, b"\n");
 }
 
 // Halves, which go to the even neighbour: 7812.5, 62.5 and 187.5, and a total of what is printed.

@@ -1,15 +1,43 @@
 // Fills in the rates of some drafts and writes, for each, its title, and the answer's number, flow, tick and count with the whole buffer of words after
 // it. The buffer holds 9 where nothing was written.
+use libc::STDOUT_FILENO;
+use table::Answer;
+
+// Some text, and a number after it.
+fn part(before: &[u8], n: u32) {
+    io::write_all(STDOUT_FILENO, before);
+    io::print_decimal(STDOUT_FILENO, n as u64);
+}
+
+// Each word, after a space.
+fn listed(words: &[u32]) {
+    let mut i = 0;
+    while i < words.len() {
+        part(b" ", words[i]);
+        i += 1;
+    }
+}
+
+// A line with the four parts of an answer, and the words of a buffer.
+fn line(a: Answer, words: &[u32]) {
+    part(b"", a.number);
+    part(b" ", a.flow);
+    part(b" ", a.tick);
+    part(b" ", a.count);
+    io::write_all(STDOUT_FILENO, b":");
+    listed(words);
+    io::write_all(STDOUT_FILENO, b"\n");
+}
 
 // A draft filled in, in a buffer.
 fn lent(count: u32, words: &[u32], rows: &mut [u32]) {
     let a = rates::fill(count, words, rows);
-    print::line(a, rows);
+    line(a, rows);
 }
 
 // The same in a buffer of 17 words.
 fn shown(title: &[u8], count: u32, words: &[u32]) {
-    print::text(title);
+    io::write_all(STDOUT_FILENO, title);
     lent(count, words, &mut [9; 17]);
 }
 
@@ -80,11 +108,11 @@ fn none() {
 
 // A word too few in the buffer, and just enough.
 fn rooms() {
-    print::text(b"no chain, and a word short\n");
+    io::write_all(STDOUT_FILENO, b"no chain, and a word short\n");
     lent(2, &[0, 6, 3, 0, 16, 0, 0, 0], &mut [9; 7]);
-    print::text(b"a word short\n");
+    io::write_all(STDOUT_FILENO, b"a word short\n");
     lent(3, &[0, 6, 3, 0, 16, 0, 0, 0, 2, 0, 1, 0], &mut [9; 11]);
-    print::text(b"just enough\n");
+    io::write_all(STDOUT_FILENO, b"just enough\n");
     lent(3, &[0, 6, 3, 0, 16, 0, 0, 0, 2, 0, 1, 0], &mut [9; 12]);
 }
 

@@ -1,6 +1,8 @@
 // Runs some plans and writes, for each, its title, a line with the answer's number, flow, tick and count, and a line with some cells of the
 // trace, mark and value; of a long run also the tallies. A trace that is stored has its words as well, and comes back. Trace, window, tallies
 // and words hold 9 where nothing was written.
+use libc::STDOUT_FILENO;
+use table::Answer;
 
 // Room for the trace of every plan here, and some cells more.
 const ROOM: usize = 36;
@@ -8,9 +10,23 @@ const ROOM: usize = 36;
 // Room for the window of two flows, and a cell more.
 const WINDOW: usize = 2 * 131072 + 1;
 
+// Some text, and a number after it.
+fn part(before: &[u8], n: u32) {
+    io::write_all(STDOUT_FILENO, before);
+    io::print_decimal(STDOUT_FILENO, n as u64);
+}
+
+// The four parts of an answer.
+fn answer(a: Answer) {
+    part(b"", a.number);
+    part(b" ", a.flow);
+    part(b" ", a.tick);
+    part(b" ", a.count);
+}
+
 fn cell(mark: u8, value: u32) {
-    print::number(b" ", mark as u64);
-    print::number(b":", value as u64);
+    part(b" ", mark as u32);
+    part(b":", value);
 }
 
 // The cells from one place to another.
@@ -29,11 +45,11 @@ fn shown(title: &[u8], count: u32, words: &[u32], log: &[u32], ticks: u32, from:
     let mut marks = [9u8; ROOM];
     let mut values = [9u32; ROOM];
     let a = runner::run(count, words, log, ticks, &mut marks, &mut values);
-    print::text(title);
-    print::answer(a);
-    print::text(b"\n");
+    io::write_all(STDOUT_FILENO, title);
+    answer(a);
+    io::write_all(STDOUT_FILENO, b"\n");
     cells(&marks, &values, from, to);
-    print::text(b"\n");
+    io::write_all(STDOUT_FILENO, b"\n");
 }
 
 // Plan D: inputs (10, 0) and (20, 0) and their sum. Ten ticks end; eleven clash at tick 10 and leave the sum's cell and all after it.
@@ -73,14 +89,17 @@ fn long_k() {
         &mut values,
         &mut tallies,
     );
-    print::text(b"K, long, 131073 ticks\n");
-    print::answer(a);
-    print::text(b"\n");
+    io::write_all(STDOUT_FILENO, b"K, long, 131073 ticks\n");
+    answer(a);
+    io::write_all(STDOUT_FILENO, b"\n");
     cells(&marks, &values, 0, 6);
     cells(&marks, &values, 262140, 262145);
-    print::text(b"\n");
-    print::words(&tallies);
-    print::text(b"\n");
+    part(b"\n ", tallies[0]);
+    part(b" ", tallies[1]);
+    part(b" ", tallies[2]);
+    part(b" ", tallies[3]);
+    part(b" ", tallies[4]);
+    io::write_all(STDOUT_FILENO, b"\n");
 }
 
 // Readings of 5, -20 and -30, the limit -20, whether a reading is less, and the larger of the two.
@@ -123,14 +142,23 @@ fn seen() {
     shown(b"not begun\n", 3, &words, &log[..6], 3, 0, 10);
 }
 
+// Each word, after a space.
+fn listed(words: &[u32]) {
+    let mut i = 0;
+    while i < words.len() {
+        part(b" ", words[i]);
+        i += 1;
+    }
+}
+
 // A trace of 8 ticks of three flows stored, and all words after it.
 fn stored(title: &[u8], words: &[u32], marks: &[u8], values: &[u32], kept: &mut [u32]) {
     let a = archive::store(3, words, 8, marks, values, kept);
-    print::text(title);
-    print::answer(a);
-    print::text(b"\n");
-    print::words(kept);
-    print::text(b"\n");
+    io::write_all(STDOUT_FILENO, title);
+    answer(a);
+    io::write_all(STDOUT_FILENO, b"\n");
+    listed(kept);
+    io::write_all(STDOUT_FILENO, b"\n");
 }
 
 // Stored words restored, and all cells after it.
@@ -138,11 +166,11 @@ fn restored(title: &[u8], words: &[u32], kept: &[u32]) {
     let mut marks = [9u8; 24];
     let mut values = [9u32; 24];
     let a = archive::restore(3, words, 8, kept, &mut marks, &mut values);
-    print::text(title);
-    print::answer(a);
-    print::text(b"\n");
+    io::write_all(STDOUT_FILENO, title);
+    answer(a);
+    io::write_all(STDOUT_FILENO, b"\n");
     cells(&marks, &values, 0, 24);
-    print::text(b"\n");
+    io::write_all(STDOUT_FILENO, b"\n");
 }
 
 // An input (2, 0), its slower copy by 2, which is (4, 0), and an input (3, 1): for 8 ticks four words, two and three. A value where there is none,

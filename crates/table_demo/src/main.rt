@@ -1,28 +1,66 @@
 // Reads and writes tables, refused ones among them, and prints each answer and then the whole buffer:
 // number, flow, tick, count, a colon, and the cells. Buffers hold 7 everywhere before a call.
+use libc::STDOUT_FILENO;
+use table::Answer;
+
+fn wide(x: u32) -> u64 {
+    x as u64
+}
+
+fn wide_byte(x: u8) -> u64 {
+    x as u64
+}
+
+fn print_cell(x: u64) {
+    io::write_all(STDOUT_FILENO, b" ");
+    io::print_decimal(STDOUT_FILENO, x);
+}
+
+fn print_words(words: &[u32]) {
+    let mut i = 0;
+    while i < words.len() {
+        print_cell(wide(words[i]));
+        i += 1;
+    }
+}
+
+fn print_bytes(bytes: &[u8]) {
+    let mut i = 0;
+    while i < bytes.len() {
+        print_cell(wide_byte(bytes[i]));
+        i += 1;
+    }
+}
+
+fn print_answer(a: Answer) {
+    print_cell(wide(a.number));
+    print_cell(wide(a.flow));
+    print_cell(wide(a.tick));
+    print_cell(wide(a.count));
+}
 
 fn read(packed: &[u8], words: &mut [u32]) {
     let found = table::read(packed, words);
-    print::text(b"read ");
-    print::answer(table::parts(found));
-    print::text(b" :");
-    print::words(words);
-    print::text(b"\n");
+    io::write_all(STDOUT_FILENO, b"read");
+    print_answer(table::parts(found));
+    io::write_all(STDOUT_FILENO, b" :");
+    print_words(words);
+    io::write_all(STDOUT_FILENO, b"\n");
 }
 
 fn write(count: u32, words: &[u32], packed: &mut [u8]) {
     let answer = table::write(count, words, packed);
-    print::text(b"write ");
-    print::answer(answer);
-    print::text(b" :");
-    print::bytes(packed);
-    print::text(b"\n");
+    io::write_all(STDOUT_FILENO, b"write");
+    print_answer(answer);
+    io::write_all(STDOUT_FILENO, b" :");
+    print_bytes(packed);
+    io::write_all(STDOUT_FILENO, b"\n");
 }
 
 fn examine(count: u32, words: &[u32]) {
-    print::text(b"examine ");
-    print::answer(table::examine(count, words));
-    print::text(b"\n");
+    io::write_all(STDOUT_FILENO, b"examine");
+    print_answer(table::examine(count, words));
+    io::write_all(STDOUT_FILENO, b"\n");
 }
 
 // A packed table, read into ten words.
@@ -106,8 +144,8 @@ fn write_refused() {
 // The first n bytes, and the table that they are.
 fn read_first(packed: &[u8], n: usize, words: &mut [u32]) {
     if n <= packed.len() {
-        print::bytes(&packed[..n]);
-        print::text(b"\n");
+        print_bytes(&packed[..n]);
+        io::write_all(STDOUT_FILENO, b"\n");
         read(&packed[..n], words);
     }
 }
@@ -115,9 +153,9 @@ fn read_first(packed: &[u8], n: usize, words: &mut [u32]) {
 // A table in plain form, written, and what was written read back.
 fn there_and_back(count: u32, words: &[u32], packed: &mut [u8], back: &mut [u32]) {
     let answer = table::write(count, words, packed);
-    print::text(b"write ");
-    print::answer(answer);
-    print::text(b" :");
+    io::write_all(STDOUT_FILENO, b"write");
+    print_answer(answer);
+    io::write_all(STDOUT_FILENO, b" :");
     read_first(packed, answer.count as usize, back);
 }
 

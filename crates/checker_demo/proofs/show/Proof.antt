@@ -35,8 +35,8 @@ array-share-prefix-text c =
     let l = after-listing .listing .ensures in
     size-fits (now (start .args .packed)) (replicate longest 0) (ap parts (sym given) ∙ l .0) (l .1) .0
 
-slice-aggregate-text : tie.Need-slice-aggregate-text
-slice-aggregate-text c =
+slice-aggregate-write-all : tie.Need-slice-aggregate-write-all
+slice-aggregate-write-all c =
     let after-listed = c .before .before in
     let after-listing = after-listed .before .before .before in
     let start = after-listing .before .before .before in
@@ -44,8 +44,8 @@ slice-aggregate-text c =
     let l = after-listing .listing .ensures in
     size-fits (now (start .args .packed)) (replicate longest 0) (ap parts (sym given) ∙ l .0) (l .1) .1
 
-text-requires : tie.Need-text-requires
-text-requires c κs = search needs
+write-all-requires : tie.Need-write-all-requires
+write-all-requires c κs = search needs
 
 returns-2 : tie.Need-returns-2
 returns-2 c = search needs
@@ -61,6 +61,6 @@ show-spec =
     returns
     cast-end
     array-share-prefix-text
-    slice-aggregate-text
-    text-requires
+    slice-aggregate-write-all
+    write-all-requires
     returns-2)

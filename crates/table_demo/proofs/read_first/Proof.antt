@@ -5,17 +5,17 @@ use borrow.Author.Needs.{needs}
 use Rattle.table_demo.proofs.read_first.Statement.{statement}
 use Rattle.table_demo.proofs.read_first.Tie as tie
 
-slice-aggregate-bytes : tie.Need-slice-aggregate-bytes
-slice-aggregate-bytes c = simp length-take (omega arith)
+slice-aggregate-print-bytes : tie.Need-slice-aggregate-print-bytes
+slice-aggregate-print-bytes c = simp length-take (omega arith)
 
-bytes-requires : tie.Need-bytes-requires
-bytes-requires c κs = search needs
+print-bytes-requires : tie.Need-print-bytes-requires
+print-bytes-requires c κs = search needs
 
-slice-aggregate-text : tie.Need-slice-aggregate-text
-slice-aggregate-text c = search needs
+slice-aggregate-write-all : tie.Need-slice-aggregate-write-all
+slice-aggregate-write-all c = search needs
 
-text-requires : tie.Need-text-requires
-text-requires c κs = search needs
+write-all-requires : tie.Need-write-all-requires
+write-all-requires c κs = search needs
 
 slice-aggregate-read : tie.Need-slice-aggregate-read
 slice-aggregate-read c = simp length-take (omega arith)
@@ -36,10 +36,10 @@ pub read-first-spec : {M : Type 1} → statement M
 read-first-spec =
     tie.close
     (tie.spec
-    slice-aggregate-bytes
-    bytes-requires
-    slice-aggregate-text
-    text-requires
+    slice-aggregate-print-bytes
+    print-bytes-requires
+    slice-aggregate-write-all
+    write-all-requires
     slice-aggregate-read
     read-requires
     same-length

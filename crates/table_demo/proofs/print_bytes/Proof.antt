@@ -1,9 +1,9 @@
--- `print::bytes` ends, and reads within its buffer.
+-- `table_demo::print_bytes` meets its contract. Assumes nothing.
 use Prim.Native.Nat.{_≤_, _-_}
 use lib.ListN.{length}
 use borrow.Author.Needs.{needs}
-use Rattle.print.proofs.bytes.Statement.{statement}
-use Rattle.print.proofs.bytes.Tie as tie
+use Rattle.table_demo.proofs.print_bytes.Statement.{statement}
+use Rattle.table_demo.proofs.print_bytes.Tie as tie
 
 abbrev Inv-loop : tie.InvT-loop
 Inv-loop bytes i₀ i = i ≤ length bytes
@@ -14,11 +14,14 @@ abbrev μ-loop : tie.MeasureT-loop
 loop-holds : tie.Need-loop-holds Inv-loop μ-loop
 loop-holds c = search needs
 
-shared-slice-read-byte : tie.Need-shared-slice-read-byte Inv-loop μ-loop
-shared-slice-read-byte c = search needs
+shared-slice-read-wide-byte : tie.Need-shared-slice-read-wide-byte Inv-loop μ-loop
+shared-slice-read-wide-byte c = search needs
 
-byte-requires : tie.Need-byte-requires Inv-loop μ-loop
-byte-requires c κs = search needs
+wide-byte-requires : tie.Need-wide-byte-requires Inv-loop μ-loop
+wide-byte-requires c κs = search needs
+
+print-cell-requires : tie.Need-print-cell-requires Inv-loop μ-loop
+print-cell-requires c κs = search needs
 
 add-i : tie.Need-add-i Inv-loop μ-loop
 add-i c = search needs
@@ -32,15 +35,16 @@ loop-again c = search needs
 returns : tie.Need-returns Inv-loop μ-loop
 returns c = search needs
 
-pub bytes-spec : {M : Type 1} → statement M
-bytes-spec =
+pub print-bytes-spec : {M : Type 1} → statement M
+print-bytes-spec =
     tie.close
     (tie.spec
     Inv-loop
     μ-loop
     loop-holds
-    shared-slice-read-byte
-    byte-requires
+    shared-slice-read-wide-byte
+    wide-byte-requires
+    print-cell-requires
     add-i
     loop-less
     loop-again
