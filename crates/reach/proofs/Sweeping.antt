@@ -6,7 +6,7 @@ use native.Mathlib.Numerals.{add-one}
 use native.Mathlib.Omega.{arith}
 use mathlib.Core.Bool.{Bool, true, false, cond, _&&_, _||_}
 use mathlib.Core.List.{List}
-use lib.Bits.{bitOr, or-self}
+use lib.Bits.{bitOr}
 use lib.Dec.{eqb}
 use lib.ListN.{length, getD, set, drop, length-set, length-append, length-drop}
 use lib.Seq.{getD-set-same, getD-set-other, ext-getD}
@@ -19,7 +19,7 @@ use Rattle.table.proofs.Tests.{or-false}
 use Rattle.table.proofs.AnswerLaws.{over-behind}
 use Rattle.table.proofs.Tables.{table-made}
 use Rattle.table.proofs.Linked.{first-named, second-named, third-named}
-use Rattle.reach.specs.Sets.{Flows, setOf, has, withFlow}
+use Rattle.reach.specs.Sets.{Flows, setOf, withFlow}
 use Rattle.reach.specs.Reach.{named, through, setsOf}
 use Rattle.reach.specs.Private.Steps.{namedSet, absorbed, Reached, Swept, Left}
 use Rattle.reach.proofs.Closing.{named-inside}
@@ -57,13 +57,6 @@ named-set n f w few l inside =
 
 -- ---- one set joined with another
 
-absorbed-self : (x k : ℕ) → absorbed x x k ≡ x
-absorbed-self x k = go (has x k)
-  where
-    go : (b : Bool) → cond b (bitOr x x) x ≡ x
-    go true = or-self x
-    go false = refl
-
 absorbed-set : (s t : Flows) (n k : ℕ) → n ≤ maxFlows → k < n → absorbed (setOf s n) (setOf t n) k ≡ setOf (λ g. s g || (s k && t g)) n
 absorbed-set s t n k few l = rw (set-has s n k few l) (go (s k))
   where
@@ -98,10 +91,6 @@ module _ (n : ℕ) (new : ℕ → ℕ) (old : List ℕ) where
             | no y ↦ (let z : f ≡ g = omega arith in
                 subst (λ (i : ℕ). getD (set sets f v) i 0 ≡ new i) z (getD-set-same sets f v 0 (omega (arith, s .size)) ∙ e))
           ]
-
--- the row of flow k is that at the start, since it is joined with itself
-pub swept-row : (n k : ℕ) (old : List ℕ) (f : ℕ) (sets : List ℕ) → Filling n (λ g. absorbed (getD old g 0) (getD old k 0) k) old f sets → getD sets k 0 ≡ getD old k 0
-swept-row n k old f sets s = elim (decLt k f) [ yes x ↦ s .done k x ∙ absorbed-self (getD old k 0) k | no x ↦ s .left k (omega arith) ]
 
 -- ---- what the sets are
 

@@ -74,9 +74,10 @@ fn sweep(n: u32, k: u32, sets: &mut [u64])
     requires { ⌜ (n ≤ length (now sets)) × (k < n) ⌝ }
     ensures { λ _. ⌜ Swept n k (now (sets .entry)) (now (sets .exit)) × Left n (now (sets .entry)) (now (sets .exit)) ⌝ }
 {
+    let through = sets[k as usize];
     let mut f: u32 = 0;
     while f < n {
-        sets[f as usize] = absorb(sets[f as usize], sets[k as usize], k);
+        sets[f as usize] = absorb(sets[f as usize], through, k);
         f += 1;
     }
 }

@@ -1,20 +1,26 @@
 -- `reach::sweep` meets its contract. Assumes nothing.
-use mathlib.Core.Path.{_∙_, ap₂}
+use mathlib.Core.Path.{_∙_, ap}
 use Prim.Native.Nat.{ℕ, _-_}
 use native.Mathlib.Omega.{arith}
 use lib.ListN.{getD}
 use denote.Ref.{now}
 use borrow.Author.Needs.{needs}
 use Rattle.reach.specs.Private.Steps.{absorbed}
-use Rattle.reach.proofs.Sweeping.{Filling, filling-none, filling-more, swept-row}
+use Rattle.reach.proofs.Sweeping.{Filling, filling-none, filling-more}
 use Rattle.reach.proofs.sweep.Statement.{statement}
 use Rattle.reach.proofs.sweep.Tie as tie
 
 abbrev Inv-loop : tie.InvT-loop
-Inv-loop n k sets₀ f₀ sets f = Filling n (λ g. absorbed (getD sets₀ g 0) (getD sets₀ k 0) k) sets₀ f sets
+Inv-loop n k sets₀ through f₀ sets f = Filling n (λ g. absorbed (getD sets₀ g 0) through k) sets₀ f sets
 
 abbrev μ-loop : tie.MeasureT-loop
-μ-loop n k sets₀ f₀ sets f = n - f
+μ-loop n k sets₀ through f₀ sets f = n - f
+
+mul-through : tie.Need-mul-through Inv-loop μ-loop
+mul-through c = search needs
+
+slice-read-through : tie.Need-slice-read-through Inv-loop μ-loop
+slice-read-through c = search needs
 
 loop-holds : tie.Need-loop-holds Inv-loop μ-loop
 loop-holds c = filling-none _ _ _
@@ -28,12 +34,6 @@ mul-absorb c = search needs
 slice-read-absorb : tie.Need-slice-read-absorb Inv-loop μ-loop
 slice-read-absorb c = omega (arith, c .before .before .loop .inv .size)
 
-mul-absorb-2 : tie.Need-mul-absorb-2 Inv-loop μ-loop
-mul-absorb-2 c = search needs
-
-slice-read-absorb-2 : tie.Need-slice-read-absorb-2 Inv-loop μ-loop
-slice-read-absorb-2 c = omega (arith, c .before .before .before .loop .inv .size)
-
 absorb-requires : tie.Need-absorb-requires Inv-loop μ-loop
 absorb-requires c κs = search needs
 
@@ -44,7 +44,7 @@ mul-sets : tie.Need-mul-sets Inv-loop μ-loop
 mul-sets c = search needs
 
 slice-write-sets : tie.Need-slice-write-sets Inv-loop μ-loop
-slice-write-sets c = omega (arith, c .before .before .before .before .loop .inv .size)
+slice-write-sets c = omega (arith, c .before .before .before .loop .inv .size)
 
 add-f : tie.Need-add-f Inv-loop μ-loop
 add-f c = search needs
@@ -54,11 +54,10 @@ loop-less c = search needs
 
 loop-again : tie.Need-loop-again Inv-loop μ-loop
 loop-again c =
-    let a = c .before .before .before .before .before .before .args in
-    let p = c .before .before .before .before .before .before .pre in
-    let l = c .before .before .before .before .loop in
-    filling-more _ _ _ (l .f) (l .sets) (c .absorb .result) (p .0) (search needs) (l .inv)
-    (c .absorb .ensures ∙ ap₂ (λ (x y : ℕ). absorbed x y (a .k)) (l .inv .left (l .f) (search needs)) (swept-row (a .n) (a .k) (now (a .sets)) (l .f) (l .sets) (l .inv)))
+    let l = c .before .before .before .loop in
+    let start = c .before .before .before .before .before .before in
+    filling-more _ _ _ (l .f) (l .sets) (c .absorb .result) (start .pre .0) (search needs) (l .inv)
+    (c .absorb .ensures ∙ ap (λ (x : ℕ). absorbed x (getD (now (start .args .sets)) (start .args .k) 0) (start .args .k)) (l .inv .left (l .f) (search needs)))
 
 same-length : tie.Need-same-length Inv-loop μ-loop
 same-length c = c .before .loop .inv .size
@@ -72,12 +71,12 @@ sweep-spec =
     (tie.spec
     Inv-loop
     μ-loop
+    mul-through
+    slice-read-through
     loop-holds
     cast-absorb
     mul-absorb
     slice-read-absorb
-    mul-absorb-2
-    slice-read-absorb-2
     absorb-requires
     cast-sets
     mul-sets
