@@ -329,6 +329,26 @@ uint32_t baarqidho_restore(uint32_t plan_count, const uint32_t *words, size_t wo
                            uint32_t *values, size_t values_len,
                            uint32_t *flow, uint32_t *tick, uint32_t *count);
 
+/*
+ * Gives for each flow the inputs that it feels, as a set in 64 bits, the lowest one for row 0: bit i of sets[f] is 1
+ * exactly where row i is an input of kind 0 from which flow f can be reached. A flow can be reached from itself, from
+ * each flow that its row names (operands, beat and source) or that a condition of its clock is about, and from whatever
+ * these can be reached from. So registers may feed each other and themselves.
+ *
+ * Two runs of more than t ticks whose logs agree on the inputs of a flow's set, at those inputs' own ticks (phase plus
+ * whole periods) up to tick t, give that flow the same marks and values up to tick t; the runs need not have equally
+ * many ticks. A set may have more inputs than the values feel, as that of x - x has.
+ *
+ * Success: count is the number of flows; exactly count sets are written, later ones are left as they were. Refusals, in
+ * this order, each of which leaves all of `sets` as it was:
+ *   11, then row by row 13, 14, 15, as in baarqidho_check
+ *   row by row 23, 21, 22, 40, then 21 of a register's source, as in baarqidho_check
+ *   10  `sets` has fewer than plan_count sets (BAARQIDHO_MAX_FLOWS is enough for every table)
+ */
+uint32_t baarqidho_felt_inputs(uint32_t plan_count, const uint32_t *words, size_t words_len,
+                               uint64_t *sets, size_t sets_len,
+                               uint32_t *flow, uint32_t *tick, uint32_t *count);
+
 #ifdef __cplusplus
 }
 #endif

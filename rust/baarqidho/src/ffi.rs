@@ -167,6 +167,17 @@ extern "C" {
         tick: *mut u32,
         count: *mut u32,
     ) -> u32;
+
+    fn baarqidho_felt_inputs(
+        plan_count: u32,
+        words: *const u32,
+        words_len: usize,
+        sets: *mut u64,
+        sets_len: usize,
+        flow: *mut u32,
+        tick: *mut u32,
+        count: *mut u32,
+    ) -> u32;
 }
 
 /// Makes a call that returns its number and puts flow, tick and count through the three pointers.
@@ -612,6 +623,44 @@ pub fn restore(
                 marks.len(),
                 values.as_mut_ptr(),
                 values.len(),
+                flow,
+                tick,
+                count,
+            )
+        }
+    })
+}
+
+/// Gives for each flow of a plain table the inputs that it feels, as a set in 64 bits, the lowest one for row 0: bit i
+/// of `sets[f]` is 1 exactly where row i is an input from which flow f can be reached. A flow can be reached from
+/// itself, from each flow that its row names (operands, beat and source) or that a condition of its clock is about, and
+/// from whatever these can be reached from.
+///
+/// Two runs of more than t ticks whose logs agree on the inputs of a flow's set, at those inputs' own ticks up to tick
+/// t, give that flow the same marks and values up to tick t.
+///
+/// Success gives the count of flows and writes exactly their sets. Refusals, none of which touches `sets`: 11, 13, 14,
+/// 15, those of the check (23, 21, 22 and 40), and 10 where `sets` has fewer than one a flow.
+/// [`MAX_FLOWS`](crate::MAX_FLOWS) are enough for every table.
+///
+/// ```
+/// // Two inputs, a register of the sum that follows, the sum of the second input and it, and every fourth of the first.
+/// let words = [0, 2, 0, 0, 0, 2, 0, 0, 7, 5, 1, 3, 2, 1, 2, 0, 9, 0, 4, 0];
+/// let mut sets = [9; 6];
+/// let answer = baarqidho::felt_inputs(5, &words, &mut sets);
+/// assert_eq!((answer.number, answer.count), (0, 5));
+/// assert_eq!(sets, [0b01, 0b10, 0b10, 0b10, 0b01, 9]);
+/// ```
+pub fn felt_inputs(plan_count: u32, words: &[u32], sets: &mut [u64]) -> Answer {
+    answer(|flow, tick, count| {
+        // SAFETY: pointers and lengths are those of live slices, `sets` lent to this call alone.
+        unsafe {
+            baarqidho_felt_inputs(
+                plan_count,
+                words.as_ptr(),
+                words.len(),
+                sets.as_mut_ptr(),
+                sets.len(),
                 flow,
                 tick,
                 count,

@@ -4,13 +4,14 @@
 //! table, gives each flow its clock (the check), replays an input log into a trace (the run) or, over millions of
 //! ticks, into a window and tallies (the long run), lists the clocks as text, prints what each flow costs (the load
 //! page), takes out of a plan whose clocks differ the fewest flows that still do (the least part), fills in the rates
-//! of inputs that were written without one, and stores of a trace the values that are present (the archive).
+//! of inputs that were written without one, stores of a trace the values that are present (the archive), and tells
+//! which inputs each flow feels.
 //!
 //! There are two layers. [`read()`], [`write()`], [`check()`], [`run()`], [`long_run()`], [`listing()`],
-//! [`load_page()`], [`least_part()`], [`least_flows()`], [`fill_rates()`], [`stored_words()`], [`store()`] and
-//! [`restore()`] are the library's calls over slices that the caller lends; each takes any arguments and returns an
-//! [`Answer`]. [`Plan`] owns its words, is made of [`Row`]s, words or packed bytes, and returns [`Refusal`]s as errors;
-//! that of a run is a [`RunError`], which has the trace up to a clash.
+//! [`load_page()`], [`least_part()`], [`least_flows()`], [`fill_rates()`], [`stored_words()`], [`store()`],
+//! [`restore()`] and [`felt_inputs()`] are the library's calls over slices that the caller lends; each takes any
+//! arguments and returns an [`Answer`]. [`Plan`] owns its words, is made of [`Row`]s, words or packed bytes, and returns
+//! [`Refusal`]s as errors; that of a run is a [`RunError`], which has the trace up to a clash.
 //!
 //! ```
 //! use baarqidho::{Plan, Row, RunError};
@@ -44,8 +45,8 @@ mod trace;
 
 pub use answer::{Answer, Refusal};
 pub use clock::{Clock, Condition};
-pub use ffi::{check, fill_rates, least_flows, least_part, listing, load_page, long_run, read, restore, run, store};
-pub use ffi::{stored_words, write};
+pub use ffi::{check, felt_inputs, fill_rates, least_flows, least_part, listing, load_page, long_run, read, restore};
+pub use ffi::{run, store, stored_words, write};
 pub use least::LeastPart;
 pub use long::LongRun;
 pub use plan::{list, Plan};

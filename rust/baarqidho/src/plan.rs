@@ -1,7 +1,7 @@
 //! A plan that owns its words, and the calls over it.
 
-use crate::{check, fill_rates, least_flows, least_part, listing, load_page, long_run, read, restore, run, store};
-use crate::{stored_words, write};
+use crate::{check, felt_inputs, fill_rates, least_flows, least_part, listing, load_page, long_run, read, restore};
+use crate::{run, store, stored_words, write};
 use crate::{Clash, Clock, LeastPart, LongRun, Refusal, Row, RunError, Trace};
 use crate::{CLOCK_WORDS, LISTING_MAX, MAX_FLOWS, MAX_LONG_TICKS, MAX_TICKS, PACKED_MAX, PAGE_MAX, ROW_WORDS};
 use crate::{TALLY_WORDS, WINDOW_TICKS};
@@ -336,6 +336,43 @@ impl Plan {
         let (mut marks, mut values) = (vec![0; cells], vec![0; cells]);
         restore(self.count(), &self.words, ticks, stored, &mut marks, &mut values).result()?;
         Ok(Trace::new(self.flows(), cells, marks, values))
+    }
+
+    /// The inputs that each flow feels, ascending: those from which it can be reached, through operands, beats, sources
+    /// and conditions, an input from itself too. Two runs of more than t ticks whose logs agree on these inputs, at
+    /// their own ticks up to tick t, give the flow the same values up to tick t. So when a sensor is swapped, the flows
+    /// that do not feel it need not be tested again.
+    ///
+    /// ```
+    /// use baarqidho::{Plan, Row};
+    ///
+    /// // A torque and an angle, the sum of all angles, which a register feeds back to it, whether the torque is below
+    /// // that, and every sixth torque.
+    /// let plan = Plan::from_rows([
+    ///     Row::Input { period: 10, phase: 0 },
+    ///     Row::Input { period: 10, phase: 0 },
+    ///     Row::Register { initial: 0, beat: 1, source: 3 },
+    ///     Row::Add { a: 1, b: 2 },
+    ///     Row::Less { a: 0, b: 3 },
+    ///     Row::Slower { a: 0, k: 6 },
+    /// ]);
+    /// let felt = plan.felt_inputs()?;
+    /// assert_eq!(felt, [vec![0], vec![1], vec![1], vec![1], vec![0, 1], vec![0]]);
+    ///
+    /// // Another sensor for the angle, input 1: what is to be tested again?
+    /// let again: Vec<usize> = (0..plan.flows()).filter(|&flow| felt[flow].contains(&1)).collect();
+    /// assert_eq!(again, [1, 2, 3, 4]);
+    /// # Ok::<(), baarqidho::Refusal>(())
+    /// ```
+    ///
+    /// # Errors
+    ///
+    /// The refusal of [`felt_inputs()`]: 11, 13, 14, 15, 21, 22, 23 or 40.
+    pub fn felt_inputs(&self) -> Result<Vec<Vec<u32>>, Refusal> {
+        let mut sets = [0; MAX_FLOWS];
+        let flows = felt_inputs(self.count(), &self.words, &mut sets).result()?;
+        let members = |&set: &u64| (0..MAX_FLOWS as u32).filter(|flow| set >> flow & 1 == 1).collect();
+        Ok(sets[..flows].iter().map(members).collect())
     }
 
     /// How many cells a clash has before it. That of a register is found after all flows of its tick.

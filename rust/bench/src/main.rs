@@ -1,9 +1,10 @@
 //! The proved library against Rust, in one process and on the same input. The run is measured against two others: the
 //! same algorithm in safe Rust (`peer::mirror`), and a quick run with rows made ready beforehand (`peer::run`). The
 //! long run is measured against the long runs of both, and against the library's run of the same ticks. Storing a trace
-//! and restoring it are measured against both, over plans without conditions. Check, write, read, load page, least part
-//! and rates filled in are measured against the quick implementation, the least part over plans whose last row is one
-//! that clashes, rates filled in over plans that lack them.
+//! and restoring it are measured against both, over plans without conditions. Check, write, read, load page, felt inputs,
+//! least part and rates filled in are measured against the quick implementation, felt inputs also over plans of registers
+//! that feed each other, the least part over plans whose last row is one that clashes, rates filled in over plans that
+//! lack them.
 //!
 //!     cargo run --release -p bench
 //!
@@ -21,9 +22,10 @@
 //!
 //! `bench call CALL PLAN FLOWS CALLS` makes one call of the library so many times and nothing else that depends on how
 //! many, so that the instructions of a call are the difference between two counts of calls, divided by the calls
-//! between them, here 1,000. CALL is check, write, read, listing, page (the load page), least (the least part) or flows
-//! (the numbers of its flows), the last two over at least two flows, or fill (rates filled in). For write, read and fill
-//! PLAN may also be unrated (all inputs but one) or upward (an input under a long chain), of at least three flows:
+//! between them, here 1,000. CALL is check, write, read, listing, page (the load page), felt (the inputs that flows feel),
+//! least (the least part) or flows (the numbers of its flows), the last two over at least two flows, or fill (rates filled
+//! in). PLAN may also be fed (registers that feed each other), of at least two flows, and for write, read and fill unrated
+//! (all inputs but one) or upward (an input under a long chain), of at least three flows:
 //!
 //!     valgrind --tool=callgrind --callgrind-out-file=/dev/null target/release/bench call page mixed 64 1000
 //!     valgrind --tool=callgrind --callgrind-out-file=/dev/null target/release/bench call page mixed 64 2000
@@ -39,7 +41,7 @@ use std::process::ExitCode;
 
 use archive::CALLS;
 use measure::linear;
-use plans::{mixed, paces, rare, sparse, sums, unrated, upward, views, Plan};
+use plans::{fed, mixed, paces, rare, sparse, sums, unrated, upward, views, Plan};
 use runs::{LONG, LONG_AND_PLAIN, RUNS};
 
 /// As many ticks as a run may have, and a long run.
@@ -103,10 +105,15 @@ fn report() {
         linear("128 times the ticks", &growth);
     }
 
-    tables::heading("Check, write, read, load page and least part, a call");
+    tables::heading("Check, write, read, load page, felt inputs and least part, a call");
     for flows in [1, 4, 16, 64] {
         tables::table(&mixed(flows));
         tables::table(&sums(flows));
+    }
+
+    tables::heading("Felt inputs, a call");
+    for flows in [4, 16, 64] {
+        tables::felt(&fed(flows));
     }
 
     tables::heading("Rates filled in, a call");
@@ -126,6 +133,7 @@ fn plan(name: &str, flows: &str) -> Option<Plan> {
         "views" => views(flows),
         "paces" => paces(flows),
         "rare" => rare(flows),
+        "fed" if flows >= 2 => fed(flows),
         "unrated" if flows >= 3 => unrated(flows),
         "upward" if flows >= 3 => upward(flows),
         _ => return None,
@@ -155,7 +163,7 @@ fn main() -> ExitCode {
         let (runs, calls) = (runs::names().join("|"), tables::names().join("|"));
         eprintln!("bench, or bench run mixed|sparse|sums|views|paces|rare FLOWS TICKS {runs}");
         eprintln!("or bench archive store|restore sums|paces|rare FLOWS TICKS {}", archive::names().join("|"));
-        eprintln!("or bench call {calls} mixed|sparse|sums|views|paces|rare|unrated|upward FLOWS CALLS");
+        eprintln!("or bench call {calls} mixed|sparse|sums|views|paces|rare|fed|unrated|upward FLOWS CALLS");
         return ExitCode::FAILURE;
     }
     ExitCode::SUCCESS

@@ -121,6 +121,15 @@ pub fn upward(flows: usize) -> Plan {
     Plan::new("upward", &rows)
 }
 
+/// A constant, registers of which each has the next one for its source, and an input for that of the last: all but the
+/// constant feel the input. Two flows have no register.
+pub fn fed(flows: usize) -> Plan {
+    let mut rows = vec![[1, 7, 1, 0]];
+    rows.extend((1..flows as u32 - 1).map(|flow| [7, 7, 0, flow + 1]));
+    rows.push([0, 1, 0, 0]);
+    Plan::new("fed", &rows)
+}
+
 /// One input, and sums over it and the flow before.
 pub fn sums(flows: usize) -> Plan {
     let mut rows = vec![[0, 1, 0, 0]];

@@ -1,5 +1,5 @@
-//! Check, write, read, load page, least part and rates filled in: library and quick implementation. The library's
-//! calls, with the listing and the least part's flows, so many times.
+//! Check, write, read, load page, felt inputs, least part and rates filled in: library and quick implementation. The
+//! library's calls, with the listing and the least part's flows, so many times.
 
 use std::hint::black_box;
 
@@ -26,16 +26,17 @@ impl<'a> Given<'a> {
     }
 }
 
-/// The buffers that the calls are lent: of clocks, plain rows or flows, and of packed rows or text.
+/// The buffers that the calls are lent: of clocks, plain rows or flows, of packed rows or text, and of sets.
 #[derive(PartialEq)]
 struct Lent {
     words: [u32; baarqidho::CLOCK_WORDS * 64],
     bytes: [u8; baarqidho::LISTING_MAX],
+    sets: [u64; 64],
 }
 
 impl Lent {
     fn new() -> Self {
-        Lent { words: [0; baarqidho::CLOCK_WORDS * 64], bytes: [0; baarqidho::LISTING_MAX] }
+        Lent { words: [0; baarqidho::CLOCK_WORDS * 64], bytes: [0; baarqidho::LISTING_MAX], sets: [0; 64] }
     }
 }
 
@@ -66,13 +67,17 @@ macro_rules! call {
 }
 
 /// The calls that are measured on every plan, the last one over the plan that clashes.
-const MEASURED: [Call; 5] = [
+const MEASURED: [Call; 6] = [
     call!("check", check, |given, lent| (given.count, given.words, &mut lent.words)),
     call!("write", write, |given, lent| (given.count, given.words, &mut lent.bytes)),
     call!("read", read, |given, lent| (&given.packed, &mut lent.words)),
     call!("page", load_page, |given, lent| (given.count, given.words, &given.times, &mut lent.bytes)),
+    FELT,
     call!("least", least_part, |given, lent| (given.count, &given.clashing, &mut lent.words)),
 ];
+
+/// The inputs that flows feel, which is also measured on plans of registers that feed each other.
+const FELT: Call = call!("felt", felt_inputs, |given, lent| (given.count, given.words, &mut lent.sets));
 
 /// Rates filled in, which is measured on plans that lack some.
 const FILL: Call = call!("fill", fill_rates, |given, lent| (given.count, given.words, &mut lent.words));
@@ -113,10 +118,15 @@ fn many(calls: u32, count: u32, make: Make, given: &Given, lent: &mut Lent) {
     }
 }
 
-/// Measures check, write, read, load page and least part of one plan; both give the same clocks, bytes, words and text.
-/// One flow has no least part.
+/// Measures check, write, read, load page, felt inputs and least part of one plan; both give the same clocks, bytes,
+/// words, text and sets. One flow has no least part.
 pub fn table(plan: &Plan) {
     calls(plan, MEASURED);
+}
+
+/// Measures felt inputs of one plan; both give the same sets.
+pub fn felt(plan: &Plan) {
+    calls(plan, [FELT]);
 }
 
 /// Measures rates filled in of one plan; both give the same words.

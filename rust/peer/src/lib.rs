@@ -1,11 +1,12 @@
-//! Bench plans, quick: read, write, check, run, long run, listing, load page, least part, rates filled in and traces in
-//! the archive, without the heap; a run and the archive have constant work a cell.
+//! Bench plans, quick: read, write, check, run, long run, listing, load page, least part, rates filled in, traces in the
+//! archive and the inputs that a flow feels, without the heap; a run and the archive have constant work a cell.
 //!
 //! The run carries between ticks only what each kind of row needs, so that no cell looks through the trace again.
 //! It is what the proved library is measured against, with the runs and the archive of [`mirror`] beside it.
 
 mod archive;
 mod check;
+mod felt;
 mod fill;
 mod least;
 mod listing;
@@ -18,6 +19,7 @@ mod steps;
 
 pub use archive::{restore, store, stored_words};
 pub use check::check;
+pub use felt::felt_inputs;
 pub use fill::fill_rates;
 pub use least::{least_flows, least_part};
 pub use listing::listing;

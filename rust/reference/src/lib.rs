@@ -1,15 +1,17 @@
 //! Bench plans as the paper words them: read, write, check, run, long run, listing, load page, least part, rates filled
-//! in and traces in the archive, each rule one function.
+//! in, traces in the archive and the inputs that a flow feels, each rule one function.
 //!
 //! Nothing here is quick. Packed tables are read and written bit by bit, and the run keeps no state: it looks
 //! into the history of the trace for everything it needs. The least part is looked for among all sets of flows, and
-//! rates among all fillings within given limits. Of a trace in the archive every tick is asked whether it is due. It is
-//! what the other implementations are held against.
+//! rates among all fillings within given limits. Of a trace in the archive every tick is asked whether it is due. The
+//! inputs that a flow feels are looked for depth first, from each input anew. It is what the other implementations are
+//! held against.
 
 mod archive;
 mod bits;
 mod check;
 mod clock;
+mod felt;
 mod fill;
 mod least;
 mod listing;
@@ -22,6 +24,7 @@ mod run;
 
 pub use archive::{restore, store, stored_words};
 pub use check::check;
+pub use felt::felt_inputs;
 pub use fill::{accepted_fillings, fill_rates, fill_rates_within, Limits};
 pub use least::{least_flows, least_part, LEAST_MAX};
 pub use listing::listing;

@@ -16,10 +16,12 @@
 /* Room for all ticks of four flows. */
 #define ROOM (4 * (BAARQIDHO_MAX_TICKS + 1))
 
-/* What the calls write into; each uses one of the first two, or both, and the long run all three. */
+/* What the calls write into; each uses one of the first two, or both, the long run all three, and felt inputs the
+   last. */
 static uint8_t bytes[ROOM];
 static uint32_t words[ROOM];
 static uint32_t tallies[BAARQIDHO_MAX_FLOWS];
+static uint64_t sets[BAARQIDHO_MAX_FLOWS + 1];
 
 /* The answer of the last call, and what it was. */
 static uint32_t number, flow, tick, count;
@@ -33,6 +35,7 @@ static inline void begin(const char *name)
     memset(bytes, FILLING, sizeof bytes);
     memset(words, FILLING, sizeof words);
     memset(tallies, FILLING, sizeof tallies);
+    memset(sets, FILLING, sizeof sets);
 }
 
 static inline void same(const char *part, uint32_t found, uint32_t expected)
@@ -73,11 +76,27 @@ static inline void wrote(const uint8_t *of_bytes, size_t bytes_len, const uint32
     has("a word", words, LENGTH(words), of_words, words_len);
 }
 
+/* The sets are exactly these, and as they were behind them. */
+static inline void felt(const uint64_t *of_sets, size_t sets_len)
+{
+    uint64_t expected;
+    size_t place;
+
+    for (place = 0; place < LENGTH(sets); place++) {
+        memset(&expected, FILLING, sizeof expected);
+        if (place < sets_len)
+            expected = of_sets[place];
+        same("the lower half of a set", (uint32_t)sets[place], (uint32_t)expected);
+        same("the upper half of a set", (uint32_t)(sets[place] >> 32), (uint32_t)(expected >> 32));
+    }
+}
+
 static inline void refuses(uint32_t of_number, uint32_t of_flow)
 {
     answers(of_number, of_flow, 0, 0);
     wrote(NULL, 0, NULL, 0);
     has("a tally", tallies, LENGTH(tallies), NULL, 0);
+    felt(NULL, 0);
 }
 
 static inline void reads(const char *name, const uint8_t *packed, size_t packed_len, size_t words_len)
@@ -182,6 +201,12 @@ static inline void restores(const char *name, const uint32_t *of, size_t words_l
     begin(name);
     number = baarqidho_restore((uint32_t)(words_len / BAARQIDHO_ROW_WORDS), of, words_len, ticks, stored, stored_len,
                                bytes, marks_len, words, values_len, &flow, &tick, &count);
+}
+
+static inline void feels(const char *name, uint32_t plan_count, const uint32_t *of, size_t words_len, size_t sets_len)
+{
+    begin(name);
+    number = baarqidho_felt_inputs(plan_count, of, words_len, sets, sets_len, &flow, &tick, &count);
 }
 
 #endif /* ANSWERS_H */

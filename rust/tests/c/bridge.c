@@ -6,7 +6,7 @@
  * reply is number, flow, tick and count, then the slices written into, as they are afterwards. All in the machine's
  * order of bytes.
  *
- * `declared.h` is made from `baarqidho.h` by the test: READ_DECLARED and the twelve others are the calls with the
+ * `declared.h` is made from `baarqidho.h` by the test: READ_DECLARED and the thirteen others are the calls with the
  * header's own parameter names for arguments. A name that stands in another's place there is a wrong argument here.
  */
 #include <stdio.h>
@@ -197,6 +197,15 @@ static void answer_restore(void)
     GIVE(values);
 }
 
+static void answer_felt_inputs(void)
+{
+    uint32_t plan_count = take_number();
+    TAKE(uint32_t, words);
+    TAKE(uint64_t, sets);
+    ANSWER(FELT_INPUTS_DECLARED);
+    GIVE(sets);
+}
+
 int main(void)
 {
     int letter;
@@ -216,6 +225,7 @@ int main(void)
         case 'k': answer_stored_words(); break;
         case 's': answer_store(); break;
         case 'S': answer_restore(); break;
+        case 'i': answer_felt_inputs(); break;
         default: return 1;
         }
         fflush(stdout);

@@ -19,6 +19,8 @@ pub struct Outcome {
     pub words: Vec<u32>,
     /// The tallies of a long run.
     pub tallies: Vec<u32>,
+    /// The sets of inputs that flows feel.
+    pub sets: Vec<u64>,
 }
 
 impl Outcome {
@@ -29,6 +31,7 @@ impl Outcome {
             bytes: pattern_bytes(lengths.bytes + GUARD),
             words: pattern_words(lengths.words + GUARD),
             tallies: pattern_words(lengths.tallies + GUARD),
+            sets: pattern_sets(lengths.sets + GUARD),
         }
     }
 
@@ -37,6 +40,7 @@ impl Outcome {
         self.bytes == pattern_bytes(self.bytes.len())
             && self.words == pattern_words(self.words.len())
             && self.tallies == pattern_words(self.tallies.len())
+            && self.sets == pattern_sets(self.sets.len())
     }
 }
 
@@ -49,6 +53,8 @@ pub struct Lengths {
     pub words: usize,
     /// How many words for tallies.
     pub tallies: usize,
+    /// How many sets.
+    pub sets: usize,
 }
 
 /// The buffers that a call is lent.
@@ -56,6 +62,7 @@ struct Lent<'a> {
     bytes: &'a mut [u8],
     words: &'a mut [u32],
     tallies: &'a mut [u32],
+    sets: &'a mut [u64],
 }
 
 /// The byte that a place has before a call: neither 0 nor 1, so that no mark can hide in it.
@@ -68,12 +75,21 @@ pub fn pattern_word(place: usize) -> u32 {
     0xA5C3_0000 | (place as u32).wrapping_mul(0x9E37) & 0xFFFF
 }
 
+/// The set that a place has before a call, in both halves a word that the other has not.
+fn pattern_set(place: usize) -> u64 {
+    u64::from(pattern_word(place)) << 32 | u64::from(!pattern_word(place))
+}
+
 fn pattern_bytes(len: usize) -> Vec<u8> {
     (0..len).map(pattern_byte).collect()
 }
 
 fn pattern_words(len: usize) -> Vec<u32> {
     (0..len).map(pattern_word).collect()
+}
+
+fn pattern_sets(len: usize) -> Vec<u64> {
+    (0..len).map(pattern_set).collect()
 }
 
 /// Makes the same call with each implementation, the first being the measure of the others, and compares all that
@@ -90,6 +106,7 @@ fn compare(
             bytes: &mut outcome.bytes[..lengths.bytes],
             words: &mut outcome.words[..lengths.words],
             tallies: &mut outcome.tallies[..lengths.tallies],
+            sets: &mut outcome.sets[..lengths.sets],
         };
         outcome.parts = call(implementation, lent);
         outcome
@@ -108,12 +125,13 @@ fn compare(
 /// The parts of two outcomes, and the first cells in which they differ.
 fn differences(found: &Outcome, expected: &Outcome) -> String {
     format!(
-        "(number, flow, tick, count) {:?}, expected {:?}; first other byte {:?}, word {:?} and tally {:?}",
+        "(number, flow, tick, count) {:?}, expected {:?}; first other byte {:?}, word {:?}, tally {:?} and set {:?}",
         found.parts,
         expected.parts,
         first_difference(&found.bytes, &expected.bytes),
         first_difference(&found.words, &expected.words),
         first_difference(&found.tallies, &expected.tallies),
+        first_difference(&found.sets, &expected.sets),
     )
 }
 
@@ -125,7 +143,7 @@ fn first_difference<T: PartialEq + Copy + Debug>(found: &[T], expected: &[T]) ->
 
 /// Buffers of so many bytes and words.
 fn lengths(bytes: usize, words: usize) -> Lengths {
-    Lengths { bytes, words, tallies: 0 }
+    Lengths { bytes, words, ..Lengths::default() }
 }
 
 /// Reads packed bytes into a buffer of that many words.
@@ -233,6 +251,13 @@ pub fn restore(
     })
 }
 
+/// Gives the inputs that the flows of a plan feel in a buffer of that many sets.
+pub fn felt_inputs(of: &[&Implementation], plan: &Plan, sets_len: usize) -> Outcome {
+    let context = || format!("felt inputs of {plan:?} into {sets_len} sets");
+    let lengths = Lengths { sets: sets_len, ..Lengths::default() };
+    compare(of, lengths, context, |of, lent| (of.felt_inputs)(plan.count, &plan.words, lent.sets))
+}
+
 /// A run in words, for messages.
 fn of_run(plan: &Plan, log: &[u32], ticks: u32) -> String {
     let shown = &log[..log.len().min(200)];
@@ -255,7 +280,7 @@ pub fn run_exactly(of: &[&Implementation], plan: &Plan, log: &[u32], ticks: u32)
 
 /// The buffers that a long run of so many flows needs: marks, values and tallies.
 pub fn window(flows: usize) -> Lengths {
-    Lengths { bytes: WINDOW * flows, words: WINDOW * flows, tallies: 2 * flows }
+    Lengths { bytes: WINDOW * flows, words: WINDOW * flows, tallies: 2 * flows, sets: 0 }
 }
 
 /// Makes a long run of a plan over a log with buffers of these lengths.
@@ -275,6 +300,12 @@ pub fn long_run_exactly(of: &[&Implementation], plan: &Plan, log: &[u32], ticks:
 pub fn words_are(outcome: &Outcome, words: &[u32]) -> bool {
     outcome.words[..words.len()] == *words
         && (words.len()..outcome.words.len()).all(|place| outcome.words[place] == pattern_word(place))
+}
+
+/// Whether a call wrote exactly these sets, and left the pattern everywhere behind them.
+pub fn sets_are(outcome: &Outcome, sets: &[u64]) -> bool {
+    outcome.sets[..sets.len()] == *sets
+        && (sets.len()..outcome.sets.len()).all(|place| outcome.sets[place] == pattern_set(place))
 }
 
 /// Whether a trace has exactly the first `cells` cells written, each a mark 0 or 1 and value 0 where absent, and the

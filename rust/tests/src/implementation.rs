@@ -3,7 +3,7 @@
 /// Number, flow, tick and count of an answer.
 pub type Parts = (u32, u32, u32, u32);
 
-/// An implementation of the thirteen calls.
+/// An implementation of the fourteen calls.
 #[derive(Debug)]
 pub struct Implementation {
     /// Its name, for messages.
@@ -38,6 +38,8 @@ pub struct Implementation {
     /// Count, words, ticks and stored words to marks and values.
     #[allow(clippy::type_complexity)]
     pub restore: fn(u32, &[u32], u32, &[u32], &mut [u8], &mut [u32]) -> Parts,
+    /// Count and words to the sets of inputs that flows feel.
+    pub felt_inputs: fn(u32, &[u32], &mut [u64]) -> Parts,
 }
 
 /// The calls of a crate; those that the benchmark has in the library's own steps may be of another module.
@@ -66,6 +68,7 @@ macro_rules! implementation {
             restore: |count, words, ticks, stored, marks, values| {
                 parts!($($steps)::+::restore(count, words, ticks, stored, marks, values))
             },
+            felt_inputs: |count, words, sets| parts!($krate::felt_inputs(count, words, sets)),
         }
     };
 }

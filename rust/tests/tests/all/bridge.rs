@@ -85,6 +85,14 @@ impl Bridge {
             *word = u32::from_ne_bytes(*bytes);
         }
     }
+
+    fn sets(&mut self, sets: &mut [u64]) {
+        let mut bytes = vec![0; 8 * sets.len()];
+        self.bytes(&mut bytes);
+        for (set, bytes) in sets.iter_mut().zip(bytes.as_chunks().0) {
+            *set = u64::from_ne_bytes(*bytes);
+        }
+    }
 }
 
 /// A request: the letter of a call and its arguments.
@@ -117,16 +125,29 @@ impl Request {
         request
     }
 
-    /// Makes the call, which writes into these bytes and these slices of words.
-    fn answer<const N: usize>(self, bytes: &mut [u8], words: [&mut [u32]; N]) -> Parts {
+    fn sets(self, sets: &[u64]) -> Self {
+        let mut request = self.number(sets.len() as u32);
+        request.0.extend(sets.iter().flat_map(|set| set.to_ne_bytes()));
+        request
+    }
+
+    /// Makes the call, and then takes from the reply what it wrote.
+    fn reply(self, written: impl FnOnce(&mut Bridge)) -> Parts {
         static BRIDGE: OnceLock<Mutex<Bridge>> = OnceLock::new();
         let mut bridge = BRIDGE.get_or_init(|| Mutex::new(Bridge::new())).lock().expect("no call failed before");
         bridge.ask(&self.0);
         let mut parts = [0; 4];
         bridge.words(&mut parts);
-        bridge.bytes(bytes);
-        words.into_iter().for_each(|words| bridge.words(words));
+        written(&mut bridge);
         parts.into()
+    }
+
+    /// Makes the call, which writes into these bytes and these slices of words.
+    fn answer<const N: usize>(self, bytes: &mut [u8], words: [&mut [u32]; N]) -> Parts {
+        self.reply(|bridge| {
+            bridge.bytes(bytes);
+            words.into_iter().for_each(|words| bridge.words(words));
+        })
     }
 }
 
@@ -163,5 +184,8 @@ pub static C: Implementation = Implementation {
     restore: |count, words, ticks, stored, marks, values| {
         let plan = Request::new(b'S').number(count).words(words).number(ticks);
         plan.words(stored).bytes(marks).words(values).answer(marks, [values])
+    },
+    felt_inputs: |count, words, sets| {
+        Request::new(b'i').number(count).words(words).sets(sets).reply(|bridge| bridge.sets(sets))
     },
 };

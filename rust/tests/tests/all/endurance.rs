@@ -28,7 +28,7 @@ fn traced(plan: &Plan, log: &[u32], ticks: u32) -> Outcome {
     if ticks == most {
         return run;
     }
-    let mut trace = Outcome { parts: (0, 0, 0, ticks), bytes: vec![], words: vec![], tallies: vec![] };
+    let mut trace = Outcome { parts: (0, 0, 0, ticks), bytes: vec![], words: vec![], tallies: vec![], sets: vec![] };
     for first in (0..ticks).step_by(WINDOW) {
         let end = ticks.min(first + WINDOW as u32);
         let window = long_run_exactly(&[&LIBRARY], plan, until(end), end);
@@ -100,10 +100,13 @@ fn few_ticks() {
         let plan = of_any_sort(&mut rng);
         let (ticks, log) = few_ticks_and_log(&mut rng, &plan);
         let flows = plan.words.len() / 4;
-        let Lengths { bytes, words, tallies } = window(flows);
+        let Lengths { bytes, words, tallies, .. } = window(flows);
         let lengths = match rng.percent(60) {
             true => window(flows),
-            false => Lengths { bytes: rng.around(bytes), words: rng.around(words), tallies: rng.around(tallies) },
+            false => {
+                let [bytes, words, tallies] = [bytes, words, tallies].map(|len| rng.around(len));
+                Lengths { bytes, words, tallies, sets: 0 }
+            }
         };
         let outcome = long_run(&FOUR, &plan, &log, ticks, lengths);
         let number = outcome.parts.0;

@@ -1,4 +1,4 @@
-//! The C header: its constants and numbers, its thirteen calls, and its example.
+//! The C header: its constants and numbers, its fourteen calls, and its example.
 
 use std::io::Write;
 use std::path::Path;
@@ -61,7 +61,7 @@ fn names_of_parameters() {
     let names: Vec<&str> = calls.iter().map(|call| &call.0[..]).collect();
     let plain = ["read", "write", "check", "run", "long_run", "listing"];
     let planned = ["load_page", "least_part", "least_flows", "fill_rates"];
-    let expected = [&plain[..], &planned, &["stored_words", "store", "restore"]].concat();
+    let expected = [&plain[..], &planned, &["stored_words", "store", "restore", "felt_inputs"]].concat();
     assert_eq!(names, expected);
     for (call, names) in calls {
         assert!(names.ends_with(&["flow", "tick", "count"].map(String::from)), "{call}: {names:?}");
@@ -86,7 +86,7 @@ fn the_example_lists_the_paper_plan() {
 
 /// Every number by its name, and every limit.
 fn all_programs_end_well(compiler: &[&str]) {
-    for program in ["numbers", "views", "slow", "archive"] {
+    for program in ["numbers", "views", "slow", "archive", "felt"] {
         printed(&compiled(compiler, &format!("rust/tests/c/{program}.c")));
     }
 }

@@ -1,7 +1,7 @@
 //! Every limit, and one past it.
 
-use tests::compare::{check, fill_rates, least_flows, least_part, listing, load_page, long_run, read, restore, run};
-use tests::compare::{run_exactly, store, stored_words, write, written_up_to, Lengths, Outcome};
+use tests::compare::{check, felt_inputs, fill_rates, least_flows, least_part, listing, load_page, long_run, read};
+use tests::compare::{restore, run, run_exactly, store, stored_words, write, written_up_to, Lengths, Outcome};
 use tests::implementation::{Parts, ALL, QUICK};
 use tests::rng::Rng;
 use tests::{Plan, LISTING_MAX, TICKS};
@@ -24,13 +24,20 @@ fn without_cells(plan: &Plan) -> [Outcome; 2] {
     [store(&ALL, plan, 1, (&[], &[]), 0), restore(&ALL, plan, 1, &[], (0, 0))]
 }
 
-/// What the check answers. A long run, a load page and the archive hand on its refusal; the least part is refused by 38,
-/// or for its room where the answer is 21; filling in rates, of which none is missing, by 21, or for its room.
+/// Felt inputs without room: refused by 10 where nothing else is wrong.
+fn without_sets(plan: &Plan) -> Outcome {
+    felt_inputs(&ALL, plan, 0)
+}
+
+/// What the check answers. A long run, a load page, the archive and felt inputs hand on its refusal; the least part is
+/// refused by 38, or for its room where the answer is 21; filling in rates, of which none is missing, by 21, or for its
+/// room.
 fn checked(rows: &[[u32; 4]]) -> Parts {
     let plan = Plan::of(rows);
     let parts = check(&ALL, &plan, 11 * rows.len()).parts;
     let archived = without_cells(&plan).map(|outcome| (outcome, if plan.free_of_sampling() { 42 } else { 41 }));
-    for (outcome, number) in archived.into_iter().chain([(without_buffers(&plan), 35), (without_times(&plan), 36)]) {
+    let others = [(without_buffers(&plan), 35), (without_times(&plan), 36), (without_sets(&plan), 10)];
+    for (outcome, number) in archived.into_iter().chain(others) {
         assert_eq!(outcome.parts, if parts.0 == 0 { (number, 0, 0, 0) } else { parts }, "{rows:?}");
     }
     for outcome in [least_part(&ALL, &plan, 0), least_flows(&ALL, &plan, 0)] {
@@ -48,7 +55,7 @@ fn all_refuse<const N: usize>(outcomes: [Outcome; N], plan: &Plan, number: u32, 
     }
 }
 
-/// Check, run, long run, load page, least part and archive refuse a plain table alike.
+/// Check, run, long run, load page, least part, archive and felt inputs refuse a plain table alike.
 fn refused_by_check(plan: &Plan, number: u32, row: u32) {
     let run = run(&ALL, plan, &[1, 2], 2, (9, 8));
     let page = load_page(&ALL, plan, &[1, 2], 1_690);
@@ -56,6 +63,7 @@ fn refused_by_check(plan: &Plan, number: u32, row: u32) {
     all_refuse([check(&ALL, plan, 489), run, without_buffers(plan), page, part, flows], plan, number, row);
     all_refuse([stored_words(&ALL, plan, u32::MAX)], plan, number, row);
     all_refuse(without_cells(plan), plan, number, row);
+    all_refuse([without_sets(plan), felt_inputs(&ALL, plan, 64)], plan, number, row);
 }
 
 /// Write and filling in rates, which know one kind more, refuse a plain table alike.

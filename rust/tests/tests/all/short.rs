@@ -1,7 +1,7 @@
 //! Many plans with short runs: all calls of all implementations, every cell compared.
 
-use tests::compare::{check, fill_rates, least_flows, least_part, listing, load_page, long_run, page_bytes, read};
-use tests::compare::{restore, run, store, stored_words, window, words_are, write, Lengths};
+use tests::compare::{check, felt_inputs, fill_rates, least_flows, least_part, listing, load_page, long_run};
+use tests::compare::{page_bytes, read, restore, run, store, stored_words, window, words_are, write, Lengths};
 use tests::faults::{any_rows, beyond, disturb, plant, spoil};
 use tests::generate::{accepted, erase_rates, Clock, Shape};
 use tests::implementation::{Implementation, ALL};
@@ -35,6 +35,7 @@ pub fn every_call(rng: &mut Rng, of: &[&Implementation], plan: &Plan, tally: &mu
     least(rng, of, plan, tally);
     fill(rng, of, plan, tally);
     archive(rng, of, plan, tally);
+    felt(rng, of, plan, tally);
 
     let written = write(of, plan, 520);
     tally.add("write", written.parts.0);
@@ -80,7 +81,7 @@ fn short_long_run(rng: &mut Rng, of: &[&Implementation], plan: &Plan, tally: &mu
     let (ticks, log) = ticks_and_log(rng, plan, &[4_194_304, 4_194_305, u32::MAX]);
     let lengths = match rng.below(4_000) {
         0 => window(plan.words.len() / 4),
-        _ => Lengths { bytes: rng.below(64), words: rng.below(64), tallies: rng.below(130) },
+        _ => Lengths { bytes: rng.below(64), words: rng.below(64), tallies: rng.below(130), sets: 0 },
     };
     let outcome = long_run(of, plan, &log, ticks, lengths);
     tally.add("long run", outcome.parts.0);
@@ -148,6 +149,13 @@ fn archive(rng: &mut Rng, of: &[&Implementation], plan: &Plan, tally: &mut Tally
         0 => assert!(!is_spoilt && words_are(&again, &stored[..words]), "{plan:?}"),
         _ => assert!(again.is_untouched()),
     }
+}
+
+/// The inputs that the flows feel, the room now and then too little.
+fn felt(rng: &mut Rng, of: &[&Implementation], plan: &Plan, tally: &mut Tally) {
+    let outcome = felt_inputs(of, plan, rng.around(plan.words.len() / 4));
+    tally.add("felt inputs", outcome.parts.0);
+    assert!(outcome.parts.0 == 0 || outcome.is_untouched());
 }
 
 /// Sound plans: accepted with the clocks that they were made to have, read back as written, and never a clash.

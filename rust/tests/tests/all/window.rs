@@ -261,14 +261,14 @@ fn sources_of_long_ago() {
 #[test]
 fn lengths() {
     let plan = Plan::of(&[[0, 4, 0, 0], [1, 7, 3, 2], [10, 0, 5, 0]]);
-    let Lengths { bytes, words, tallies } = window(3);
+    let Lengths { bytes, words, tallies, .. } = window(3);
     for ticks in [0, 1, 9, 131_071] {
         let log = counting(ticks as usize);
         let trace = run_exactly(&[&LIBRARY], &plan, &log, ticks);
         for case in 0..27 {
             let more = [case % 3, case / 3 % 3, case / 9];
-            let lengths =
-                Lengths { bytes: bytes + more[0] - 1, words: words + more[1] - 1, tallies: tallies + more[2] - 1 };
+            let [bytes, words, tallies] = [bytes + more[0] - 1, words + more[1] - 1, tallies + more[2] - 1];
+            let lengths = Lengths { bytes, words, tallies, sets: 0 };
             let outcome = long_run(quick_enough(ticks as usize), &plan, &log, ticks, lengths);
             if more.contains(&0) {
                 assert_eq!(outcome.parts, (35, 0, 0, 0), "{lengths:?}");

@@ -14,6 +14,7 @@ use tests::{rounds, TICKS, WINDOW};
 use crate::short::faulty;
 
 mod archive;
+mod felt;
 mod views;
 
 /// I's plan: two inputs, sampled and merged again.
