@@ -28,7 +28,8 @@ rests words ks f g = named words f g || conditionOn (clockAt ks f .conditions) g
 abbrev pub inputAt : List ℕ → Flows
 inputAt words i = eqb (rowWords words i .kind) 0
 
--- Flow f feels row i of a plan of m flows: an input from which f can be reached, so that f leads to it by what each flow rests on.
+-- Flow f feels row i of a plan of m flows: an input from which f can be reached, so that f leads to it by what each flow rests on. The
+-- standard term is f's cone of influence, of which these are the inputs.
 pub record Feels (m : ℕ) (words : List ℕ) (ks : List Clock) (f i : ℕ) : Type 0 where
   pub flow : i < m
   pub input : inputAt words i ≡ true

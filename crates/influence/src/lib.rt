@@ -16,7 +16,7 @@ ghost use Rattle.influence.specs.Felt.{inputAt, feltAnswer, feltAfter};
 // The kind of an input.
 const INPUT: u32 = 0;
 
-// The first n rows that are inputs.
+// Those of the first n rows that are inputs, as a set.
 fn inputs(n: u32, words: &[u32]) -> u64
     requires { ⌜ n ≤ maxFlows ⌝ }
     ensures { λ r. ⌜ r ≡ setOf (inputAt (now (words .entry))) n ⌝ }

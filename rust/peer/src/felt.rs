@@ -11,22 +11,19 @@ use crate::{Answer, MOST_FLOWS};
 /// Gives for each flow of a plain table the set of the inputs that it feels, the lowest bit for row 0. The count of the
 /// answer is that of the flows.
 pub fn felt_inputs(plan_count: u32, words: &[u32], sets: &mut [Set]) -> Answer {
-    let rows = match rows(plan_count, words) {
-        Ok(rows) => rows,
-        Err(refusal) => return refusal,
-    };
+    felt(plan_count, words, sets).unwrap_or_else(|refusal| refusal)
+}
+
+fn felt(plan_count: u32, words: &[u32], sets: &mut [Set]) -> Result<Answer, Answer> {
+    let rows = rows(plan_count, words)?;
     let mut clocks = [Clock::default(); MOST_FLOWS];
-    if let Err(refusal) = derive(rows, &mut clocks) {
-        return refusal;
-    }
-    let Some(out) = sets.get_mut(..rows.len()) else {
-        return Answer::number(10);
-    };
-    out.fill(0);
+    derive(rows, &mut clocks)?;
+    let sets = sets.get_mut(..rows.len()).ok_or(Answer::number(10))?;
+    sets.fill(0);
     let has_registers = rows.iter().any(|row| row[0] == 7);
     let flows = 0..rows.len();
-    while pass(rows, &clocks, out, flows.clone()) && has_registers && pass(rows, &clocks, out, flows.clone().rev()) {}
-    Answer::success(out.len())
+    while pass(rows, &clocks, sets, flows.clone()) && has_registers && pass(rows, &clocks, sets, flows.clone().rev()) {}
+    Ok(Answer::success(rows.len()))
 }
 
 /// Adds to the set of each flow those of the flows that its row names and its conditions are about. Tells whether one

@@ -22,6 +22,23 @@ fn merged() -> Plan {
     Plan::new([0, 4, 0, 0, 0, 4, 0, 0, 13, 0, 1, 0, 14, 0, 1, 0, 15, 1, 2, 3])
 }
 
+/// Plans that the check refuses, for each of its causes.
+fn refused() -> [(Plan, Refusal); 10] {
+    let (slow, when) = (Row::Input { period: 4095, phase: 0 }, Row::When { a: 0, c: 0 });
+    [
+        (Plan::new([0; 4 * 65]), Refusal::BadCount),
+        (Plan::new([]), Refusal::BadCount),
+        (Plan::new([0, 1, 0]), Refusal::BadCount),
+        (Plan::from_rows([slow, Row::Unrated]), Refusal::UnknownKind { row: 1 }),
+        (Plan::from_rows([slow, Row::Slower { a: 0, k: 64 }]), Refusal::FieldOutOfRange { row: 1 }),
+        (Plan::from_rows([slow, Row::Tail { a: 1 }]), Refusal::BadOperand { row: 1 }),
+        (Plan::from_rows([slow, when, Row::Add { a: 0, b: 1 }]), Refusal::ClocksDiffer { flow: 2 }),
+        (Plan::from_rows([slow, Row::Slower { a: 0, k: 17 }]), Refusal::BeyondLimits { flow: 1 }),
+        (Plan::from_rows([slow, when, Row::Tail { a: 1 }]), Refusal::NotPlain { flow: 2 }),
+        (Plan::from_rows([slow, Row::WhenSeen { a: 0, c: 0, w: 1 }]), Refusal::BadView { flow: 1 }),
+    ]
+}
+
 #[test]
 fn clocks_with_conditions() {
     let clocks = merged().clocks().expect("accepted");

@@ -8,6 +8,7 @@ use tests::rng::Rng;
 use tests::{rounds, TICKS};
 
 use crate::short::{faulty, sound};
+use crate::wrapper::refused;
 
 /// A reading every 3 ticks from tick 1 on, every second of them, and each of these 4 ticks later.
 fn recorder() -> Plan {
@@ -61,23 +62,8 @@ fn errors() {
     assert_eq!(plan.restore(&[1], 0), Err(Refusal::WrongLength));
 
     // Plans that refuse a trace however long it is.
-    let differing = Plan::new([0, 10, 0, 0, 0, 20, 0, 0, 2, 0, 1, 0]);
-    let (slow, twice) = (Row::Input { period: 4095, phase: 0 }, Row::Slower { a: 0, k: 17 });
-    let when = Plan::from_rows([slow, Row::When { a: 0, c: 0 }]);
-    let not_plain = Plan::from_rows([slow, Row::When { a: 0, c: 0 }, Row::Tail { a: 1 }]);
-    for (plan, refusal) in [
-        (Plan::new([0; 4 * 65]), Refusal::BadCount),
-        (Plan::new([]), Refusal::BadCount),
-        (Plan::new([0, 1, 0]), Refusal::BadCount),
-        (Plan::from_rows([slow, Row::Unrated]), Refusal::UnknownKind { row: 1 }),
-        (Plan::from_rows([slow, Row::Slower { a: 0, k: 64 }]), Refusal::FieldOutOfRange { row: 1 }),
-        (Plan::from_rows([slow, Row::Tail { a: 1 }]), Refusal::BadOperand { row: 1 }),
-        (differing, Refusal::ClocksDiffer { flow: 2 }),
-        (Plan::from_rows([slow, twice]), Refusal::BeyondLimits { flow: 1 }),
-        (not_plain, Refusal::NotPlain { flow: 2 }),
-        (Plan::from_rows([slow, Row::WhenSeen { a: 0, c: 0, w: 1 }]), Refusal::BadView { flow: 1 }),
-        (when, Refusal::HasConditions),
-    ] {
+    let sampled = Plan::from_rows([Row::Input { period: 4095, phase: 0 }, Row::When { a: 0, c: 0 }]);
+    for (plan, refusal) in refused().into_iter().chain([(sampled, Refusal::HasConditions)]) {
         assert_eq!(plan.stored_words(7), Err(refusal), "{plan:?}");
         assert_eq!((plan.store(&trace), plan.restore(&[1; 9], 7)), (Err(refusal), Err(refusal)), "{plan:?}");
     }

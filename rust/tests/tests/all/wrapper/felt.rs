@@ -9,6 +9,7 @@ use tests::rounds;
 
 use crate::feels::looped;
 use crate::short::{faulty, sound};
+use crate::wrapper::refused;
 
 /// A torque, a limit, an angle, whether the torque is below the limit, the angle where it is, a register of the sum of
 /// these angles, that sum, a mode switch, and the torque while that is seen on.
@@ -55,19 +56,7 @@ fn a_swapped_sensor() {
 
 #[test]
 fn errors() {
-    let (slow, when) = (Row::Input { period: 4095, phase: 0 }, Row::When { a: 0, c: 0 });
-    for (plan, refusal) in [
-        (Plan::new([0; 4 * 65]), Refusal::BadCount),
-        (Plan::new([]), Refusal::BadCount),
-        (Plan::new([0, 1, 0]), Refusal::BadCount),
-        (Plan::from_rows([slow, Row::Unrated]), Refusal::UnknownKind { row: 1 }),
-        (Plan::from_rows([slow, Row::Slower { a: 0, k: 64 }]), Refusal::FieldOutOfRange { row: 1 }),
-        (Plan::from_rows([slow, Row::Tail { a: 1 }]), Refusal::BadOperand { row: 1 }),
-        (Plan::from_rows([slow, when, Row::Add { a: 0, b: 1 }]), Refusal::ClocksDiffer { flow: 2 }),
-        (Plan::from_rows([slow, Row::Slower { a: 0, k: 17 }]), Refusal::BeyondLimits { flow: 1 }),
-        (Plan::from_rows([slow, when, Row::Tail { a: 1 }]), Refusal::NotPlain { flow: 2 }),
-        (Plan::from_rows([slow, Row::WhenSeen { a: 0, c: 0, w: 1 }]), Refusal::BadView { flow: 1 }),
-    ] {
+    for (plan, refusal) in refused() {
         assert_eq!(plan.felt_inputs(), Err(refusal), "{plan:?}");
     }
     let short = baarqidho::felt_inputs(9, governed().words(), &mut [0; 8]);
