@@ -2,9 +2,7 @@
 use mathlib.Core.Path.{_≡_, sym, _∙_, ap}
 use mathlib.Core.Logic.{_↔_}
 use Prim.Native.Nat.{ℕ, _≤_, _<_}
-use native.Mathlib.Decide.{decLt}
-use native.Mathlib.Omega.{arith}
-use mathlib.Core.Bool.{true, false≢true}
+use mathlib.Core.Bool.{true}
 use mathlib.Core.List.{List}
 use lib.Dec.{leb}
 use lib.ListN.{length, getD}
@@ -17,7 +15,7 @@ use Rattle.checker.specs.Clocks.{Clock}
 use Rattle.checker.specs.Answers.{clocksFor}
 use Rattle.reach.specs.Sets.{setOf, has}
 use Rattle.reach.specs.Reach.{named, Leads}
-use Rattle.reach.proofs.SetBits.{set-has, set-has-none}
+use Rattle.reach.proofs.SetBits.{set-has, set-member}
 use Rattle.reach.proofs.Closing.{through-leads, leads-through}
 use Rattle.calendar.specs.Calendar.{Accepts}
 use Rattle.influence.specs.Felt.{rests, inputAt, Feels, feels, feltSets, feeling, feltAnswer, feltAfter}
@@ -45,12 +43,7 @@ module _ (m : ℕ) (words sets : List ℕ) (e : feltAnswer m words (length sets)
   p = plan m words ks c
 
   in-set : (i : ℕ) → InSet (feltAfter m words sets) f i → (i < m) × (feels m words ks f i ≡ true)
-  in-set i h =
-      let x : has (setOf (feels m words ks f) m) i ≡ true = ap (λ (s : ℕ). has s i) (sym set-is) ∙ h in
-      elim (decLt i m) [
-        | yes y ↦ (y, sym (set-has (feels m words ks f) m i (p .table .few) y) ∙ x)
-        | no y ↦ absurd (false≢true (sym (set-has-none (feels m words ks f) m i (omega arith)) ∙ x))
-      ]
+  in-set i h = set-member (feels m words ks f) m i (p .table .few) (ap (λ (s : ℕ). has s i) (sym set-is) ∙ h)
 
   pub of-set : (i : ℕ) → i < m → feels m words ks f i ≡ true → InSet (feltAfter m words sets) f i
   of-set i y h = ap (λ (s : ℕ). has s i) set-is ∙ set-has (feels m words ks f) m i (p .table .few) y ∙ h

@@ -1,9 +1,7 @@
 -- Flow f's set has exactly the flows to which f leads. Assumes nothing.
 use mathlib.Core.Path.{_≡_, sym, _∙_, ap}
 use Prim.Native.Nat.{ℕ, _≤_, _<_}
-use native.Mathlib.Decide.{decLt}
-use native.Mathlib.Omega.{arith}
-use mathlib.Core.Bool.{true, false≢true}
+use mathlib.Core.Bool.{true}
 use mathlib.Core.List.{List}
 use lib.Dec.{leb}
 use lib.ListN.{length, getD}
@@ -17,7 +15,7 @@ use Rattle.table.proofs.Tests.{unless-good, then-good}
 use Rattle.reach.specs.Sets.{setOf, has}
 use Rattle.reach.specs.Reach.{named, Leads, closure, setsOf, reaching, reachAnswer, setsAfter}
 use Rattle.reach.specs.Closures.{Closures}
-use Rattle.reach.proofs.SetBits.{set-has, set-has-none}
+use Rattle.reach.proofs.SetBits.{set-has, set-member}
 use Rattle.reach.proofs.Closing.{through-leads, leads-through, named-inside}
 use Rattle.reach.proofs.SetLists.{over-entry}
 
@@ -53,10 +51,8 @@ module _ (m : ℕ) (words old : List ℕ) (e : reachAnswer m words (length old) 
       let r = reaches m words old e in
       let t = table-made m words (r .rows) (r .table) in
       let x : has (setOf (closure m words f) m) g ≡ true = ap (λ (i : ℕ). has i g) (sym (sets-at m words old (r .rows) (r .table) (r .room) f l)) ∙ h in
-      elim (decLt g m) [
-        | yes y ↦ (y, through-leads (named words) m f g (sym (set-has (closure m words f) m g (t .few) y) ∙ x))
-        | no y ↦ absurd (false≢true (sym (set-has-none (closure m words f) m g (omega arith)) ∙ x))
-      ]
+      let y = set-member (closure m words f) m g (t .few) x in
+      (y .0, through-leads (named words) m f g (y .1))
 
   set-led : Leads (named words) f g → has (getD (setsAfter m words old) f 0) g ≡ true
   set-led h =

@@ -4,7 +4,7 @@ use Prim.Native.Nat.{ℕ, zero, suc, _+_, _-_, _*_, _/_, _%_, _^_, _≤_, _<_, m
 use native.Mathlib.Decide.{decLt}
 use native.Mathlib.Nat.{one-mul, zero-mul, pow-suc, div-eq-of-lt}
 use native.Mathlib.Omega.{arith}
-use mathlib.Core.Bool.{Bool, true, false, cond, _&&_, _||_}
+use mathlib.Core.Bool.{Bool, true, false, cond, _&&_, _||_, false≢true}
 use lib.Bits.{bitOr, or-step, or-shr, or-block, or-shifted, or-shifted-r, or-self, or-zero-l, or-zero-r}
 use lib.Bits.{bitAnd, and-block, and-self, and-zero-l, and-zero-r}
 use lib.Dec.{eqb}
@@ -168,5 +168,13 @@ module _ (s : Flows) (g : ℕ) (l : g < maxFlows) where
 pub set-has : (s : Flows) (n g : ℕ) → n ≤ maxFlows → g < n → has (setOf s n) g ≡ s g
 set-has s n g few l = set-in s g (omega arith) n l
 
-pub set-has-none : (s : Flows) (n g : ℕ) → n ≤ g → has (setOf s n) g ≡ false
+set-has-none : (s : Flows) (n g : ℕ) → n ≤ g → has (setOf s n) g ≡ false
 set-has-none s n g l = elim (decLt g maxFlows) [ yes x ↦ set-out s g x n l | no x ↦ has-far (setOf s n) g (omega arith) ]
+
+-- so what is in the number is a flow of the plan, and in the set
+pub set-member : (s : Flows) (n g : ℕ) → n ≤ maxFlows → has (setOf s n) g ≡ true → (g < n) × (s g ≡ true)
+set-member s n g few e =
+    elim (decLt g n) [
+      | yes x ↦ (x, sym (set-has s n g few x) ∙ e)
+      | no x ↦ absurd (false≢true (sym (set-has-none s n g (omega arith)) ∙ e))
+    ]
