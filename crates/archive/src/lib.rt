@@ -1,4 +1,6 @@
 // Traces in the archive: the values of a trace stored flow after flow, and given back.
+#![tactic(auto)]
+
 ghost use Rattle.std.specs.Prelude.{◌≡◌, ℕ, ◌+◌, ◌*◌, ◌≤◌, ◌<◌, ◌^◌, ◌&&◌, List, length, eqb};
 ghost use Rattle.table.specs.Answers.{answer, leaves};
 ghost use Rattle.table.specs.Rows.{row_size, max_flows};

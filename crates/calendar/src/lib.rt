@@ -1,1 +1,2 @@
 // Theorems alone: check and run share one calendar.
+#![tactic(auto)]

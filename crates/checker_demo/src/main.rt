@@ -1,4 +1,6 @@
 // Writes the listings of some packed tables.
+#![tactic(auto)]
+
 use libc::STDOUT_FILENO;
 use lister::Listed;
 

@@ -1,5 +1,7 @@
 // The calls for C and Rust. Each returns the answer's number, 0 for success, and gives flow, tick and count out through pointers. A
 // slice passes as a pointer and a length.
+#![tactic(auto)]
+
 ghost use Rattle.std.specs.Prelude.{◌≡◌, length};
 ghost use Rattle.table.specs.Packed.{read_answer, words_after, write_answer, bytes_after};
 ghost use Rattle.checker.specs.Answers.{check_answer, clocks_after};

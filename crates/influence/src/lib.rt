@@ -1,4 +1,6 @@
 // Which inputs a flow feels, as sets: bit i of a set is row i.
+#![tactic(auto)]
+
 ghost use Rattle.std.specs.Prelude.{◌≡◌, ◌≤◌, length, get_or};
 ghost use Rattle.std.specs.Int.Bits.{bit_and};
 ghost use Rattle.table.specs.Answers.{over};

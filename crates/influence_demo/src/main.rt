@@ -1,5 +1,7 @@
 // Asks of some plans which inputs each flow feels and writes, for each, its title, and the answer's number, flow, tick and count with the whole buffer
 // of six sets after it, each as its number: bit i is row i. The buffer holds 9 where nothing was written.
+#![tactic(auto)]
+
 use libc::STDOUT_FILENO;
 use table::Answer;
 

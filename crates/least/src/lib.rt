@@ -1,4 +1,6 @@
 // The least part of a plan that the check still answers with 21.
+#![tactic(auto)]
+
 ghost use Rattle.std.specs.Prelude.{◌≡◌, true, ◌*◌, ◌<◌, ◌≤◌, length, take};
 ghost use Rattle.table.specs.Answers.{good};
 ghost use Rattle.table.specs.Rows.{max_flows, row_size};

@@ -1,5 +1,7 @@
 // Looks for the least part of some plans and writes, for each, its title, the answer's number, flow, tick and count with the whole buffer of words
 // after it, and the same for the numbers of the part's flows. The buffers hold 9 where nothing was written.
+#![tactic(auto)]
+
 use libc::STDOUT_FILENO;
 use table::Answer;
 

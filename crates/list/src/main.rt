@@ -1,4 +1,6 @@
 // Writes the listing of the packed table on standard input, or says why it cannot be read.
+#![tactic(auto)]
+
 ghost use Rattle.list.specs.Private.Inputs.{Within};
 
 use libc::{STDIN_FILENO, STDOUT_FILENO};

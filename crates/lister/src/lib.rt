@@ -1,4 +1,6 @@
 // The listing of a packed table, as text.
+#![tactic(auto)]
+
 ghost use Rattle.std.specs.Prelude.{◌≡◌, [], ◌∷◌, ◌*◌, ◌%◌, ◌≤◌, ◌<◌, length, drop, eqb};
 ghost use Rattle.text.specs.Text.{space, Wrote};
 ghost use Rattle.table.specs.Answers.{answer, leaves};

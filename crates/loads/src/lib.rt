@@ -1,4 +1,6 @@
 // The load page of a plan, as text: what each flow costs, and the total.
+#![tactic(auto)]
+
 ghost use Rattle.std.specs.Prelude.{◌≡◌, ◌*◌, ◌≤◌, ◌<◌, length, get_or};
 ghost use Rattle.text.specs.Text.{Wrote};
 ghost use Rattle.table.specs.Rows.{max_flows};

@@ -1,5 +1,7 @@
 // Makes the load pages of some plans and writes, for each, its title, a line with the answer's number, flow, tick and count, and the whole
 // buffer, which holds dots where nothing was written.
+#![tactic(auto)]
+
 use libc::STDOUT_FILENO;
 use table::Answer;
 

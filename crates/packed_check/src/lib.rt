@@ -1,4 +1,6 @@
 // A packed table, read and checked: `table::read` and `checker::check` by their contracts alone.
+#![tactic(auto)]
+
 ghost use Rattle.std.specs.Prelude.{◌≡◌, length};
 ghost use Rattle.packed_check.specs.Checked.{packed_answer, packed_after};
 

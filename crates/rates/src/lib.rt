@@ -1,4 +1,6 @@
 // The call that fills in the rates of inputs that have none written.
+#![tactic(auto)]
+
 mod steps; // steps.rt: how a rate spreads along a row
 
 ghost use Rattle.std.specs.Prelude.{◌≡◌, true, ◌+◌, ◌*◌, ◌<◌, ◌≤◌, eqb, length, take};

@@ -1,5 +1,7 @@
 // Fills in the rates of some drafts and writes, for each, its title, and the answer's number, flow, tick and count with the whole buffer of words after
 // it. The buffer holds 9 where nothing was written.
+#![tactic(auto)]
+
 use libc::STDOUT_FILENO;
 use table::Answer;
 

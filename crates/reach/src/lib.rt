@@ -1,4 +1,6 @@
 // The flows to which each flow of a plan leads, as sets: bit g of a set is flow g.
+#![tactic(auto)]
+
 ghost use Rattle.std.specs.Prelude.{◌≡◌, true, ◌<◌, ◌≤◌, length};
 ghost use Rattle.table.specs.Answers.{good, over};
 ghost use Rattle.table.specs.Plain.{words_of, table_of, rows_in};

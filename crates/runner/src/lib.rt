@@ -1,4 +1,6 @@
 // The runs: each flow's cell at each tick, or a clash. A run has room for every tick, a long run for a window of them.
+#![tactic(auto)]
+
 ghost use Rattle.std.specs.Prelude.{◌≡◌, ℕ, ◌+◌, ◌*◌, ◌^◌, ◌<◌, ◌≤◌, List, length};
 ghost use Rattle.table.specs.Answers.{Refusal, number, answer};
 ghost use Rattle.table.specs.Rows.{max_flows, max_field};

@@ -1,6 +1,8 @@
 // Runs some plans and writes, for each, its title, a line with the answer's number, flow, tick and count, and a line with some cells of the
 // trace, mark and value; of a long run also the tallies. A trace that is stored has its words as well, and comes back. Trace, window, tallies
 // and words hold 9 where nothing was written.
+#![tactic(auto)]
+
 use libc::STDOUT_FILENO;
 use table::Answer;
 

@@ -1,4 +1,6 @@
 // A plan's table, in plain form and in packed form.
+#![tactic(auto)]
+
 ghost use Rattle.std.specs.Prelude.{◌≡◌, get_or, length};
 ghost use Rattle.table.specs.Answers.{numbered, parts, success};
 ghost use Rattle.table.specs.Plain.{row_words, words_of, plain_answer, draft_answer, put_row, copied};

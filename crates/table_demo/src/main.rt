@@ -1,5 +1,7 @@
 // Reads and writes tables, refused ones among them, and prints each answer and then the whole buffer:
 // number, flow, tick, count, a colon, and the cells. Buffers hold 7 everywhere before a call.
+#![tactic(auto)]
+
 use libc::STDOUT_FILENO;
 use table::Answer;
 

@@ -1,4 +1,6 @@
 // Bytes and decimal numbers written into a text. A call writes as many bytes as there is room for, and answers the place after them.
+#![tactic(auto)]
+
 ghost use Rattle.std.specs.Prelude.{◌≡◌, [], ◌∷◌, ◌-◌, length, replicate};
 ghost use Rattle.text.specs.Text.{space, decimal, right, Wrote};
 
