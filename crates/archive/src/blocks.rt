@@ -13,7 +13,7 @@ use checker::CLOCK_SIZE;
 const BLOCK: u32 = 64;
 
 // A flow's next due tick, and the place of its word.
-#[derive(Drop)]
+#[derive(Clone, Copy)]
 struct Next {
     tick: u32,
     place: usize,

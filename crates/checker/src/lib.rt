@@ -15,7 +15,7 @@ use rules::{condition, every, faster, head, later, merged, same, sampled, slower
 use table::{Answer, ROW_SIZE, record_at, word_at};
 
 // A clock as the check keeps it: its words, of which the conditions that are not used are 0.
-#[derive(Drop)]
+#[derive(Clone, Copy)]
 struct Clock {
     period: u32,
     phase: u32,
@@ -27,7 +27,7 @@ struct Clock {
 }
 
 // What a row's rule comes to: its clock, or the number of its refusal.
-#[derive(Drop)]
+#[derive(Clone, Copy)]
 enum Verdict {
     Is(Clock),
     Refused(u32),
@@ -190,7 +190,7 @@ fn assign(n: u32, words: &[u32], kept: &mut [u32]) -> Answer
 }
 
 // Where a search ended: at a flow, or nowhere.
-#[derive(Drop)]
+#[derive(Clone, Copy)]
 enum Found {
     At(u32),
     Nothing,

@@ -16,14 +16,14 @@ use table::{Answer, CLOCKS_DIFFER, MAX_FLOWS, NO_ROOM, NOT_DIFFERING, ROW_SIZE};
 mod part; // part.rt: the rows and the flows of a part
 
 // A flow, and how many flows its closure has.
-#[derive(Drop)]
+#[derive(Clone, Copy)]
 struct Choice {
     flow: u32,
     count: u32,
 }
 
 // The flows of the least part, or a refusal's number and the row that it names.
-#[derive(Drop)]
+#[derive(Clone, Copy)]
 enum Sought {
     Part(u64),
     Refused(u32, u32),

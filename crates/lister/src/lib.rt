@@ -27,7 +27,7 @@ const LONGEST_LINE: usize = 6 + 2 * LONGEST_TIME + 4 * MAX_CONDITIONS + LONGEST_
 pub const LONGEST: usize = 6 + LONGEST_LINE * MAX_FLOWS;
 
 // What the listing answers: how many bytes it wrote, or that the text has too little room.
-#[derive(Drop)]
+#[derive(Clone, Copy)]
 pub enum Listed {
     Bytes(u32),
     NoRoom,

@@ -309,7 +309,7 @@ fn ago(t: u32, s: u32) -> u32
 
 // The words that a view carries. Before a's first presence `next` is 0; `status` is 0, or from c's first presence on that of its cell, and
 // `lag` its tick. From then on: the next tick at which c is looked at anew, by how many ticks c began before a, and the status that governs.
-#[derive(Drop)]
+#[derive(Clone, Copy)]
 struct Sight {
     next: u32,
     lag: u32,

@@ -29,7 +29,7 @@ use table::{Answer, MAX_FLOWS};
 const WHOLE: u32 = 4294967295;
 
 // How far ticks came: to the end, or to a clash, with its tick and the flow that it names.
-#[derive(Drop)]
+#[derive(Clone, Copy)]
 enum Reached {
     End,
     Clash(u32, usize),

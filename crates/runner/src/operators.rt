@@ -7,7 +7,7 @@ ghost use Rattle.runner.specs.Private.Carried.{outcome_of, cells_in, Combines, H
 ghost use Rattle.semantics.specs.Cells.{present};
 
 // What a row comes to at a tick: the mark and the value of its cell, or the mark of a clash.
-#[derive(Drop)]
+#[derive(Clone, Copy)]
 pub struct Outcome {
     pub mark: u8,
     pub value: u32,

@@ -12,7 +12,7 @@ use crate::{carried, operators};
 use table::ROW_SIZE;
 
 // What a tick comes to: all of it, or a clash that names a flow.
-#[derive(Drop)]
+#[derive(Clone, Copy)]
 pub enum Ticked {
     Full,
     Stopped(usize),

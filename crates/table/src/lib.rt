@@ -16,7 +16,7 @@ mod unpack; // unpack.rt: reading the packed form
 mod pack; // pack.rt: writing the packed form
 
 // What a call answers: number 0 is success. A row is given in the flow part; parts that are not named are 0.
-#[derive(Drop)]
+#[derive(Clone, Copy)]
 pub struct Answer {
     pub number: u32,
     pub flow: u32,
@@ -51,34 +51,34 @@ impl Answer {
 }
 
 // What reading answers: a table of so many flows, or a refusal and the row that it names.
-#[derive(Drop)]
+#[derive(Clone, Copy)]
 pub enum Reading {
     Table { count: u32 },
     Refused { number: u32, row: u32 },
 }
 
 // A bit place in packed bytes.
-#[derive(Drop)]
+#[derive(Clone, Copy)]
 pub struct Cursor {
     pub at: usize,
 }
 
 // The packed bytes and a bit place in them.
-#[derive(Drop)]
+#[derive(Clone, Copy)]
 pub struct Reader<'a> {
     pub src: &'a [u8],
     pub at: usize,
 }
 
 // A field with the place after it, or too few bits.
-#[derive(Drop)]
+#[derive(Clone, Copy)]
 pub enum Taking {
     Got(u32, Cursor),
     Short,
 }
 
 // The four words of a row.
-#[derive(Drop)]
+#[derive(Clone, Copy)]
 pub struct Record {
     pub kind: u32,
     pub one: u32,
@@ -87,7 +87,7 @@ pub struct Record {
 }
 
 // Which fields of a kind hold flow numbers.
-#[derive(Drop)]
+#[derive(Clone, Copy)]
 pub struct FlowFields {
     pub one: bool,
     pub two: bool,
@@ -95,21 +95,21 @@ pub struct FlowFields {
 }
 
 // What the test of a table in plain form finds: how many bytes it takes in packed form, or a refusal and the row that it names.
-#[derive(Drop)]
+#[derive(Clone, Copy)]
 pub enum Survey {
     Fits(usize),
     Refused(u32, u32),
 }
 
 // A row with the place after it, or the number of a refusal.
-#[derive(Drop)]
+#[derive(Clone, Copy)]
 pub enum Step {
     Row(Record, Cursor),
     Refused(u32),
 }
 
 // The place after the last row, or the number of the first refusal and its row.
-#[derive(Drop)]
+#[derive(Clone, Copy)]
 pub enum Scan {
     End(Cursor),
     Stopped(u32, u32),
