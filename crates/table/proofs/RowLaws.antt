@@ -142,7 +142,7 @@ module _ (bs : List Bool) (at : ℕ) (room : at + longest_record ≤ last_place)
 
       pub found : (x : ℕ) (r : Record) → end ≤ length bs → x ≡ from_bits (take (end - p.at) (drop p.at bs)) → words_of r ≡ fields_in n x
           → Found bs at r (record { at = end })
-      unfolding take_row take_fields row_of
+      unfolding take_row take_fields row_of fields_in
       found x r h e w =
           let one : ℕ = width (kind_at n).one in
           let two : ℕ = width (kind_at n).two in
@@ -153,9 +153,11 @@ module _ (bs : List Bool) (at : ℕ) (room : at + longest_record ≤ last_place)
           let s : end - p.at ≡ one + two + three = omega (arith, hk.past, size) in
           let l : one + two + three ≤ length b = omega (arith, length-drop p.at bs, hk.past, size) in
           let q : p.at + one + two + three ≡ end = omega (arith, hk.past, size) in
+          let kd : r.kind ≡ n = ap (λ (v : Words). v.kind) w in
           record {
             taken = λ m f. rw (
               w ∙ together n x (end - p.at) b s (omega arith) e,
+              kd,
               hk.field f,
               kind_there n known,
               field_there f one b (omega arith),

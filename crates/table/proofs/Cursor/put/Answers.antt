@@ -1,0 +1,32 @@
+use mathlib.Core.Path.{refl, ap, ◌∙◌}
+use mathlib.Core.List.{List, ◌++◌}
+use Prim.Native.Nat.{ℕ, ◌+◌, ◌-◌, ◌/◌, ◌%◌, ◌<◌}
+use native.Mathlib.Nat.{mod-lt, zero-lt-suc}
+use native.Mathlib.Omega.{arith}
+use lib.ListN.{get_or, take, drop}
+use Rattle.table.specs.Private.Laid.{nine}
+use Rattle.table.proofs.Puts.{nine_word, put_law}
+use Rattle.table.proofs.Cursor.put.Goals as goal
+use Rattle.table.proofs.Cursor.put.Goals.{then-i-size, else-i-size}
+
+pub overflow_cast-before : goal.overflow_cast-before
+overflow_cast-before c = omega (arith, c.slice_known-2-1.given (c.args.self.at / 8))
+
+pub returns : goal.returns
+returns c =
+    let out : List ℕ = c.args.out.now in
+    let i = c.args.self.at / 8 in
+    let b : get_or out i 0 < 256 = omega (arith, c.slice_known-2-1.given i) in
+    let e = nine_word (get_or out i 0) (c.args.self.at % 8) c.args.w c.args.v b (mod-lt c.args.self.at (zero-lt-suc 7)) (omega arith) c.requires.3 in (
+      refl,
+      elim c.if-i-size.branch [
+        | then-i-size w ↦
+            put_law c.args.size c.args.self.at c.args.w c.args.v 9 out c.requires.3 c.requires.4 c.requires.5 (omega arith) (omega arith) (omega (arith, w.if-i-size.true)) c.if-i-size.out
+            (w.out-is ∙ w.store.ensures ∙ ap (λ (v : ℕ). take i out ++ (take 9 (nine v) ++ drop (i + 9) out)) e)
+        | else-i-size w ↦
+            (let n = w.byte_count.result - i in
+            let end = w.byte_count.ensures in
+            put_law c.args.size c.args.self.at c.args.w c.args.v n out c.requires.3 c.requires.4 c.requires.5 (omega (arith, end)) (omega (arith, end, w.if-i-size.false)) (omega (arith, end)) c.if-i-size.out
+            (w.out-is ∙ w.store-else-i-size.ensures ∙ ap (λ (v : ℕ). take i out ++ (take n (nine v) ++ drop (i + n) out)) e))
+      ],
+    )

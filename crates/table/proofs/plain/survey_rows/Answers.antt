@@ -1,0 +1,60 @@
+use mathlib.Core.Bool.{Bool, false, not}
+use mathlib.Core.List.{List, []}
+use mathlib.Core.Path.{◌≡◌, refl, sym, ◌∙◌, ap}
+use Prim.Native.Nat.{ℕ, ◌+◌, ◌-◌, ◌*◌, ◌<◌}
+use native.Mathlib.Nat.{sub-zero}
+use native.Mathlib.Omega.{arith}
+use lib.Dec.{eqb}
+use lib.ListN.{length, drop, set}
+use borrow.Author.Tests.{eqb-true, not-true, not-false}
+use borrow.Author.Rules.{rules}
+use Rattle.table.specs.Rows.{row_size}
+use Rattle.table.specs.Plain.{split, rows_from, words_of}
+use Rattle.table.specs.Packed.{rows_bits}
+use Rattle.table.proofs.Accepting.{not_zero}
+use Rattle.table.proofs.Lengths.{row_le}
+use Rattle.table.proofs.Records.{kind_lt, survey_stop, survey_next, size_next, split_end}
+use Rattle.table.proofs.plain.survey_rows.Goals as goal
+
+-- the row was accepted where the test says so
+accepted : (v : ℕ) (r : Bool) → r ≡ eqb v 0 → not r ≡ false → v ≡ 0
+accepted v r t h = eqb-true v 0 (sym t ∙ not-false r h)
+
+pub loop-row-init : goal.loop-row-init
+loop-row-init c = (search rules, search rules, refl, rw sub-zero, rw sub-zero)
+
+pub slice_bounds-accepts-end-in-loop-row-2 : goal.slice_bounds-accepts-end-in-loop-row-2
+slice_bounds-accepts-end-in-loop-row-2 c = ap length (sym c.loop-row.invariant.2)
+
+pub accepts-requires : goal.accepts-requires
+accepts-requires c = (refl, refl, ap length c.loop-row.invariant.2)
+
+pub returns-then-not-accepts : goal.returns-then-not-accepts
+returns-then-not-accepts c =
+    let n = sym (c.accepts.ensures c.args.rated c.args.count c.loop-row.row c.barred_kind-barred.ensures c.requires.0 (omega (arith, c.requires.0, c.loop-row-test.true)) c.loop-row.invariant.2) ∙ not-true c.accepts.result c.if-not-accepts.true-raw in (
+      sym c.loop-row.invariant.3 ∙ survey_stop c.args.rated c.args.count c.loop-row.row c.args.words.now (words_of c.record_at-r.result) c.record_at-r.ensures
+          c.loop-row-test.true c.why.result (c.why.ensures c.args.count c.loop-row.row n) (not_zero c.why.result _ (c.why.ensures c.args.count c.loop-row.row n) n),
+      tt,
+    )
+
+pub length_of-bits-requires : goal.length_of-bits-requires
+length_of-bits-requires c = (kind_lt c.args.rated c.args.count c.loop-row.row (words_of c.record_at-r.result) (accepted _ c.accepts.result (c.accepts.ensures c.args.rated c.args.count c.loop-row.row c.barred_kind-barred.ensures c.requires.0 (omega (arith, c.requires.0, c.loop-row-test.true)) c.loop-row.invariant.2) c.if-not-accepts.false-raw), refl)
+
+pub overflow_add-bits : goal.overflow_add-bits
+overflow_add-bits c = omega (arith, c.length_of-bits.ensures, row_le _ (kind_lt c.args.rated c.args.count c.loop-row.row (words_of c.record_at-r.result) (accepted _ c.accepts.result (c.accepts.ensures c.args.rated c.args.count c.loop-row.row c.barred_kind-barred.ensures c.requires.0 (omega (arith, c.requires.0, c.loop-row-test.true)) c.loop-row.invariant.2) c.if-not-accepts.false-raw)))
+
+pub loop-row-preserved : goal.loop-row-preserved
+loop-row-preserved c =
+    let f : c.loop-row.row < c.args.count = c.loop-row-test.true in (
+      search rules,
+      omega (arith, c.length_of-bits.ensures, row_le _ (kind_lt c.args.rated c.args.count c.loop-row.row (words_of c.record_at-r.result) (accepted _ c.accepts.result (c.accepts.ensures c.args.rated c.args.count c.loop-row.row c.barred_kind-barred.ensures c.requires.0 (omega (arith, c.requires.0, c.loop-row-test.true)) c.loop-row.invariant.2) c.if-not-accepts.false-raw))),
+      ap (λ (b : List ℕ). set b 0 (c.loop-row.row + 1)) c.loop-row.invariant.2,
+      survey_next c.args.rated c.args.count c.loop-row.row c.args.words.now (words_of c.record_at-r.result) c.record_at-r.ensures f (accepted _ c.accepts.result (c.accepts.ensures c.args.rated c.args.count c.loop-row.row c.barred_kind-barred.ensures c.requires.0 (omega (arith, c.requires.0, c.loop-row-test.true)) c.loop-row.invariant.2) c.if-not-accepts.false-raw) ∙ c.loop-row.invariant.3,
+      omega (arith, c.length_of-bits.ensures, size_next c.args.rated c.args.count c.loop-row.row c.args.words.now (words_of c.record_at-r.result) c.record_at-r.ensures f (accepted _ c.accepts.result (c.accepts.ensures c.args.rated c.args.count c.loop-row.row c.barred_kind-barred.ensures c.requires.0 (omega (arith, c.requires.0, c.loop-row-test.true)) c.loop-row.invariant.2) c.if-not-accepts.false-raw), c.loop-row.invariant.4),
+    )
+
+pub returns : goal.returns
+unfolding rows_from rows_bits
+returns c =
+    let e : split (c.args.count - c.loop-row.row) (drop (row_size * c.loop-row.row) c.args.words.now) ≡ [] = split_end c.args.count c.loop-row.row c.args.words.now c.loop-row.invariant.0 c.loop-row-test.false in
+    (sym (rw e at c.loop-row.invariant.3), omega (arith, c.byte_count.ensures, rw e at c.loop-row.invariant.4))
