@@ -4,7 +4,7 @@ use Rattle.std.specs.Bool.{beq}
 use Rattle.std.proofs.Math.Option.{Option, none, some}
 use Rattle.table.specs.Bits.{bit}
 use Rattle.table.specs.Rows.{Row, input, constant, combine, register, faster, slower, later, head, tail, sample, merge, unrated, view, bad_register}
-use Rattle.semantics.specs.Cells.{Cell, absent, present, mark, History}
+use Rattle.semantics.specs.Cells.{Cell, absent, mark, History}
 use Rattle.semantics.specs.Operators.{Step, is, clashes, timed, combined, registered, faster_of, slower_of, later_of, tail_of, head_of, sampled, merged, viewed}
 
 -- one tick's cells in order of flows, and the ticks so far, the latest first
