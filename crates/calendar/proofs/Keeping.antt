@@ -6,7 +6,7 @@ use mathlib.Core.Bool.{Bool, true, false, ◌&&◌, and-true}
 use mathlib.Core.List.{List, [], ◌∷◌, ◌++◌}
 use lib.ListN.{length, length-append, get_or-append}
 use lib.Seq.{get_or-append_seam}
-use Rattle.table.specs.Rows.{Row, input, constant, combine, register, faster, slower, later, head, tail, sample, merge, view}
+use Rattle.table.specs.Rows.{Row, input, constant, combine, register, faster, slower, later, head, tail, sample, merge, view, unrated}
 use Rattle.table.proofs.Lists.{below_suc}
 use Rattle.table.specs.Tables.{Fits}
 use Rattle.table.proofs.Tables.{AllFit}
@@ -90,6 +90,7 @@ module _ (rows : List Row) (log : List ℕ) (clk : ℕ → Clock) (past : Ticks)
       recast (rw (history_length past a, mark_of a w.0) (sym (due_under clk (clk a) c u v now past)))
       (view_law _ _ _ _ (regular_at a w.0 x) _ _ _ _ (regular_at c w.1 y) (history_length past a ∙ sym (history_length past c))
       u v w.2.from f.other f.begun)
+  row_law m unrated k x w = elim x [ ]
 
 -- the flows of a tick as far as the rows of a front
 pub record Front (rows : List Row) (log : List ℕ) (clk : ℕ → Clock) (past : Ticks) (now : Tick) (front : List Row) : Type 0 where
