@@ -1,0 +1,17 @@
+use mathlib.Core.Path.{refl, ap, subst}
+use Prim.Native.Nat.{ℕ, suc, ◌+◌, ◌-◌}
+use native.Mathlib.Nat.{mul-le-mul_right, suc-mul}
+use native.Mathlib.Omega.{arith}
+use lib.ListN.{get_or}
+use borrow.Author.Rules.{rules}
+use Rattle.archive.specs.Private.Steps.{Put}
+use Rattle.archive.proofs.Storing.{Stepping, step_none, step_in, step_next, step_all, step_end}
+use Rattle.archive.proofs.Restoring.{put_none, put_next}
+use Rattle.archive.proofs.blocks.put_column.Given as goal
+
+abbrev pub invariant-loop-tick : goal.invariant-loop-tick
+invariant-loop-tick l = (number : ℕ) × Stepping l.n l.initial.tick l.finish l.initial.place l.tick l.place number × Put l.m l.n l.initial.tick l.f number (λ (j : ℕ). 1) l.initial.marks l.marks
+    × Put l.m l.n l.initial.tick l.f number (λ (j : ℕ). get_or l.stored (l.initial.place + j) 0) l.initial.values l.values
+
+abbrev pub decreases-loop-tick : goal.decreases-loop-tick
+decreases-loop-tick l = l.finish - l.tick

@@ -1,0 +1,106 @@
+use Rattle.runner.proofs.Running.{recall, close, goes_on, stops, ends}
+use Rattle.runner.proofs.Placing.{fewer}
+use Rattle.runner.proofs.Tabled.{plain_table}
+use Rattle.runner.specs.Private.Carried.{state_size}
+use Rattle.runner.specs.Private.Ready.{rows_in}
+use Rattle.runner.specs.Private.Placed.{Fitting, Running}
+use Rattle.table.proofs.Tables.{Table}
+use Rattle.std.proofs.Common.{◌≡◌, ℕ, ◌+◌, ◌-◌, ◌≤◌, List, length, sym, refl, ◌∙◌, subst, arith, rules}
+use Rattle.runner.proofs.run_ticks.Goals as goal
+
+table_at : (c : tie.Start invariant-loop decreases-loop) → Table c.args.n c.args.words.now (rows_in c.args.n c.args.words.now)
+table_at c = plain_table c.args.n c.args.words.now c.requires.0
+
+-- the next tick has its place in marks and values
+fits : (c : tie.In-loop invariant-loop decreases-loop)
+    → (let s = c.before.before.before.before.before.before.before.before.before in
+    let l = c.before.loop in
+    Fitting (s.args.mask + 1) s.args.n (l.t + 1) (length l.marks) × Fitting (s.args.mask + 1) s.args.n (l.t + 1) (length l.values))
+fits c =
+    let at-loop = c.before in
+    let s = at-loop.before.before.before.before.before.before.before.before in
+    let args = s.args in
+    let l = at-loop.loop in
+    let h = c.loop-test.true in (
+      subst (Fitting (args.mask + 1) args.n (l.t + 1)) (sym l.invariant.3) (fewer (l.t + 1) (omega arith) s.requires.1),
+      subst (Fitting (args.mask + 1) args.n (l.t + 1)) (sym l.invariant.4) (fewer (l.t + 1) (omega arith) s.requires.2),
+    )
+
+pub loop-t-init : goal.loop-t-init
+loop-t-init c =
+    let pre = c.requires in
+    (omega arith, pre.6, pre.3, refl, refl, λ ms vs R. R)
+
+pub overflow_add-next : goal.overflow_add-next
+overflow_add-next c = omega (arith, c.loop-t-test.true, c.requires.7)
+
+pub first_cell-first-requires : goal.first_cell-first-requires
+first_cell-first-requires c = (c.requires.9, (table_at c).few)
+
+pub turn-done-requires : goal.turn-done-requires
+turn-done-requires c =
+    let pre = c.requires in
+    let l = c.loop-t in
+    let f = fits c in
+    let h = c.loop-t-test.true in
+    (pre.0, f.0, f.1, l.invariant.2, pre.4, pre.5, omega (arith, h, pre.7), pre.8, pre.9, c.first_cell-first.ensures, pre.10)
+
+pub shape_of-state-in-Stopped : goal.shape_of-state-in-Stopped
+shape_of-state-in-Stopped c = omega (arith, c.turn-done.auto.state, c.loop-t.invariant.2, c.requires.3)
+
+pub shape_of-marks-in-Stopped : goal.shape_of-marks-in-Stopped
+shape_of-marks-in-Stopped c = c.turn-done.auto.marks ∙ c.loop-t.invariant.3
+
+pub shape_of-values-in-Stopped : goal.shape_of-values-in-Stopped
+shape_of-values-in-Stopped c = c.turn-done.auto.values ∙ c.loop-t.invariant.4
+
+pub returns-in-Stopped : goal.returns-in-Stopped
+returns-in-Stopped c =
+    let a = c.args in
+    let l = c.loop-t in
+    let h = c.loop-t-test.true in
+    let f = fits c in
+    λ ms vs R₀.
+    let R = l.invariant.5 ms vs R₀ in
+    let seen = recall R (fewer l.t (omega arith) f.0) (fewer l.t (omega arith) f.1) in
+    let near = close R (omega (arith, h, c.requires.7)) c.requires.11 in
+    let tick = rw c.first_cell-first.ensures at (c.turn-done.ensures R.past R.ticks seen near R.carried) in
+    stops R _ _ _ _ (table_at c).size tick a.to _ c.in-Stopped.is h
+
+pub loop-t-smaller : goal.loop-t-smaller
+loop-t-smaller c = omega (arith, c.loop-t-test.true)
+
+pub loop-t-preserved : goal.loop-t-preserved
+loop-t-preserved c =
+    let l = c.loop-t in
+    let h = c.loop-t-test.true in
+    let f = fits c in
+    let kept = c.turn-done.auto in
+    let marks = kept.marks in
+    let values = kept.values in (
+      omega (arith, l.invariant.0),
+      omega (arith, h),
+      omega (arith, kept.state, l.invariant.2),
+      marks ∙ l.invariant.3,
+      values ∙ l.invariant.4,
+      λ ms vs R₀.
+          let R = l.invariant.5 ms vs R₀ in
+          let seen = recall R (fewer l.t (omega arith) f.0) (fewer l.t (omega arith) f.1) in
+          let near = close R (omega (arith, h, c.requires.7)) c.requires.11 in
+          let tick = rw c.first_cell-first.ensures at (c.turn-done.ensures R.past R.ticks seen near R.carried) in
+          goes_on R _ _ _ _ (table_at c).size tick c.in-Full.is marks values,
+    )
+
+pub shape_of-state : goal.shape_of-state
+shape_of-state c = c.loop-t.invariant.2 ∙ sym c.requires.3
+
+pub shape_of-marks : goal.shape_of-marks
+shape_of-marks c = c.loop-t.invariant.3
+
+pub shape_of-values : goal.shape_of-values
+shape_of-values c = c.loop-t.invariant.4
+
+pub returns : goal.returns
+returns c =
+    let l = c.loop-t in
+    λ ms vs R₀. ends (l.invariant.5 ms vs R₀) c.args.to c.loop-t-test.false l.invariant.1

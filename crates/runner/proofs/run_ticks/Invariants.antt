@@ -1,0 +1,20 @@
+use Rattle.runner.proofs.Running.{recall, close, goes_on, stops, ends}
+use Rattle.runner.proofs.Placing.{fewer}
+use Rattle.runner.proofs.Tabled.{plain_table}
+use Rattle.runner.specs.Private.Carried.{state_size}
+use Rattle.runner.specs.Private.Ready.{rows_in}
+use Rattle.runner.specs.Private.Placed.{Fitting, Running}
+use Rattle.table.proofs.Tables.{Table}
+use Rattle.std.proofs.Common.{◌≡◌, ℕ, ◌+◌, ◌-◌, ◌≤◌, List, length, sym, refl, ◌∙◌, subst, arith, rules}
+use Rattle.runner.proofs.run_ticks.Given as goal
+
+abbrev pub invariant-loop-t : goal.invariant-loop-t
+invariant-loop-t l = (l.from ≤ l.t)
+    × (l.t ≤ l.to)
+    × (length l.state ≡ state_size)
+    × (length l.marks ≡ length l.initial.marks)
+    × (length l.values ≡ length l.initial.values)
+    × ((ms vs : List ℕ) → Running l.n (l.mask + 1) l.from (rows_in l.n l.words) l.log ms vs l.initial.state l.initial.marks l.initial.values → Running l.n (l.mask + 1) l.t (rows_in l.n l.words) l.log ms vs l.state l.marks l.values)
+
+abbrev pub decreases-loop-t : goal.decreases-loop-t
+decreases-loop-t l = l.to - l.t

@@ -1,0 +1,17 @@
+use Rattle.runner.proofs.Tallying.{tallied_on, low_on, low_within}
+use Rattle.runner.specs.Private.Placed.{Recalls, Low, count_limit}
+use Rattle.semantics.specs.Runs.{Ticks}
+use Rattle.semantics.specs.Windows.{Tallied}
+use Rattle.std.proofs.Common.{◌≡◌, ℕ, ◌+◌, ◌-◌, ◌≤◌, List, length, drop, refl, ◌∙◌, subst, arith}
+use Rattle.runner.proofs.tally.add_ticks.Given as goal
+
+abbrev pub invariant-loop-t : goal.invariant-loop-t
+invariant-loop-t l = (l.from ≤ l.t)
+    × (l.t ≤ l.to)
+    × (length l.tallies ≡ length l.initial.tallies)
+    × Low l.n (l.t + 1) l.tallies
+    × ((past : Ticks) (ts : List ℕ) → length past ≡ l.to → l.to ≤ l.from + (l.mask + 1) → Recalls (l.mask + 1) l.n l.to past l.marks l.values
+    → Tallied l.n (drop (l.to - l.from) past) ts l.initial.tallies → Tallied l.n (drop (l.to - l.t) past) ts l.tallies)
+
+abbrev pub decreases-loop-t : goal.decreases-loop-t
+decreases-loop-t l = l.to - l.t
