@@ -24,8 +24,10 @@ def files(folder, ends):
                 yield os.path.join(path, name)
 
 def respelled(name):
-    if name[0].isupper() or name.startswith(('Need-', '+')):
+    if name.startswith(('Need-', '+')):
         return name
+    if name[0].isupper():
+        return re.sub(r'-([a-z])', lambda m: m.group(1).upper(), name)
     said = name.replace('′', "'").replace('-', '_')
     said = re.sub(r'(?<=[a-z0-9])([A-Z])', lambda m: '_' + m.group(1).lower(), said)
     return said

@@ -14,7 +14,7 @@ use Rattle.semantics.specs.Answers.{mark_byte}
 use Rattle.runner.specs.Private.Carried.{clash_mark, outcome_of, Held, held_in, cells_in, step_of, next_of, Did, held_size}
 use Rattle.runner.specs.Private.Ready.{Carries, Collected, Follows, AllCarry, AllFollow, Ready, Wrote, FlowsEnd}
 use Rattle.runner.proofs.Cells.{wrote_more, here_is}
-use Rattle.runner.proofs.Tabled.{words_at, made_of, Row-at, row_of_lem}
+use Rattle.runner.proofs.Tabled.{words_at, made_of, RowAt, row_of_lem}
 use Rattle.runner.proofs.Steps.{row_steps, row_follows, follows_on}
 
 -- what an outcome tells of the step
@@ -72,7 +72,7 @@ module _ (n : ℕ) (words log : List ℕ) (rows : List Row) (T : Table n words r
       unfolding flows_from
       unroll = sym G.rest ∙ ap (flows_from rows log past G.now) (drop-cons rows f (tail 0) (omega (arith, T.size)))
 
-      row : Row-at n words (row_at rows f) f
+      row : RowAt n words (row_at rows f) f
       row = row_of_lem n words rows T f h
 
       carried : Carries rows f (row_at rows f) (length past) (history past) (held_in s (held_size * f))

@@ -10,7 +10,7 @@ use Rattle.semantics.specs.Cells.{count, latest, first}
 use Rattle.semantics.specs.Runs.{history, inputs, is_input}
 use Rattle.runner.specs.Private.Carried.{Held, held, held_in, state_size, start_word, start_of, Started, held_size}
 use Rattle.runner.specs.Private.Ready.{unseen, never, waiting, Carries, AllCarry}
-use Rattle.runner.proofs.Tabled.{words_at, made_of, Row-at, row_of_lem}
+use Rattle.runner.proofs.Tabled.{words_at, made_of, RowAt, row_of_lem}
 use Rattle.runner.proofs.Histories.{timed_starts}
 
 row_starts : (m f : ℕ) (rows : List Row) (row : Row) → Fits m f row → Carries rows f row 0 (history []) (start_of row (inputs (take f rows)) (held 0 0 0))
@@ -73,7 +73,7 @@ module _ (n : ℕ) (words : List ℕ) (rows : List Row) (T : Table n words rows)
       (s s' : List ℕ) (f j j' : ℕ) → f < n → Starting rows s f j → Started (start_of (made_of (words_at words f)) j (held_in s (held_size * f))) f s s'
       → j' ≡ j + bit (eqb (get_or words (row_size * f) 0) 0) → Starting rows s' (f + 1) j'
   goes_on s s' f j j' l S D e =
-      let r : Row-at n words (row_at rows f) f = row_of_lem n words rows T f l in
+      let r : RowAt n words (row_at rows f) f = row_of_lem n words rows T f l in
       record {
         before = omega (arith, e, S.before, ap bit r.is_input_lem, ap (λ (i : ℕ). inputs (take i rows)) (add-one f), inputs_step rows f (omega (arith, T.size)));
         set = λ g b. ⊎_elim (same r g) (below g) (eq-or-lt_of_le {n = g} {m = f} (omega arith));
@@ -83,7 +83,7 @@ module _ (n : ℕ) (words : List ℕ) (rows : List Row) (T : Table n words rows)
       below : (g : ℕ) → g < f → Carries rows g (row_at rows g) 0 (history []) (held_in s' (held_size * g))
       below g b = subst (λ (w : Held). Carries rows g (row_at rows g) 0 (history []) w) (sym (D.others g (λ u. omega arith))) (S.set g b)
 
-      same : Row-at n words (row_at rows f) f → (g : ℕ) → g ≡ f → Carries rows g (row_at rows g) 0 (history []) (held_in s' (held_size * g))
+      same : RowAt n words (row_at rows f) f → (g : ℕ) → g ≡ f → Carries rows g (row_at rows g) 0 (history []) (held_in s' (held_size * g))
       same r g u =
           subst (λ (i : ℕ). Carries rows i (row_at rows i) 0 (history []) (held_in s' (held_size * i))) (sym u)
           (subst (λ (w : Held). Carries rows f (row_at rows f) 0 (history []) w)

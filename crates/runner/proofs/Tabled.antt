@@ -29,7 +29,7 @@ unfolding Plain
 plain_table m words e = table_made m words (rows_in m words) e
 
 -- row f by its four words
-pub record Row-at (m : ℕ) (words : List ℕ) (row : Row) (f : ℕ) : Type 0 where
+pub record RowAt (m : ℕ) (words : List ℕ) (row : Row) (f : ℕ) : Type 0 where
   pub made : made_of (words_at words f) ≡ row
   pub fits : Fits m f row
   pub known : (words_at words f).kind < kind_count
@@ -39,10 +39,10 @@ pub record Row-at (m : ℕ) (words : List ℕ) (row : Row) (f : ℕ) : Type 0 wh
   pub is_input_lem : is_input row ≡ eqb (get_or words (row_size * f) 0) 0
 
 module _ (m : ℕ) (words : List ℕ) (rows : List Row) (T : Table m words rows) where
-  pub row_of_lem : (f : ℕ) → f < m → Row-at m words (row_at rows f) f
+  pub row_of_lem : (f : ℕ) → f < m → RowAt m words (row_at rows f) f
   row_of_lem f l =
       let w : Words = words_at words f in
-      let d : Made m f w (row_at rows f) = subst (λ (v : Words). Made m f v (row_at rows f)) (sym (four_read words (row_size * f))) (T.row_at f l) in
+      let d : Made m f w (row_at rows f) = subst (λ (v : Words). Made m f v (row_at rows f)) (sym (four_read words (row_size * f))) (T.row_at_lem f l) in
       record {
         made = d.row;
         fits = row_fits m f w (row_at rows f) d;

@@ -129,24 +129,24 @@ rows_taken m f (w ∷ ws) rs rest e h =
     let b = then_good (rows_from false m (suc f) ws) (λ vs. good (a.0 ∷ vs)) rs a.2 in
     rw (append_assoc (row_bits w) (rows_bits ws) rest, row_taken m f w a.0 (rows_bits ws ++ rest) a.1, rows_taken m (suc f) ws b.0 rest b.1 h)
 
-record Rows-back (m f : ℕ) (bs : List Bool) (ws : List Words) : Type 0 where
+record RowsBack (m f : ℕ) (bs : List Bool) (ws : List Words) : Type 0 where
   rest : List Bool
   put : rows_bits ws ++ rest ≡ bs
   filled : filling rest ≡ true
   rows : List Row
   made_rows : rows_from false m f ws ≡ good rows
 
-rows_back : (m n f : ℕ) (bs : List Bool) (ws : List Words) → take_rows m n f bs ≡ good ws → Rows-back m f bs ws
+rows_back : (m n f : ℕ) (bs : List Bool) (ws : List Words) → take_rows m n f bs ≡ good ws → RowsBack m f bs ws
 unfolding take_rows rows_bits rows_from
 rows_back m zero f bs ws e =
     let u = unless_good (filling bs) bad_filling 0 (good []) ws e in
-    subst (Rows-back m f bs) (good_inj u.1) record { rest = bs; put = refl; filled = u.0; rows = []; made_rows = refl }
+    subst (RowsBack m f bs) (good_inj u.1) record { rest = bs; put = refl; filled = u.0; rows = []; made_rows = refl }
 rows_back m (suc n) f bs ws e =
     let a = then_good (take_row m f bs) _ ws e in
     let b = then_good (take_rows m n (suc f) a.0.rest) (λ vs. good (a.0.words ∷ vs)) ws a.2 in
-    subst (Rows-back m f bs) (good_inj b.2) (longer a.0 b.0 (row_back m f bs a.0 a.1) (rows_back m n (suc f) a.0.rest b.0 b.1))
+    subst (RowsBack m f bs) (good_inj b.2) (longer a.0 b.0 (row_back m f bs a.0 a.1) (rows_back m n (suc f) a.0.rest b.0 b.1))
   where
-    longer : (t : TakenRow) (vs : List Words) → Back m f bs t → Rows-back m (suc f) t.rest vs → Rows-back m f bs (t.words ∷ vs)
+    longer : (t : TakenRow) (vs : List Words) → Back m f bs t → RowsBack m (suc f) t.rest vs → RowsBack m f bs (t.words ∷ vs)
     longer t vs d i = record {
       rest = i.rest;
       put = rw (append_assoc (row_bits t.words) (rows_bits vs) i.rest, i.put) d.put;
@@ -193,7 +193,7 @@ module _ (bs : List ℕ) (ws : List Words) (e : unpacked bs ≡ good ws) where
   o : Opened bs ws
   o = opened bs ws e
 
-  back : Rows-back (length ws) 0 (drop count_width (bits bs)) ws
+  back : RowsBack (length ws) 0 (drop count_width (bits bs)) ws
   back = rows_back (length ws) (length ws) 0 (drop count_width (bits bs)) ws o.rows
 
   -- its words are an accepted table

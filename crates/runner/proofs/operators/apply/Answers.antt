@@ -5,11 +5,11 @@ use Rattle.runner.proofs.operators.apply.Goals as goal
 
 pub returns-in-2 : goal.returns-in-2
 unfolding kinds
-returns-in-2 c = λ op e. rw (← op_is _ 2 add op c.in-2.is (λ a b z. refl) e) c.wrapping_add_u32.ensures
+returns-in-2 c = λ op e. rw (← op_is _ 2 add op c.in-2.is (λ a b z. refl) e) c.wrapping_add_u32.ensures.value
 
 pub returns-in-3 : goal.returns-in-3
 unfolding kinds
-returns-in-3 c = λ op e. rw (← op_is _ 3 subtract op c.in-3.is (λ a b z. refl) e) (omega (arith, c.wrapping_sub_u32.ensures))
+returns-in-3 c = λ op e. rw (← op_is _ 3 subtract op c.in-3.is (λ a b z. refl) e) (omega (arith, c.wrapping_sub_u32.ensures.value))
 
 pub returns-in-4 : goal.returns-in-4
 unfolding kinds
