@@ -5,26 +5,12 @@ use Rattle.runner.specs.Private.Carried.{state_size}
 use Rattle.runner.specs.Private.Ready.{rows_in}
 use Rattle.runner.specs.Private.Placed.{Fitting, Running}
 use Rattle.table.proofs.Tables.{Table}
-use Rattle.std.proofs.Common.{◌≡◌, ℕ, ◌+◌, ◌-◌, ◌≤◌, List, length, sym, refl, ◌∙◌, subst, arith, rules}
+use Rattle.std.proofs.Common.{◌≡◌, ℕ, ◌+◌, ◌-◌, ◌<◌, ◌≤◌, List, length, sym, refl, ◌∙◌, subst, arith, rules}
 use Rattle.runner.proofs.run_ticks.Goals as goal
 
-table_at : (c : tie.Start invariant-loop decreases-loop) → Table c.args.n c.args.words.now (rows_in c.args.n c.args.words.now)
-table_at c = plain_table c.args.n c.args.words.now c.requires.0
-
 -- the next tick has its place in marks and values
-fits : (c : tie.In-loop invariant-loop decreases-loop)
-    → (let s = c.before.before.before.before.before.before.before.before.before in
-    let l = c.before.loop in
-    Fitting (s.args.mask + 1) s.args.n (l.t + 1) (length l.marks) × Fitting (s.args.mask + 1) s.args.n (l.t + 1) (length l.values))
-fits c =
-    let at-loop = c.before in
-    let s = at-loop.before.before.before.before.before.before.before.before in
-    let args = s.args in
-    let l = at-loop.loop in
-    let h = c.loop-test.true in (
-      subst (Fitting (args.mask + 1) args.n (l.t + 1)) (sym l.invariant.3) (fewer (l.t + 1) (omega arith) s.requires.1),
-      subst (Fitting (args.mask + 1) args.n (l.t + 1)) (sym l.invariant.4) (fewer (l.t + 1) (omega arith) s.requires.2),
-    )
+fits : (mask n t to : ℕ) (now old : List ℕ) → length now ≡ length old → t < to → Fitting (mask + 1) n to (length old) → Fitting (mask + 1) n (t + 1) (length now)
+fits mask n t to now old e h f = subst (Fitting (mask + 1) n (t + 1)) (sym e) (fewer (t + 1) (omega arith) f)
 
 pub loop-t-init : goal.loop-t-init
 loop-t-init c =
@@ -35,15 +21,16 @@ pub overflow_add-next : goal.overflow_add-next
 overflow_add-next c = omega (arith, c.loop-t-test.true, c.requires.7)
 
 pub first_cell-first-requires : goal.first_cell-first-requires
-first_cell-first-requires c = (c.requires.9, (table_at c).few)
+first_cell-first-requires c = (c.requires.9, (plain_table c.args.n c.args.words.now c.requires.0).few)
 
 pub turn-done-requires : goal.turn-done-requires
 turn-done-requires c =
     let pre = c.requires in
     let l = c.loop-t in
-    let f = fits c in
+    let fm = fits c.args.mask c.args.n l.t c.args.to l.marks c.args.marks.now l.invariant.3 c.loop-t-test.true c.requires.1 in
+    let fv = fits c.args.mask c.args.n l.t c.args.to l.values c.args.values.now l.invariant.4 c.loop-t-test.true c.requires.2 in
     let h = c.loop-t-test.true in
-    (pre.0, f.0, f.1, l.invariant.2, pre.4, pre.5, omega (arith, h, pre.7), pre.8, pre.9, c.first_cell-first.ensures, pre.10)
+    (pre.0, fm, fv, l.invariant.2, pre.4, pre.5, omega (arith, h, pre.7), pre.8, pre.9, c.first_cell-first.ensures, pre.10)
 
 pub shape_of-state-in-Stopped : goal.shape_of-state-in-Stopped
 shape_of-state-in-Stopped c = omega (arith, c.turn-done.auto.state, c.loop-t.invariant.2, c.requires.3)
@@ -59,13 +46,14 @@ returns-in-Stopped c =
     let a = c.args in
     let l = c.loop-t in
     let h = c.loop-t-test.true in
-    let f = fits c in
+    let fm = fits c.args.mask c.args.n l.t c.args.to l.marks c.args.marks.now l.invariant.3 c.loop-t-test.true c.requires.1 in
+    let fv = fits c.args.mask c.args.n l.t c.args.to l.values c.args.values.now l.invariant.4 c.loop-t-test.true c.requires.2 in
     λ ms vs R₀.
     let R = l.invariant.5 ms vs R₀ in
-    let seen = recall R (fewer l.t (omega arith) f.0) (fewer l.t (omega arith) f.1) in
+    let seen = recall R (fewer l.t (omega arith) fm) (fewer l.t (omega arith) fv) in
     let near = close R (omega (arith, h, c.requires.7)) c.requires.11 in
     let tick = rw c.first_cell-first.ensures at (c.turn-done.ensures R.past R.ticks seen near R.carried) in
-    stops R _ _ _ _ (table_at c).size tick a.to _ c.in-Stopped.is h
+    stops R _ _ _ _ (plain_table c.args.n c.args.words.now c.requires.0).size tick a.to _ c.in-Stopped.is h
 
 pub loop-t-smaller : goal.loop-t-smaller
 loop-t-smaller c = omega (arith, c.loop-t-test.true)
@@ -74,7 +62,8 @@ pub loop-t-preserved : goal.loop-t-preserved
 loop-t-preserved c =
     let l = c.loop-t in
     let h = c.loop-t-test.true in
-    let f = fits c in
+    let fm = fits c.args.mask c.args.n l.t c.args.to l.marks c.args.marks.now l.invariant.3 c.loop-t-test.true c.requires.1 in
+    let fv = fits c.args.mask c.args.n l.t c.args.to l.values c.args.values.now l.invariant.4 c.loop-t-test.true c.requires.2 in
     let kept = c.turn-done.auto in
     let marks = kept.marks in
     let values = kept.values in (
@@ -85,10 +74,10 @@ loop-t-preserved c =
       values ∙ l.invariant.4,
       λ ms vs R₀.
           let R = l.invariant.5 ms vs R₀ in
-          let seen = recall R (fewer l.t (omega arith) f.0) (fewer l.t (omega arith) f.1) in
+          let seen = recall R (fewer l.t (omega arith) fm) (fewer l.t (omega arith) fv) in
           let near = close R (omega (arith, h, c.requires.7)) c.requires.11 in
           let tick = rw c.first_cell-first.ensures at (c.turn-done.ensures R.past R.ticks seen near R.carried) in
-          goes_on R _ _ _ _ (table_at c).size tick c.in-Full.is marks values,
+          goes_on R _ _ _ _ (plain_table c.args.n c.args.words.now c.requires.0).size tick c.in-Full.is marks values,
     )
 
 pub shape_of-state : goal.shape_of-state

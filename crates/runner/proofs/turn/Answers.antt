@@ -4,21 +4,16 @@ use Rattle.runner.proofs.Words.{place_small}
 use Rattle.runner.proofs.Tabled.{plain_table}
 use Rattle.table.specs.Rows.{max_flows}
 use Rattle.table.proofs.Tables.{Table}
-use Rattle.std.proofs.Common.{ℕ, ◌*◌, ◌^◌, ◌≤◌, ap, arith, rules}
+use Rattle.semantics.specs.Runs.{inputs}
+use Rattle.std.proofs.Common.{◌≡◌, ℕ, List, ◌*◌, ◌^◌, ◌≤◌, ap, arith, rules}
 use Rattle.runner.proofs.turn.Goals as goal
 
-table_at : (c : tie.Start) → Table c.args.n c.args.words.now (rows_in c.args.n c.args.words.now)
-table_at c = plain_table c.args.n c.args.words.now c.requires.0
-
 -- the place in the log is low
-small : (c : tie.Start) → c.args.t * c.args.inputs ≤ 2 ^ 24 * max_flows
-small c =
-    let T = table_at c in
-    place_small c.args.t c.args.inputs (2 ^ 24) (omega (arith, c.requires.6))
-    (omega (arith, inputs_all (rows_in c.args.n c.args.words.now), c.requires.7, T.size, T.few))
+small : (n t count : ℕ) (words : List ℕ) → Table n words (rows_in n words) → t ≤ 2 ^ 24 → count ≡ inputs (rows_in n words) → t * count ≤ 2 ^ 24 * max_flows
+small n t count words T low e = place_small t count (2 ^ 24) low (omega (arith, inputs_all (rows_in n words), e, T.size, T.few))
 
 pub overflow_mul-at : goal.overflow_mul-at
-overflow_mul-at c = omega (arith, small c)
+overflow_mul-at c = omega (arith, small c.args.n c.args.t c.args.inputs c.args.words.now (plain_table c.args.n c.args.words.now c.requires.0) (omega (arith, c.requires.6)) c.requires.7)
 
 pub tick_at-requires : goal.tick_at-requires
 tick_at-requires c =
@@ -30,7 +25,7 @@ tick_at-requires c =
       omega (arith, c.collect.auto.state, pre.3),
       pre.4,
       pre.6,
-      omega (arith, small c),
+      omega (arith, small c.args.n c.args.t c.args.inputs c.args.words.now (plain_table c.args.n c.args.words.now c.requires.0) (omega (arith, c.requires.6)) c.requires.7),
     )
 
 pub returns : goal.returns

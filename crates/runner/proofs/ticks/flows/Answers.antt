@@ -9,20 +9,17 @@ use Rattle.table.specs.Rows.{row_size, max_flows}
 use Rattle.runner.specs.Private.Carried.{state_size}
 use Rattle.runner.proofs.ticks.flows.Goals as goal
 
-table_at : (c : tie.Start invariant-loop decreases-loop) → Table c.args.n c.args.words.now (rows_in c.args.n c.args.words.now)
-table_at c = plain_table c.args.n c.args.words.now c.requires.0
-
 pub loop-f-init : goal.loop-f-init
 loop-f-init c =
     let pre = c.requires in
     let args = c.args in (
       omega arith,
-      (table_at c).few,
-      (table_at c).words_size,
+      (plain_table c.args.n c.args.words.now c.requires.0).few,
+      (plain_table c.args.n c.args.words.now c.requires.0).words_size,
       pre.3,
       refl,
       refl,
-      λ past R. starts args.n args.words.now args.log.now _ (table_at c) past _ _ _ _ _ R,
+      λ past R. starts args.n args.words.now args.log.now _ (plain_table c.args.n c.args.words.now c.requires.0) past _ _ _ _ _ R,
     )
 
 pub outcome-o-requires : goal.outcome-o-requires
@@ -32,7 +29,7 @@ outcome-o-requires c =
     let loop = c.loop-f in
     let loop-test = c.loop-f-test in
     let below : loop.f < args.n = omega (arith, loop-test.true) in
-    let r = row_of_lem args.n args.words.now _ (table_at c) loop.f below in (
+    let r = row_of_lem args.n args.words.now _ (plain_table c.args.n c.args.words.now c.requires.0) loop.f below in (
       omega (arith, loop.invariant.1, below),
       r.known,
       r.legal,
@@ -78,7 +75,7 @@ returns-then-put c =
     let outcome = c.outcome-o in
     let put = c.put in
     let clash = sym put.ensures.0 ∙ c.if-put.true in
-    λ past R. stops args.n args.words.now args.log.now _ (table_at c) past args.t args.at
+    λ past R. stops args.n args.words.now args.log.now _ (plain_table c.args.n c.args.words.now c.requires.0) past args.t args.at
     args.state.now args.marks.now args.values.now R loop.state loop.marks loop.values loop.f
     (loop.invariant.6 past R) below _ _ outcome.ensures _ _
     (eqb-true _ _ clash) (rw (clash) at put.ensures.1) (rw (clash) at put.ensures.2)
@@ -111,7 +108,7 @@ loop-f-preserved c =
       omega (arith, outcome.auto.state, inv.3),
       omega (arith, put.auto.marks, inv.4),
       omega (arith, put.auto.values, inv.5),
-      λ past R. goes_on args.n args.words.now args.log.now _ (table_at c) past args.t args.at
+      λ past R. goes_on args.n args.words.now args.log.now _ (plain_table c.args.n c.args.words.now c.requires.0) past args.t args.at
           args.state.now args.marks.now args.values.now R loop.state loop.marks loop.values loop.f
           (inv.6 past R) below _ _ outcome.ensures
           _ _ (eqb-false _ _ cell) (omega (arith, below, pre.1)) (omega (arith, below, pre.2)) (rw (cell) at put.ensures.1) (rw (cell) at put.ensures.2),
@@ -132,6 +129,6 @@ pub returns : goal.returns
 returns c =
     let args = c.args in
     let loop = c.loop-f in
-    λ past R. ends args.n args.words.now args.log.now _ (table_at c) past
+    λ past R. ends args.n args.words.now args.log.now _ (plain_table c.args.n c.args.words.now c.requires.0) past
     args.t args.at args.state.now args.marks.now args.values.now R
     loop.state loop.marks loop.values loop.f (loop.invariant.6 past R) (omega (arith, c.loop-f-test.false)) loop.invariant.0

@@ -8,27 +8,26 @@ use Rattle.runner.proofs.Decoded.{two_or_more, seven}
 use Rattle.runner.proofs.Words.{unchanged}
 use Rattle.runner.proofs.ticks.outcome.Goals as goal
 
--- its third field
-abbrev three : tie.Start → ℕ
-three c = get_or c.args.words.now (row_size * c.args.f + 3) 0
+-- a row's third field
+abbrev third : List ℕ → ℕ → ℕ
+third words f = get_or words (row_size * f + 3) 0
 
 -- the fields of a kind that is told
-fields : (c : tie.Start) (n : ℕ) → c.args.kind ≡ n → FieldsFit max_flows c.args.f (kind_at n) c.args.p c.args.q (three c)
-fields c n e = subst (λ (j : ℕ). FieldsFit max_flows c.args.f (kind_at j) c.args.p c.args.q (three c)) e c.requires.2
+fields : (kind f p q x : ℕ) → FieldsFit max_flows f (kind_at kind) p q x → (n : ℕ) → kind ≡ n → FieldsFit max_flows f (kind_at n) p q x
+fields kind f p q x h n e = subst (λ (j : ℕ). FieldsFit max_flows f (kind_at j) p q x) e h
 
 -- what a row asks for
-abbrev Works : (c : tie.Start) → Row → List ℕ → Outcome → Type 0
-Works c r s' o =
+abbrev Works : (t : ℕ) (log : List ℕ) (at : ℕ) (marks values state : List ℕ) (f : ℕ) → Row → List ℕ → Outcome → Type 0
+Works t log at marks values state f r s' o =
     Did
-    (step_of r c.args.t c.args.log.now c.args.at (cells_in c.args.marks.now c.args.values.now c.args.f)
-    (held_in c.args.state.now (held_size * c.args.f)))
-    (next_of r c.args.t (cells_in c.args.marks.now c.args.values.now c.args.f) (held_in c.args.state.now (held_size * c.args.f)))
-    (held_size * c.args.f) c.args.state.now s' o
+    (step_of r t log at (cells_in marks values f) (held_in state (held_size * f)))
+    (next_of r t (cells_in marks values f) (held_in state (held_size * f)))
+    (held_size * f) state s' o
 
 -- and the row of a kind that is told
-by_kind : (c : tie.Start) (n : ℕ) → c.args.kind ≡ n → {s' : List ℕ} {o : Outcome} → Works c (decode n c.args.p c.args.q (three c)) s' o
-    → Works c (decode c.args.kind c.args.p c.args.q (three c)) s' o
-by_kind c n e {s'} {o} w = subst (λ (j : ℕ). Works c (decode j c.args.p c.args.q (three c)) s' o) (sym e) w
+by_kind : (t : ℕ) (log : List ℕ) (at : ℕ) (marks values state : List ℕ) (f kind p q x n : ℕ) → kind ≡ n → {s' : List ℕ} {o : Outcome}
+    → Works t log at marks values state f (decode n p q x) s' o → Works t log at marks values state f (decode kind p q x) s' o
+by_kind t log at marks values state f kind p q x n e {s'} {o} w = subst (λ (j : ℕ). Works t log at marks values state f (decode j p q x) s' o) (sym e) w
 
 pub returns-then-kind-ge-KINDS : goal.returns-then-kind-ge-KINDS
 returns-then-kind-ge-KINDS c = absurd (not-le_of_lt c.requires.1 c.if-kind-ge-KINDS.true)
@@ -39,8 +38,9 @@ third-requires c = (c.requires.0, c.requires.8)
 pub viewed-requires : goal.viewed-requires
 unfolding kinds
 viewed-requires c =
+    let a = c.args in
     let pre = c.requires in
-    let h = fields c 18 c.in-18.is in
+    let h = fields a.kind a.f a.p a.q (third a.words.now a.f) pre.2 18 c.in-18.is in
     (h.0, h.1, pre.3, pre.4, omega arith, pre.6, omega (arith, c.third.ensures, h.2.upto))
 
 pub third-requires-in-17 : goal.third-requires-in-17
@@ -49,8 +49,9 @@ third-requires-in-17 c = (c.requires.0, c.requires.8)
 pub viewed-requires-in-17 : goal.viewed-requires-in-17
 unfolding kinds
 viewed-requires-in-17 c =
+    let a = c.args in
     let pre = c.requires in
-    let h = fields c 17 c.in-17.is in
+    let h = fields a.kind a.f a.p a.q (third a.words.now a.f) pre.2 17 c.in-17.is in
     (h.0, h.1, pre.3, pre.4, omega arith, pre.6, omega (arith, c.third-in-17.ensures, h.2.upto))
 
 pub third-requires-in-15 : goal.third-requires-in-15
@@ -59,26 +60,30 @@ third-requires-in-15 c = (c.requires.0, c.requires.8)
 pub merged-requires : goal.merged-requires
 unfolding kinds
 merged-requires c =
+    let a = c.args in
     let pre = c.requires in
-    let h = fields c 15 c.in-15.is in (h.0, h.1, rw c.third-in-15.ensures h.2, pre.3, pre.4)
+    let h = fields a.kind a.f a.p a.q (third a.words.now a.f) pre.2 15 c.in-15.is in (h.0, h.1, rw c.third-in-15.ensures h.2, pre.3, pre.4)
 
 pub sampled-requires : goal.sampled-requires
 unfolding kinds
 sampled-requires c =
+    let a = c.args in
     let pre = c.requires in
-    let h = fields c 14 c.in-14.is in (h.0, h.1, pre.3, pre.4)
+    let h = fields a.kind a.f a.p a.q (third a.words.now a.f) pre.2 14 c.in-14.is in (h.0, h.1, pre.3, pre.4)
 
 pub sampled-requires-in-13 : goal.sampled-requires-in-13
 unfolding kinds
 sampled-requires-in-13 c =
+    let a = c.args in
     let pre = c.requires in
-    let h = fields c 13 c.in-13.is in (h.0, h.1, pre.3, pre.4)
+    let h = fields a.kind a.f a.p a.q (third a.words.now a.f) pre.2 13 c.in-13.is in (h.0, h.1, pre.3, pre.4)
 
 pub tail-requires : goal.tail-requires
 unfolding kinds
 tail-requires c =
+    let a = c.args in
     let pre = c.requires in
-    let h = fields c 12 c.in-12.is in (h.0, pre.3, pre.4, omega arith)
+    let h = fields a.kind a.f a.p a.q (third a.words.now a.f) pre.2 12 c.in-12.is in (h.0, pre.3, pre.4, omega arith)
 
 pub third-requires-in-11 : goal.third-requires-in-11
 third-requires-in-11 c = (c.requires.0, c.requires.8)
@@ -86,20 +91,23 @@ third-requires-in-11 c = (c.requires.0, c.requires.8)
 pub head-requires : goal.head-requires
 unfolding kinds
 head-requires c =
+    let a = c.args in
     let pre = c.requires in
-    let h = fields c 11 c.in-11.is in (h.0, pre.3, pre.4, omega arith, pre.6)
+    let h = fields a.kind a.f a.p a.q (third a.words.now a.f) pre.2 11 c.in-11.is in (h.0, pre.3, pre.4, omega arith, pre.6)
 
 pub later-requires : goal.later-requires
 unfolding kinds
 later-requires c =
+    let a = c.args in
     let pre = c.requires in
-    let h = fields c 10 c.in-10.is in (h.0, pre.3, pre.4, omega arith)
+    let h = fields a.kind a.f a.p a.q (third a.words.now a.f) pre.2 10 c.in-10.is in (h.0, pre.3, pre.4, omega arith)
 
 pub slower-requires : goal.slower-requires
 unfolding kinds
 slower-requires c =
+    let a = c.args in
     let pre = c.requires in
-    let h = fields c 9 c.in-9.is in (h.0, pre.3, pre.4, omega arith, omega arith)
+    let h = fields a.kind a.f a.p a.q (third a.words.now a.f) pre.2 9 c.in-9.is in (h.0, pre.3, pre.4, omega arith, omega arith)
 
 pub third-requires-in-8 : goal.third-requires-in-8
 third-requires-in-8 c = (c.requires.0, c.requires.8)
@@ -107,140 +115,177 @@ third-requires-in-8 c = (c.requires.0, c.requires.8)
 pub faster-requires : goal.faster-requires
 unfolding kinds
 faster-requires c =
+    let a = c.args in
     let pre = c.requires in
-    let h = fields c 8 c.in-8.is in (h.0, pre.3, pre.4, omega arith, pre.6, omega arith, omega (arith, c.third-in-8.ensures))
+    let h = fields a.kind a.f a.p a.q (third a.words.now a.f) pre.2 8 c.in-8.is in (h.0, pre.3, pre.4, omega arith, pre.6, omega arith, omega (arith, c.third-in-8.ensures))
 
 pub registered-requires : goal.registered-requires
 unfolding kinds
 registered-requires c =
+    let a = c.args in
     let pre = c.requires in
-    let h = fields c 7 c.in-7.is in (h.1, pre.3)
+    let h = fields a.kind a.f a.p a.q (third a.words.now a.f) pre.2 7 c.in-7.is in (h.1, pre.3)
 
 pub constant-requires : goal.constant-requires
 unfolding kinds
 constant-requires c =
+    let a = c.args in
     let pre = c.requires in
-    let h = fields c 1 c.in-1.is in (omega arith, pre.6, omega arith)
+    let h = fields a.kind a.f a.p a.q (third a.words.now a.f) pre.2 1 c.in-1.is in (omega arith, pre.6, omega arith)
 
 pub input-requires : goal.input-requires
 unfolding kinds
 input-requires c =
+    let a = c.args in
     let pre = c.requires in
-    let h = fields c 0 c.in-0.is in (omega arith, pre.6, omega arith, pre.7)
+    let h = fields a.kind a.f a.p a.q (third a.words.now a.f) pre.2 0 c.in-0.is in (omega arith, pre.6, omega arith, pre.7)
 
 pub combined-requires : goal.combined-requires
 unfolding kinds
 combined-requires c =
+    let a = c.args in
     let pre = c.requires in
-    let h = fields c 2 c.in-2.is in (h.0, h.1, pre.3, pre.4, omega arith, omega arith)
+    let h = fields a.kind a.f a.p a.q (third a.words.now a.f) pre.2 2 c.in-2.is in (h.0, h.1, pre.3, pre.4, omega arith, omega arith)
 
 pub combined-requires-in-3 : goal.combined-requires-in-3
 unfolding kinds
 combined-requires-in-3 c =
+    let a = c.args in
     let pre = c.requires in
-    let h = fields c 3 c.in-3.is in (h.0, h.1, pre.3, pre.4, omega arith, omega arith)
+    let h = fields a.kind a.f a.p a.q (third a.words.now a.f) pre.2 3 c.in-3.is in (h.0, h.1, pre.3, pre.4, omega arith, omega arith)
 
 pub combined-requires-in-4 : goal.combined-requires-in-4
 unfolding kinds
 combined-requires-in-4 c =
+    let a = c.args in
     let pre = c.requires in
-    let h = fields c 4 c.in-4.is in (h.0, h.1, pre.3, pre.4, omega arith, omega arith)
+    let h = fields a.kind a.f a.p a.q (third a.words.now a.f) pre.2 4 c.in-4.is in (h.0, h.1, pre.3, pre.4, omega arith, omega arith)
 
 pub combined-requires-in-5 : goal.combined-requires-in-5
 unfolding kinds
 combined-requires-in-5 c =
+    let a = c.args in
     let pre = c.requires in
-    let h = fields c 5 c.in-5.is in (h.0, h.1, pre.3, pre.4, omega arith, omega arith)
+    let h = fields a.kind a.f a.p a.q (third a.words.now a.f) pre.2 5 c.in-5.is in (h.0, h.1, pre.3, pre.4, omega arith, omega arith)
 
 pub combined-requires-in-6 : goal.combined-requires-in-6
 unfolding kinds
 combined-requires-in-6 c =
+    let a = c.args in
     let pre = c.requires in
-    let h = fields c 6 c.in-6.is in (h.0, h.1, pre.3, pre.4, omega arith, omega arith)
+    let h = fields a.kind a.f a.p a.q (third a.words.now a.f) pre.2 6 c.in-6.is in (h.0, h.1, pre.3, pre.4, omega arith, omega arith)
 
 pub returns-in-18 : goal.returns-in-18
 unfolding kinds step_of next_of
-returns-in-18 c = by_kind c 18 c.in-18.is (rw (← c.third.ensures) c.viewed.ensures)
+returns-in-18 c =
+    let a = c.args in
+    by_kind a.t a.log.now a.at a.marks.now a.values.now a.state.now a.f a.kind a.p a.q (third a.words.now a.f) 18 c.in-18.is (rw (← c.third.ensures) c.viewed.ensures)
 
 pub returns-in-17 : goal.returns-in-17
 unfolding kinds step_of next_of
-returns-in-17 c = by_kind c 17 c.in-17.is (rw (← c.third-in-17.ensures) c.viewed-in-17.ensures)
+returns-in-17 c =
+    let a = c.args in
+    by_kind a.t a.log.now a.at a.marks.now a.values.now a.state.now a.f a.kind a.p a.q (third a.words.now a.f) 17 c.in-17.is (rw (← c.third-in-17.ensures) c.viewed-in-17.ensures)
 
 pub returns-in-16 : goal.returns-in-16
 unfolding kinds step_of next_of
-returns-in-16 c = by_kind c 16 c.in-16.is (unchanged refl refl)
+returns-in-16 c =
+    let a = c.args in
+    by_kind a.t a.log.now a.at a.marks.now a.values.now a.state.now a.f a.kind a.p a.q (third a.words.now a.f) 16 c.in-16.is (unchanged refl refl)
 
 pub returns-in-15 : goal.returns-in-15
 unfolding kinds step_of next_of
-returns-in-15 c = by_kind c 15 c.in-15.is (rw (← c.third-in-15.ensures) (unchanged c.merged.ensures refl))
+returns-in-15 c =
+    let a = c.args in
+    by_kind a.t a.log.now a.at a.marks.now a.values.now a.state.now a.f a.kind a.p a.q (third a.words.now a.f) 15 c.in-15.is (rw (← c.third-in-15.ensures) (unchanged c.merged.ensures refl))
 
 pub returns-in-14 : goal.returns-in-14
 unfolding kinds step_of next_of
-returns-in-14 c = by_kind c 14 c.in-14.is (unchanged c.sampled.ensures refl)
+returns-in-14 c =
+    let a = c.args in
+    by_kind a.t a.log.now a.at a.marks.now a.values.now a.state.now a.f a.kind a.p a.q (third a.words.now a.f) 14 c.in-14.is (unchanged c.sampled.ensures refl)
 
 pub returns-in-13 : goal.returns-in-13
 unfolding kinds step_of next_of
-returns-in-13 c = by_kind c 13 c.in-13.is (unchanged c.sampled-in-13.ensures refl)
+returns-in-13 c =
+    let a = c.args in
+    by_kind a.t a.log.now a.at a.marks.now a.values.now a.state.now a.f a.kind a.p a.q (third a.words.now a.f) 13 c.in-13.is (unchanged c.sampled-in-13.ensures refl)
 
 pub returns-in-12 : goal.returns-in-12
 unfolding kinds step_of next_of
-returns-in-12 c = by_kind c 12 c.in-12.is c.tail.ensures
+returns-in-12 c =
+    let a = c.args in
+    by_kind a.t a.log.now a.at a.marks.now a.values.now a.state.now a.f a.kind a.p a.q (third a.words.now a.f) 12 c.in-12.is c.tail.ensures
 
 pub returns-in-11 : goal.returns-in-11
 unfolding kinds step_of next_of
-returns-in-11 c = by_kind c 11 c.in-11.is (rw (← c.third-in-11.ensures) c.head.ensures)
+returns-in-11 c =
+    let a = c.args in
+    by_kind a.t a.log.now a.at a.marks.now a.values.now a.state.now a.f a.kind a.p a.q (third a.words.now a.f) 11 c.in-11.is (rw (← c.third-in-11.ensures) c.head.ensures)
 
 pub returns-in-10 : goal.returns-in-10
 unfolding kinds step_of next_of
-returns-in-10 c = by_kind c 10 c.in-10.is (unchanged c.later.ensures refl)
+returns-in-10 c =
+    let a = c.args in
+    by_kind a.t a.log.now a.at a.marks.now a.values.now a.state.now a.f a.kind a.p a.q (third a.words.now a.f) 10 c.in-10.is (unchanged c.later.ensures refl)
 
 pub returns-in-9 : goal.returns-in-9
 unfolding kinds step_of next_of
-returns-in-9 c = by_kind c 9 c.in-9.is c.slower.ensures
+returns-in-9 c =
+    let a = c.args in
+    by_kind a.t a.log.now a.at a.marks.now a.values.now a.state.now a.f a.kind a.p a.q (third a.words.now a.f) 9 c.in-9.is c.slower.ensures
 
 pub returns-in-8 : goal.returns-in-8
 unfolding kinds step_of next_of
-returns-in-8 c = by_kind c 8 c.in-8.is (rw (← c.third-in-8.ensures) c.faster.ensures)
+returns-in-8 c =
+    let a = c.args in
+    by_kind a.t a.log.now a.at a.marks.now a.values.now a.state.now a.f a.kind a.p a.q (third a.words.now a.f) 8 c.in-8.is (rw (← c.third-in-8.ensures) c.faster.ensures)
 
 pub returns-in-7 : goal.returns-in-7
 unfolding kinds step_of next_of
-returns-in-7 c = by_kind c 7 c.in-7.is (unchanged (c.registered.ensures _ refl) refl)
+returns-in-7 c =
+    let a = c.args in
+    by_kind a.t a.log.now a.at a.marks.now a.values.now a.state.now a.f a.kind a.p a.q (third a.words.now a.f) 7 c.in-7.is (unchanged (c.registered.ensures _ refl) refl)
 
 pub returns-in-1 : goal.returns-in-1
 unfolding kinds step_of next_of
-returns-in-1 c = by_kind c 1 c.in-1.is c.constant.ensures
+returns-in-1 c =
+    let a = c.args in
+    by_kind a.t a.log.now a.at a.marks.now a.values.now a.state.now a.f a.kind a.p a.q (third a.words.now a.f) 1 c.in-1.is c.constant.ensures
 
 pub returns-in-0 : goal.returns-in-0
 unfolding kinds step_of next_of
-returns-in-0 c = by_kind c 0 c.in-0.is c.input.ensures
+returns-in-0 c =
+    let a = c.args in
+    by_kind a.t a.log.now a.at a.marks.now a.values.now a.state.now a.f a.kind a.p a.q (third a.words.now a.f) 0 c.in-0.is c.input.ensures
 
 pub returns-in-2 : goal.returns-in-2
 unfolding kinds step_of next_of
-returns-in-2 c = by_kind c 2 c.in-2.is (unchanged (c.combined.ensures add (λ a b z. refl)) refl)
+returns-in-2 c =
+    let a = c.args in
+    by_kind a.t a.log.now a.at a.marks.now a.values.now a.state.now a.f a.kind a.p a.q (third a.words.now a.f) 2 c.in-2.is (unchanged (c.combined.ensures add (λ a b z. refl)) refl)
 
 pub returns-in-3 : goal.returns-in-3
 unfolding kinds step_of next_of
-returns-in-3 c = by_kind c 3 c.in-3.is (unchanged (c.combined-in-3.ensures subtract (λ a b z. refl)) refl)
+returns-in-3 c =
+    let a = c.args in
+    by_kind a.t a.log.now a.at a.marks.now a.values.now a.state.now a.f a.kind a.p a.q (third a.words.now a.f) 3 c.in-3.is (unchanged (c.combined-in-3.ensures subtract (λ a b z. refl)) refl)
 
 pub returns-in-4 : goal.returns-in-4
 unfolding kinds step_of next_of
-returns-in-4 c = by_kind c 4 c.in-4.is (unchanged (c.combined-in-4.ensures less (λ a b z. refl)) refl)
+returns-in-4 c =
+    let a = c.args in
+    by_kind a.t a.log.now a.at a.marks.now a.values.now a.state.now a.f a.kind a.p a.q (third a.words.now a.f) 4 c.in-4.is (unchanged (c.combined-in-4.ensures less (λ a b z. refl)) refl)
 
 pub returns-in-5 : goal.returns-in-5
 unfolding kinds step_of next_of
-returns-in-5 c = by_kind c 5 c.in-5.is (unchanged (c.combined-in-5.ensures equal (λ a b z. refl)) refl)
+returns-in-5 c =
+    let a = c.args in
+    by_kind a.t a.log.now a.at a.marks.now a.values.now a.state.now a.f a.kind a.p a.q (third a.words.now a.f) 5 c.in-5.is (unchanged (c.combined-in-5.ensures equal (λ a b z. refl)) refl)
 
 pub returns-in-6 : goal.returns-in-6
 unfolding kinds step_of next_of
-returns-in-6 c = by_kind c 6 c.in-6.is (unchanged (c.combined-in-6.ensures larger (λ a b z. refl)) refl)
+returns-in-6 c =
+    let a = c.args in
+    by_kind a.t a.log.now a.at a.marks.now a.values.now a.state.now a.f a.kind a.p a.q (third a.words.now a.f) 6 c.in-6.is (unchanged (c.combined-in-6.ensures larger (λ a b z. refl)) refl)
 
-pub returns-in_default : goal.returns-in_default
-returns-in_default c = absurd (omega (arith, c.in-2-to-6.if-kind-lt7-own.true, seven _ (two_or_more _ c.in_default-1.rest.1 c.in_default-1.rest.0.1) c.in_default.in_default-own.rest.0.0.0.0.1 c.in_default.in_default-own.rest.0.0.0.1 c.in_default.in_default-own.rest.0.0.1 c.in_default.in_default-own.rest.0.1 c.in_default.in_default-own.rest.1))
-
-pub returns-in-19-to-4294967295 : goal.returns-in-19-to-4294967295
-returns-in-19-to-4294967295 c =
-    let other =
-    no_kind_lem c.args.kind c.in-19-to-4294967295.if-kind-lt7-own.false c.in_default-1.rest.0.0.1 c.in_default-1.rest.0.0.0.1 c.in_default-1.rest.0.0.0.0.1 c.in_default-1.rest.0.0.0.0.0.1 c.in_default-1.rest.0.0.0.0.0.0.1
-    c.in_default-1.rest.0.0.0.0.0.0.0.1 c.in_default-1.rest.0.0.0.0.0.0.0.0.1 c.in_default-1.rest.0.0.0.0.0.0.0.0.0.1 c.in_default-1.rest.0.0.0.0.0.0.0.0.0.0.1
-    c.in_default-1.rest.0.0.0.0.0.0.0.0.0.0.0.1 c.in_default-1.rest.0.0.0.0.0.0.0.0.0.0.0.0.1 c.in_default-1.rest.0.0.0.0.0.0.0.0.0.0.0.0.0.1 in
-    absurd (not-le_of_lt c.if-kind-ge-KINDS.false other)
