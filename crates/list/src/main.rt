@@ -1,60 +1,45 @@
 // Writes the listing of the packed table on standard input, or says why it cannot be read.
 #![tactic(auto)]
 
+ghost use Rattle.std.specs.Prelude.{IfOk};
 ghost use Rattle.list.specs.Private.Inputs.{Within};
 
-use libc::{STDIN_FILENO, STDOUT_FILENO};
+use anyhow::Context;
 use lister::Listed;
+use std::io;
+use std::io::Read;
 
 // One byte more than the longest table has: it decides every longer input.
 const ROOM: usize = table::LONGEST_TABLE + 1;
 
-// What reading the input comes to: so many bytes, or a read that failed.
-#[derive(Drop)]
-enum Input {
-    Bytes(usize),
-    Failed,
-}
-
-// Reads to the end of the input, or until the buffer is full.
-fn read_all(packed: &mut [u8]) -> Input
-    ensures { Within result packed.new }
+// Reads to the end of the input, or until the buffer is full, and answers how many bytes it read.
+fn read_all(input: &mut impl Read, packed: &mut [u8]) -> io::Result<usize>
+    ensures { IfOk result (λ size. Within size packed.new) }
 {
     let mut size = 0;
     while size < packed.len() {
-        let got = libc::read(STDIN_FILENO, &mut packed[size..]);
-        if got < 0 {
-            return Input::Failed;
-        }
-        let more = io::count(got, &packed[size..]);
+        let more = input.read(&mut packed[size..])?;
         if more == 0 {
-            return Input::Bytes(size);
+            return Ok(size);
         }
         size += more;
     }
-    Input::Bytes(size)
+    Ok(size)
 }
 
 // Writes the listing of a packed table.
-fn list(packed: &[u8]) {
+fn list(rt: &impl Print, packed: &[u8]) -> anyhow::Result<()> {
     let mut text = [0u8; lister::LONGEST];
     let listed = lister::listing(packed, &mut text);
     let Listed::Bytes(size) = listed else {
-        return;
+        return Ok(());
     };
     let end = size as usize;
-    let is_written = io::write_all(STDOUT_FILENO, &text[..end]);
-    if !is_written {
-        os::fail(b"standard output");
-    }
+    rt.write_all(&text[..end]).context("standard output")
 }
 
-fn main() {
+fn main(rt: HostRuntime) -> anyhow::Result<()> {
     let mut packed = [0u8; ROOM];
-    let input = read_all(&mut packed);
-    let Input::Bytes(size) = input else {
-        os::fail(b"standard input");
-        return;
-    };
-    list(&packed[..size]);
+    let size = read_all(&mut rt.stdin(), &mut packed).context("standard input")?;
+    list(&rt, &packed[..size])
 }
