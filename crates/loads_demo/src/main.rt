@@ -2,89 +2,129 @@
 // buffer, which holds dots where nothing was written.
 #![tactic(auto)]
 
-use libc::STDOUT_FILENO;
+use std::io;
 use table::Answer;
 
 const LINE: usize = loads::LINE_SIZE;
 
 // Some text, and a number after it.
-fn part(before: &[u8], n: u32) {
-    io::write_all(STDOUT_FILENO, before);
-    io::print_decimal(STDOUT_FILENO, n as u64);
+fn part(rt: &impl Print, before: &[u8], n: u32) -> io::Result<()> {
+    rt.write_all(before)?;
+    print!(rt; "{n}")
 }
 
 // The four parts of an answer.
-fn answer(a: Answer) {
-    part(b"", a.number);
-    part(b" ", a.flow);
-    part(b" ", a.tick);
-    part(b" ", a.count);
-    io::write_all(STDOUT_FILENO, b"\n");
+fn answer(rt: &impl Print, a: Answer) -> io::Result<()> {
+    part(rt, b"", a.number)?;
+    part(rt, b" ", a.flow)?;
+    part(rt, b" ", a.tick)?;
+    part(rt, b" ", a.count)?;
+    println!(rt)
 }
 
 // A page in a buffer.
-fn shown(title: &[u8], count: u32, words: &[u32], times: &[u16], page: &mut [u8]) {
+fn shown(
+    rt: &impl Print,
+    title: &[u8],
+    count: u32,
+    words: &[u32],
+    times: &[u16],
+    page: &mut [u8],
+) -> io::Result<()> {
     let a = loads::page(count, words, times, page);
-    io::write_all(STDOUT_FILENO, title);
-    answer(a);
-    io::write_all(STDOUT_FILENO, page);
-    io::write_all(STDOUT_FILENO, b"\n");
+    rt.write_all(title)?;
+    answer(rt, a)?;
+    rt.write_all(page)?;
+    println!(rt)
 }
 
 // Halves, which go to the even neighbour: 7812.5, 62.5 and 187.5, and a total of what is printed.
-fn halves() {
+fn halves(rt: &impl Print) -> io::Result<()> {
     let words = [0, 32, 4, 0, 0, 16, 0, 0, 13, 1, 1, 0];
     let times = [250, 1, 3];
-    shown(b"halves\n", 3, &words, &times, &mut [b'.'; 4 * LINE + 3]);
+    shown(
+        rt,
+        b"halves\n",
+        3,
+        &words,
+        &times,
+        &mut [b'.'; 4 * LINE + 3],
+    )?;
     let words = [0, 3, 0, 0, 0, 3, 0, 0, 0, 3, 0, 0];
-    shown(b"thirds\n", 3, &words, &[1, 1, 2], &mut [b'.'; 4 * LINE]);
+    shown(
+        rt,
+        b"thirds\n",
+        3,
+        &words,
+        &[1, 1, 2],
+        &mut [b'.'; 4 * LINE],
+    )
 }
 
 // Lines by period, equal periods by phase, and then by flow.
-fn order() {
+fn order(rt: &impl Print) -> io::Result<()> {
     let words = [0, 8, 7, 0, 0, 8, 3, 0, 0, 2, 9, 0, 0, 8, 3, 0, 0, 1, 0, 0];
     let times = [1, 2, 3, 4, 5];
-    shown(b"order\n", 5, &words, &times, &mut [b'.'; 6 * LINE]);
+    shown(rt, b"order\n", 5, &words, &times, &mut [b'.'; 6 * LINE])
 }
 
 // The longest period and phase, the largest load, and 0 to 3 conditions.
-fn widest() {
+fn widest(rt: &impl Print) -> io::Result<()> {
     let words = [0, 3855, 0, 0, 9, 0, 17, 0, 12, 1, 0, 0];
     let times = [65535, 65534, 1];
-    shown(b"slow\n", 3, &words, &times, &mut [b'.'; 4 * LINE]);
+    shown(rt, b"slow\n", 3, &words, &times, &mut [b'.'; 4 * LINE])?;
     let words = [0, 1, 0, 0, 13, 0, 0, 0, 14, 1, 1, 0, 13, 2, 2, 0];
     let times = [65535, 65534, 0, 1];
-    shown(b"conditions\n", 4, &words, &times, &mut [b'.'; 5 * LINE]);
+    shown(
+        rt,
+        b"conditions\n",
+        4,
+        &words,
+        &times,
+        &mut [b'.'; 5 * LINE],
+    )
 }
 
 // As many flows as a table may have, each with the largest load.
-fn most() {
+fn most(rt: &impl Print) -> io::Result<()> {
     let mut words = [0u32; 4 * 64];
-    let mut f = 0;
-    while f < 64 {
+    for f in 0..64 {
         words[4 * f + 1] = 1;
-        f += 1;
     }
-    shown(b"most\n", 64, &words, &[65535; 64], &mut [b'.'; 65 * LINE]);
+    shown(
+        rt,
+        b"most\n",
+        64,
+        &words,
+        &[65535; 64],
+        &mut [b'.'; 65 * LINE],
+    )
 }
 
 // Refusals, in their order: of the table, of the check, of the times, of the page. Each leaves the page.
-fn refusals() {
+fn refusals(rt: &impl Print) -> io::Result<()> {
     let words = [0, 10, 0, 0, 0, 20, 0, 0, 2, 0, 1, 0];
     let mut page = [b'.'; 3 * LINE];
-    shown(b"unknown kind\n", 1, &[16, 0, 0, 0], &[], &mut page);
-    shown(b"clocks that differ\n", 3, &words, &[], &mut page);
-    shown(b"a time too few\n", 2, &words[..8], &[1], &mut page);
+    shown(rt, b"unknown kind\n", 1, &[16, 0, 0, 0], &[], &mut page)?;
+    shown(rt, b"clocks that differ\n", 3, &words, &[], &mut page)?;
+    shown(rt, b"a time too few\n", 2, &words[..8], &[1], &mut page)?;
     let mut short = [b'.'; 3 * LINE - 1];
-    shown(b"a time too many\n", 2, &words[..8], &[1, 2, 3], &mut short);
-    shown(b"a byte too few\n", 2, &words[..8], &[1, 2], &mut short);
-    shown(b"just enough\n", 2, &words[..8], &[1, 2], &mut page);
+    shown(
+        rt,
+        b"a time too many\n",
+        2,
+        &words[..8],
+        &[1, 2, 3],
+        &mut short,
+    )?;
+    shown(rt, b"a byte too few\n", 2, &words[..8], &[1, 2], &mut short)?;
+    shown(rt, b"just enough\n", 2, &words[..8], &[1, 2], &mut page)
 }
 
-fn main() {
-    halves();
-    order();
-    widest();
-    most();
-    refusals();
+fn main(rt: HostRuntime) -> io::Result<()> {
+    halves(&rt)?;
+    order(&rt)?;
+    widest(&rt)?;
+    most(&rt)?;
+    refusals(&rt)
 }

@@ -3,7 +3,7 @@
 // and words hold 9 where nothing was written.
 #![tactic(auto)]
 
-use libc::STDOUT_FILENO;
+use std::io;
 use table::Answer;
 
 // Room for the trace of every plan here, and some cells more.
@@ -13,67 +13,75 @@ const ROOM: usize = 36;
 const WINDOW: usize = 2 * 131072 + 1;
 
 // Some text, and a number after it.
-fn part(before: &[u8], n: u32) {
-    io::write_all(STDOUT_FILENO, before);
-    io::print_decimal(STDOUT_FILENO, n as u64);
+fn part(rt: &impl Print, before: &[u8], n: u32) -> io::Result<()> {
+    rt.write_all(before)?;
+    print!(rt; "{n}")
 }
 
 // The four parts of an answer.
-fn answer(a: Answer) {
-    part(b"", a.number);
-    part(b" ", a.flow);
-    part(b" ", a.tick);
-    part(b" ", a.count);
+fn answer(rt: &impl Print, a: Answer) -> io::Result<()> {
+    part(rt, b"", a.number)?;
+    part(rt, b" ", a.flow)?;
+    part(rt, b" ", a.tick)?;
+    part(rt, b" ", a.count)
 }
 
-fn cell(mark: u8, value: u32) {
-    part(b" ", mark as u32);
-    part(b":", value);
+fn cell(rt: &impl Print, mark: u8, value: u32) -> io::Result<()> {
+    part(rt, b" ", mark as u32)?;
+    part(rt, b":", value)
 }
 
 // The cells from one place to another.
-fn cells(marks: &[u8], values: &[u32], from: usize, to: usize) {
-    let mut i = from;
-    while i < to {
+fn cells(rt: &impl Print, marks: &[u8], values: &[u32], from: usize, to: usize) -> io::Result<()> {
+    for i in from..to {
         if i < marks.len() && i < values.len() {
-            cell(marks[i], values[i]);
+            cell(rt, marks[i], values[i])?;
         }
-        i += 1;
     }
+    Ok(())
 }
 
 // A run, and the cells of its trace from one place to another.
-fn shown(title: &[u8], count: u32, words: &[u32], log: &[u32], ticks: u32, from: usize, to: usize) {
+fn shown(
+    rt: &impl Print,
+    title: &[u8],
+    count: u32,
+    words: &[u32],
+    log: &[u32],
+    ticks: u32,
+    from: usize,
+    to: usize,
+) -> io::Result<()> {
     let mut marks = [9u8; ROOM];
     let mut values = [9u32; ROOM];
     let a = runner::run(count, words, log, ticks, &mut marks, &mut values);
-    io::write_all(STDOUT_FILENO, title);
-    answer(a);
-    io::write_all(STDOUT_FILENO, b"\n");
-    cells(&marks, &values, from, to);
-    io::write_all(STDOUT_FILENO, b"\n");
+    rt.write_all(title)?;
+    answer(rt, a)?;
+    println!(rt)?;
+    cells(rt, &marks, &values, from, to)?;
+    println!(rt)
 }
 
 // Plan D: inputs (10, 0) and (20, 0) and their sum. Ten ticks end; eleven clash at tick 10 and leave the sum's cell and all after it.
-fn plan_d() {
+fn plan_d(rt: &impl Print) -> io::Result<()> {
     let words = [0, 10, 0, 0, 0, 20, 0, 0, 2, 0, 1, 0];
     let mut log = [0u32; 22];
     log[0] = 5;
     log[1] = 7;
-    shown(b"D, 10 ticks\n", 3, &words, &log[..20], 10, 0, 32);
+    shown(rt, b"D, 10 ticks\n", 3, &words, &log[..20], 10, 0, 32)?;
     log[20] = 8;
-    shown(b"D, 11 ticks\n", 3, &words, &log, 11, 27, 34);
+    shown(rt, b"D, 11 ticks\n", 3, &words, &log, 11, 27, 34)
 }
 
 // Plan K: a register with the initial value 7, its beat and source input (2, 0).
-fn plan_k() {
+fn plan_k(rt: &impl Print) -> io::Result<()> {
     let words = [0, 2, 0, 0, 7, 7, 0, 0];
     let log = [10, 11, 12, 13, 14];
-    shown(b"K\n", 2, &words, &log, 5, 0, 11);
+    shown(rt, b"K\n", 2, &words, &log, 5, 0, 11)
 }
 
 // Plan K for a tick more than the window has: tick 131,072 stands where tick 0 stood.
-fn long_k() {
+fn long_k(rt: &impl Print) -> io::Result<()> {
     let words = [0, 2, 0, 0, 7, 7, 0, 0];
     let mut log = [0u32; 131073];
     log[0] = 3;
@@ -91,72 +99,78 @@ fn long_k() {
         &mut values,
         &mut tallies,
     );
-    io::write_all(STDOUT_FILENO, b"K, long, 131073 ticks\n");
-    answer(a);
-    io::write_all(STDOUT_FILENO, b"\n");
-    cells(&marks, &values, 0, 6);
-    cells(&marks, &values, 262140, 262145);
-    part(b"\n ", tallies[0]);
-    part(b" ", tallies[1]);
-    part(b" ", tallies[2]);
-    part(b" ", tallies[3]);
-    part(b" ", tallies[4]);
-    io::write_all(STDOUT_FILENO, b"\n");
+    println!(rt; "K, long, 131073 ticks")?;
+    answer(rt, a)?;
+    println!(rt)?;
+    cells(rt, &marks, &values, 0, 6)?;
+    cells(rt, &marks, &values, 262140, 262145)?;
+    part(rt, b"\n ", tallies[0])?;
+    part(rt, b" ", tallies[1])?;
+    part(rt, b" ", tallies[2])?;
+    part(rt, b" ", tallies[3])?;
+    part(rt, b" ", tallies[4])?;
+    println!(rt)
 }
 
 // Readings of 5, -20 and -30, the limit -20, whether a reading is less, and the larger of the two.
-fn below_zero() {
+fn below_zero(rt: &impl Print) -> io::Result<()> {
     let words = [0, 1, 0, 0, 1, 4294967276, 1, 0, 4, 0, 1, 0, 6, 0, 1, 0];
     let log = [5, 4294967276, 4294967266];
-    shown(b"below zero\n", 4, &words, &log, 3, 0, 13);
+    shown(rt, b"below zero\n", 4, &words, &log, 3, 0, 13)
 }
 
 // A signal (2, 2) governed by a switch (3, 1) that is looked at every 6 ticks, in tick 1 for ticks 2 to 7 and in tick 7 for ticks 8 to 13; and by
 // one that begins after it.
-fn seen() {
+fn seen(rt: &impl Print) -> io::Result<()> {
     let words = [0, 3, 1, 0, 0, 2, 2, 0, 18, 1, 0, 6];
     let log = [
         9, 9, 0, 9, 9, 102, 9, 9, 4, 104, 9, 9, 9, 106, 7, 9, 9, 108, 9, 9, 0, 110,
     ];
-    shown(b"seen every 6 ticks\n", 3, &words, &log, 11, 0, 34);
+    shown(rt, b"seen every 6 ticks\n", 3, &words, &log, 11, 0, 34)?;
     let words = [0, 1, 2, 0, 0, 1, 1, 0, 17, 1, 0, 1];
-    shown(b"not begun\n", 3, &words, &log[..6], 3, 0, 10);
+    shown(rt, b"not begun\n", 3, &words, &log[..6], 3, 0, 10)
 }
 
 // Each word, after a space.
-fn listed(words: &[u32]) {
-    let mut i = 0;
-    while i < words.len() {
-        part(b" ", words[i]);
-        i += 1;
+fn listed(rt: &impl Print, words: &[u32]) -> io::Result<()> {
+    for x in words {
+        part(rt, b" ", *x)?;
     }
+    Ok(())
 }
 
 // A trace of 8 ticks of three flows stored, and all words after it.
-fn stored(title: &[u8], words: &[u32], marks: &[u8], values: &[u32], kept: &mut [u32]) {
+fn stored(
+    rt: &impl Print,
+    title: &[u8],
+    words: &[u32],
+    marks: &[u8],
+    values: &[u32],
+    kept: &mut [u32],
+) -> io::Result<()> {
     let a = archive::store(3, words, 8, marks, values, kept);
-    io::write_all(STDOUT_FILENO, title);
-    answer(a);
-    io::write_all(STDOUT_FILENO, b"\n");
-    listed(kept);
-    io::write_all(STDOUT_FILENO, b"\n");
+    rt.write_all(title)?;
+    answer(rt, a)?;
+    println!(rt)?;
+    listed(rt, kept)?;
+    println!(rt)
 }
 
 // Stored words restored, and all cells after it.
-fn restored(title: &[u8], words: &[u32], kept: &[u32]) {
+fn restored(rt: &impl Print, title: &[u8], words: &[u32], kept: &[u32]) -> io::Result<()> {
     let mut marks = [9u8; 24];
     let mut values = [9u32; 24];
     let a = archive::restore(3, words, 8, kept, &mut marks, &mut values);
-    io::write_all(STDOUT_FILENO, title);
-    answer(a);
-    io::write_all(STDOUT_FILENO, b"\n");
-    cells(&marks, &values, 0, 24);
-    io::write_all(STDOUT_FILENO, b"\n");
+    rt.write_all(title)?;
+    answer(rt, a)?;
+    println!(rt)?;
+    cells(rt, &marks, &values, 0, 24)?;
+    println!(rt)
 }
 
 // An input (2, 0), its slower copy by 2, which is (4, 0), and an input (3, 1): for 8 ticks four words, two and three. A value where there is none,
 // and a word too few, are refused.
-fn archived() {
+fn archived(rt: &impl Print) -> io::Result<()> {
     let words = [0, 2, 0, 0, 9, 0, 2, 0, 0, 3, 1, 0];
     let marks = [
         1, 1, 0, 0, 0, 1, 1, 0, 0, 0, 0, 0, 1, 1, 1, 0, 0, 0, 1, 0, 0, 0, 0, 1,
@@ -165,32 +179,33 @@ fn archived() {
         10, 10, 0, 0, 0, 31, 12, 0, 0, 0, 0, 0, 14, 14, 34, 0, 0, 0, 16, 0, 0, 0, 0, 37,
     ];
     let mut kept = [9u32; 9];
-    stored(b"stored\n", &words, &marks, &values, &mut kept);
-    restored(b"restored\n", &words, &kept);
-    restored(b"a word too few\n", &words, &[1, 2, 3, 4, 5, 6, 7, 8]);
+    stored(rt, b"stored\n", &words, &marks, &values, &mut kept)?;
+    restored(rt, b"restored\n", &words, &kept)?;
+    restored(rt, b"a word too few\n", &words, &[1, 2, 3, 4, 5, 6, 7, 8])?;
     values[3] = 1;
     stored(
+        rt,
         b"a value where there is none\n",
         &words,
         &marks,
         &values,
         &mut [9; 9],
-    );
+    )
 }
 
 // A refusal of the table names its row and leaves all.
-fn unknown_kind() {
+fn unknown_kind(rt: &impl Print) -> io::Result<()> {
     let words = [0, 1, 0, 0, 16, 0, 0, 0];
     let log = [1, 2];
-    shown(b"kind 16 in row 1\n", 2, &words, &log, 2, 0, 2);
+    shown(rt, b"kind 16 in row 1\n", 2, &words, &log, 2, 0, 2)
 }
 
-fn main() {
-    plan_d();
-    plan_k();
-    long_k();
-    below_zero();
-    seen();
-    archived();
-    unknown_kind();
+fn main(rt: HostRuntime) -> io::Result<()> {
+    plan_d(&rt)?;
+    plan_k(&rt)?;
+    long_k(&rt)?;
+    below_zero(&rt)?;
+    seen(&rt)?;
+    archived(&rt)?;
+    unknown_kind(&rt)
 }
