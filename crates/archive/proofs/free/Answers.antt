@@ -1,8 +1,6 @@
-use mathlib.Core.Path.{◌≡◌, sym, ◌∙◌, ap}
-use Prim.Native.Nat.{ℕ, ◌-◌, ◌≤◌}
+use mathlib.Core.Path.{sym, ◌∙◌, ap}
+use Prim.Native.Nat.{ℕ}
 use native.Mathlib.Omega.{arith}
-use mathlib.Core.Bool.{true}
-use borrow.Author.Rules.{rules}
 use Rattle.calendar.specs.Calendar as calendar
 use Rattle.archive.proofs.Calls.{free_none, free_next, free_not, kind_at_lem}
 use Rattle.archive.proofs.free.Goals as goal

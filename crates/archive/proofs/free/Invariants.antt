@@ -1,10 +1,7 @@
-use mathlib.Core.Path.{◌≡◌, sym, ◌∙◌, ap}
-use Prim.Native.Nat.{ℕ, ◌-◌, ◌≤◌}
-use native.Mathlib.Omega.{arith}
+use mathlib.Core.Path.{◌≡◌}
+use Prim.Native.Nat.{◌-◌, ◌≤◌}
 use mathlib.Core.Bool.{true}
-use borrow.Author.Rules.{rules}
 use Rattle.calendar.specs.Calendar as calendar
-use Rattle.archive.proofs.Calls.{free_none, free_next, free_not, kind_at_lem}
 use Rattle.archive.proofs.free.Given as goal
 
 abbrev pub invariant-loop-f : goal.invariant-loop-f

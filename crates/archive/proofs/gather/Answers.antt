@@ -1,9 +1,8 @@
-use mathlib.Core.Path.{◌≡◌, refl, ◌∙◌}
-use Prim.Native.Nat.{ℕ, ◌-◌, ◌≤◌}
+use mathlib.Core.Path.{refl, ◌∙◌}
+use Prim.Native.Nat.{ℕ}
 use native.Mathlib.Omega.{arith}
-use lib.ListN.{length, length-set}
+use lib.ListN.{length-set}
 use Rattle.calendar.specs.Calendar.{clock_word}
-use Rattle.archive.specs.Private.Steps.{Carried}
 use Rattle.archive.proofs.Held.{carried_none, carried_next, carried_all}
 use Rattle.archive.proofs.gather.Goals as goal
 
@@ -62,8 +61,8 @@ loop-f-preserved c =
     let a = c.args in
     let pre = c.requires in (
       omega (arith, test.true),
-      length-set k.auto k.f _ ∙ k.invariant.1,
-      carried_next (λ (t g : ℕ). clock_word a.clocks.now g a.word) 0 k.f _ k.auto (omega (arith, pre.2, k.invariant.1, test.true)) refl k.invariant.2,
+      length-set k.kept k.f _ ∙ k.invariant.1,
+      carried_next (λ (t g : ℕ). clock_word a.clocks.now g a.word) 0 k.f _ k.kept (omega (arith, pre.2, k.invariant.1, test.true)) refl k.invariant.2,
     )
 
 pub shape_of-kept : goal.shape_of-kept
@@ -75,4 +74,4 @@ pub returns : goal.returns
 returns c =
     let a = c.args in
     let k = c.loop-f in
-    carried_all (λ (t g : ℕ). clock_word a.clocks.now g a.word) 0 k.f a.m k.auto c.loop-f-test.false k.invariant.2
+    carried_all (λ (t g : ℕ). clock_word a.clocks.now g a.word) 0 k.f a.m k.kept c.loop-f-test.false k.invariant.2

@@ -1,10 +1,8 @@
-use mathlib.Core.Path.{◌≡◌, refl, ◌∙◌}
+use mathlib.Core.Path.{◌≡◌}
 use Prim.Native.Nat.{ℕ, ◌-◌, ◌≤◌}
-use native.Mathlib.Omega.{arith}
-use lib.ListN.{length, length-set}
+use lib.ListN.{length}
 use Rattle.calendar.specs.Calendar.{clock_word}
 use Rattle.archive.specs.Private.Steps.{Carried}
-use Rattle.archive.proofs.Held.{carried_none, carried_next, carried_all}
 use Rattle.archive.proofs.gather.Given as goal
 
 abbrev pub invariant-loop-f : goal.invariant-loop-f

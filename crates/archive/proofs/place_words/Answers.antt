@@ -1,11 +1,11 @@
-use mathlib.Core.Path.{◌≡◌, refl, sym, ◌∙◌, ap}
-use Prim.Native.Nat.{◌+◌, ◌-◌, ◌≤◌}
+use mathlib.Core.Path.{refl, sym, ◌∙◌, ap}
+use Prim.Native.Nat.{◌+◌, ◌≤◌}
 use native.Mathlib.Nat.{mul-le-mul_right}
 use native.Mathlib.Omega.{arith}
-use lib.ListN.{length, length-set}
+use lib.ListN.{length-set}
 use Rattle.table.specs.Rows.{max_flows}
 use Rattle.archive.specs.Traces.{words_before}
-use Rattle.archive.specs.Private.Steps.{clocks_in, place_in, Carried}
+use Rattle.archive.specs.Private.Steps.{clocks_in, place_in}
 use Rattle.archive.proofs.Held.{words_none, words_next, words_most, carried_none, carried_next, carried_all, first_place}
 use Rattle.archive.proofs.place_words.Goals as goal
 
@@ -134,4 +134,8 @@ shape_of-places c =
 pub returns : goal.returns
 returns c =
     let k = c.loop-f in
-    let a = c.args in record { value = k.invariant.1 ∙ ap (words_before (clocks_in a.m a.clocks.now) a.ticks) (omega (arith, k.invariant.0, c.loop-f-test.false)); carried = carried_all (place_in a.m a.clocks.now a.ticks) 0 k.f a.m k.places c.loop-f-test.false k.invariant.3; }
+    let a = c.args in
+    record {
+      value = k.invariant.1 ∙ ap (words_before (clocks_in a.m a.clocks.now) a.ticks) (omega (arith, k.invariant.0, c.loop-f-test.false));
+      carried = carried_all (place_in a.m a.clocks.now a.ticks) 0 k.f a.m k.places c.loop-f-test.false k.invariant.3;
+    }

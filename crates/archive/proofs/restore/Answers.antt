@@ -1,7 +1,6 @@
 use native.Mathlib.Omega.{arith}
 use Prim.Native.Nat.{ℕ}
 use lib.ListN.{length-replicate}
-use borrow.Author.Rules.{rules}
 use Rattle.table.specs.Rows.{max_flows}
 use Rattle.archive.proofs.Calls.{planned, restore_refused, plan_restored}
 use Rattle.archive.proofs.restore.Goals as goal

@@ -1,7 +1,6 @@
 use native.Mathlib.Nat.{mul-le-mul}
 use native.Mathlib.Omega.{arith}
 use borrow.Author.Tests.{not-true, not-false}
-use borrow.Author.Rules.{rules}
 use Rattle.archive.specs.Private.Steps.{clocks_in}
 use Rattle.archive.proofs.Calls.{lengths_good, lengths_wrong, restore_wrong, restore_done, restored_as}
 use Rattle.archive.proofs.restore_by.Goals as goal

@@ -1,5 +1,5 @@
 use mathlib.Core.Path.{subst}
-use Prim.Native.Nat.{ℕ, ◌-◌, ◌≤◌}
+use Prim.Native.Nat.{ℕ}
 use native.Mathlib.Omega.{arith}
 use Rattle.archive.specs.Private.Steps.{Cleared}
 use Rattle.archive.proofs.Restoring.{clear_none, clear_next}

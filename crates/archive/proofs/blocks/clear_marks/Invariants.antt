@@ -1,8 +1,5 @@
-use mathlib.Core.Path.{subst}
-use Prim.Native.Nat.{ℕ, ◌-◌, ◌≤◌}
-use native.Mathlib.Omega.{arith}
+use Prim.Native.Nat.{◌-◌, ◌≤◌}
 use Rattle.archive.specs.Private.Steps.{Cleared}
-use Rattle.archive.proofs.Restoring.{clear_none, clear_next}
 use Rattle.archive.proofs.blocks.clear_marks.Given as goal
 
 abbrev pub invariant-loop-i : goal.invariant-loop-i

@@ -1,12 +1,11 @@
-use mathlib.Core.Path.{◌≡◌, refl, ◌∙◌}
-use Prim.Native.Nat.{ℕ, ◌-◌, ◌≤◌}
+use mathlib.Core.Path.{refl, ◌∙◌}
+use Prim.Native.Nat.{ℕ, ◌≤◌}
 use native.Mathlib.Nat.{mul-le-mul, mul-le-mul_right}
 use native.Mathlib.Omega.{arith}
-use lib.ListN.{length, length-replicate}
-use borrow.Author.Rules.{rules}
+use lib.ListN.{length-replicate}
 use Rattle.table.specs.Rows.{max_flows}
 use Rattle.archive.specs.Traces.{restored_mark, restored_value}
-use Rattle.archive.specs.Private.Steps.{clocks_in, next_in, place_in, Carried, FilledTo}
+use Rattle.archive.specs.Private.Steps.{clocks_in}
 use Rattle.archive.proofs.Held.{first_ticks}
 use Rattle.archive.proofs.Restoring.{fill_none, fill_begin, fill_all}
 use Rattle.archive.proofs.blocks.put_all.Goals as goal
@@ -135,4 +134,8 @@ returns c =
     let a = c.args in
     let k = c.loop-begin in
     let pre = c.requires in
-    let ks = clocks_in a.m a.clocks.now in record { marks_after = fill_all a.m (restored_mark ks) a.ticks k.begin k.marks c.loop-begin-test.false (k.invariant.3 ∙ pre.2) k.invariant.7; values_after = fill_all a.m (restored_value ks a.ticks a.stored.now) a.ticks k.begin k.values c.loop-begin-test.false (k.invariant.4 ∙ pre.3) k.invariant.8; }
+    let ks = clocks_in a.m a.clocks.now in
+    record {
+      marks_after = fill_all a.m (restored_mark ks) a.ticks k.begin k.marks c.loop-begin-test.false (k.invariant.3 ∙ pre.2) k.invariant.7;
+      values_after = fill_all a.m (restored_value ks a.ticks a.stored.now) a.ticks k.begin k.values c.loop-begin-test.false (k.invariant.4 ∙ pre.3) k.invariant.8;
+    }

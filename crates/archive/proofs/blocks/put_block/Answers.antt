@@ -1,11 +1,10 @@
-use mathlib.Core.Path.{◌≡◌, refl, ◌∙◌}
-use Prim.Native.Nat.{◌-◌, ◌≤◌}
+use mathlib.Core.Path.{refl, ◌∙◌}
 use native.Mathlib.Nat.{mul-le-mul_right}
 use native.Mathlib.Omega.{arith}
-use lib.ListN.{length, length-set}
+use lib.ListN.{length-set}
 use Rattle.archive.specs.Traces.{restored_mark, restored_value}
-use Rattle.archive.specs.Private.Steps.{clocks_in, next_in, place_in, Filled}
-use Rattle.archive.proofs.Held.{Moved, moved_none, moved_next, moved_all, moved_tick, moved_place, place_within}
+use Rattle.archive.specs.Private.Steps.{clocks_in, next_in, place_in}
+use Rattle.archive.proofs.Held.{moved_none, moved_next, moved_all, moved_tick, moved_place, place_within}
 use Rattle.archive.proofs.Restoring.{fill_end, marks_more, values_more}
 use Rattle.archive.proofs.blocks.put_block.Goals as goal
 

@@ -1,16 +1,14 @@
-use mathlib.Core.Path.{◌≡◌, refl, ◌∙◌}
+use mathlib.Core.Path.{◌≡◌}
 use Prim.Native.Nat.{◌-◌, ◌≤◌}
-use native.Mathlib.Nat.{mul-le-mul_right}
-use native.Mathlib.Omega.{arith}
-use lib.ListN.{length, length-set}
+use lib.ListN.{length}
 use Rattle.archive.specs.Traces.{restored_mark, restored_value}
 use Rattle.archive.specs.Private.Steps.{clocks_in, next_in, place_in, Filled}
-use Rattle.archive.proofs.Held.{Moved, moved_none, moved_next, moved_all, moved_tick, moved_place, place_within}
-use Rattle.archive.proofs.Restoring.{fill_end, marks_more, values_more}
+use Rattle.archive.proofs.Held.{Moved}
 use Rattle.archive.proofs.blocks.put_block.Given as goal
 
 abbrev pub invariant-loop-f : goal.invariant-loop-f
-invariant-loop-f l = (l.f ≤ l.m) × (length l.next ≡ length l.initial.next) × (length l.places ≡ length l.initial.places) × (length l.marks ≡ length l.initial.marks) × (length l.values ≡ length l.initial.values)
+invariant-loop-f l = (l.f ≤ l.m) × (length l.next ≡ length l.initial.next) × (length l.places ≡ length l.initial.places)
+    × (length l.marks ≡ length l.initial.marks) × (length l.values ≡ length l.initial.values)
     × Moved l.m (next_in l.clocks l.begin) (next_in l.clocks l.finish) l.f l.next × Moved l.m (place_in l.m l.clocks l.ticks l.begin) (place_in l.m l.clocks l.ticks l.finish) l.f l.places
     × Filled l.m l.begin l.finish l.f (restored_mark (clocks_in l.m l.clocks)) l.marks × Filled l.m l.begin l.finish l.f (restored_value (clocks_in l.m l.clocks) l.ticks l.stored) l.values
 

@@ -1,22 +1,21 @@
 use mathlib.Core.Path.{refl, ap, subst}
-use Prim.Native.Nat.{ℕ, suc, ◌+◌, ◌-◌}
+use Prim.Native.Nat.{ℕ, suc, ◌+◌}
 use native.Mathlib.Nat.{mul-le-mul_right, suc-mul}
 use native.Mathlib.Omega.{arith}
 use lib.ListN.{get_or}
-use borrow.Author.Rules.{rules}
 use Rattle.archive.specs.Private.Steps.{Put}
-use Rattle.archive.proofs.Storing.{Stepping, step_none, step_in, step_next, step_all, step_end}
+use Rattle.archive.proofs.Storing.{step_none, step_in, step_next, step_all, step_end}
 use Rattle.archive.proofs.Restoring.{put_none, put_next}
 use Rattle.archive.proofs.blocks.put_column.Goals as goal
 
 pub loop-tick-init : goal.loop-tick-init
 loop-tick-init c =
     let from = c.args.from in (
-  0,
-  step_none c.args.n from.tick c.args.finish from.place,
-  put_none c.args.m c.args.n from.tick c.args.f c.requires.0 c.requires.3 _ c.args.marks.now,
-  put_none c.args.m c.args.n from.tick c.args.f c.requires.0 c.requires.3 _ c.args.values.now,
-)
+      0,
+      step_none c.args.n from.tick c.args.finish from.place,
+      put_none c.args.m c.args.n from.tick c.args.f c.requires.0 c.requires.3 _ c.args.marks.now,
+      put_none c.args.m c.args.n from.tick c.args.f c.requires.0 c.requires.3 _ c.args.values.now,
+    )
 
 pub overflow_mul-cell : goal.overflow_mul-cell
 overflow_mul-cell c =
@@ -130,7 +129,10 @@ returns c =
     let pre = c.requires in
     let k = c.loop-tick in
     let from = a.from in
-    let all = step_all a.n from.tick a.finish from.place pre.0 k.tick k.place k.invariant.0 k.invariant.1 c.loop-tick-test.false in record { tick_value = step_end a.n from.tick a.finish from.place pre.0 k.tick k.place k.invariant.0 k.invariant.1 c.loop-tick-test.false; put = (
+    let all = step_all a.n from.tick a.finish from.place pre.0 k.tick k.place k.invariant.0 k.invariant.1 c.loop-tick-test.false in record {
+      tick_value = step_end a.n from.tick a.finish from.place pre.0 k.tick k.place k.invariant.0 k.invariant.1 c.loop-tick-test.false;
+      put = (
         subst (λ (i : ℕ). Put a.m a.n from.tick a.f i (λ (j : ℕ). 1) a.marks.now k.marks) all k.invariant.2,
         subst (λ (i : ℕ). Put a.m a.n from.tick a.f i (λ (j : ℕ). get_or a.stored.now (from.place + j) 0) a.values.now k.values) all k.invariant.3,
-      ); }
+      );
+    }

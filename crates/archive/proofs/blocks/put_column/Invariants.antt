@@ -1,12 +1,7 @@
-use mathlib.Core.Path.{refl, ap, subst}
-use Prim.Native.Nat.{ℕ, suc, ◌+◌, ◌-◌}
-use native.Mathlib.Nat.{mul-le-mul_right, suc-mul}
-use native.Mathlib.Omega.{arith}
+use Prim.Native.Nat.{ℕ, ◌+◌, ◌-◌}
 use lib.ListN.{get_or}
-use borrow.Author.Rules.{rules}
 use Rattle.archive.specs.Private.Steps.{Put}
-use Rattle.archive.proofs.Storing.{Stepping, step_none, step_in, step_next, step_all, step_end}
-use Rattle.archive.proofs.Restoring.{put_none, put_next}
+use Rattle.archive.proofs.Storing.{Stepping}
 use Rattle.archive.proofs.blocks.put_column.Given as goal
 
 abbrev pub invariant-loop-tick : goal.invariant-loop-tick

@@ -1,10 +1,9 @@
-use mathlib.Core.Path.{◌≡◌, refl, ◌∙◌, subst}
-use Prim.Native.Nat.{ℕ, ◌-◌, ◌≤◌}
+use mathlib.Core.Path.{refl, ◌∙◌, subst}
+use Prim.Native.Nat.{ℕ}
 use native.Mathlib.Omega.{arith}
-use lib.ListN.{length, length-replicate}
-use borrow.Author.Rules.{rules}
+use lib.ListN.{length-replicate}
 use Rattle.table.specs.Rows.{max_flows}
-use Rattle.archive.specs.Private.Steps.{next_in, place_in, Carried, WordsTo}
+use Rattle.archive.specs.Private.Steps.{WordsTo}
 use Rattle.archive.proofs.Held.{first_ticks}
 use Rattle.archive.proofs.Storing.{words_begin, stored_is}
 use Rattle.archive.proofs.blocks.take_all.Goals as goal

@@ -1,11 +1,10 @@
-use mathlib.Core.Path.{◌≡◌, refl, ◌∙◌}
-use Prim.Native.Nat.{◌-◌, ◌≤◌}
+use mathlib.Core.Path.{refl, ◌∙◌}
 use native.Mathlib.Nat.{mul-le-mul_right}
 use native.Mathlib.Omega.{arith}
-use lib.ListN.{length, length-set}
+use lib.ListN.{length-set}
 use Rattle.archive.specs.Private.Steps.{next_in, place_in}
-use Rattle.archive.proofs.Held.{Moved, moved_none, moved_next, moved_all, moved_tick, moved_place, place_within}
-use Rattle.archive.proofs.Storing.{Worded, block_begin, block_end, words_more}
+use Rattle.archive.proofs.Held.{moved_none, moved_next, moved_all, moved_tick, moved_place, place_within}
+use Rattle.archive.proofs.Storing.{block_begin, block_end, words_more}
 use Rattle.archive.proofs.blocks.take_block.Goals as goal
 
 pub loop-f-init : goal.loop-f-init

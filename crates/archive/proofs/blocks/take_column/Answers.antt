@@ -1,19 +1,18 @@
 use mathlib.Core.Path.{subst}
-use Prim.Native.Nat.{ℕ, suc, ◌-◌}
+use Prim.Native.Nat.{ℕ, suc}
 use native.Mathlib.Nat.{mul-le-mul_right, suc-mul}
 use native.Mathlib.Omega.{arith}
-use borrow.Author.Rules.{rules}
 use Rattle.archive.specs.Private.Steps.{Taken}
-use Rattle.archive.proofs.Storing.{Stepping, step_none, step_in, step_next, step_all, step_end, taken_none, taken_next}
+use Rattle.archive.proofs.Storing.{step_none, step_in, step_next, step_all, step_end, taken_none, taken_next}
 use Rattle.archive.proofs.blocks.take_column.Goals as goal
 
 pub loop-tick-init : goal.loop-tick-init
 loop-tick-init c =
     let from = c.args.from in (
-  0,
-  step_none c.args.n from.tick c.args.finish from.place,
-  taken_none c.args.m c.args.n from.tick c.args.f from.place c.args.values.now c.args.stored.now,
-)
+      0,
+      step_none c.args.n from.tick c.args.finish from.place,
+      taken_none c.args.m c.args.n from.tick c.args.f from.place c.args.values.now c.args.stored.now,
+    )
 
 pub overflow_mul-stored : goal.overflow_mul-stored
 overflow_mul-stored c =
@@ -102,4 +101,8 @@ returns c =
     let pre = c.requires in
     let k = c.loop-tick in
     let from = a.from in
-    let all = step_all a.n from.tick a.finish from.place pre.0 k.tick k.place k.invariant.0 k.invariant.1 c.loop-tick-test.false in record { tick_value = step_end a.n from.tick a.finish from.place pre.0 k.tick k.place k.invariant.0 k.invariant.1 c.loop-tick-test.false; taken = subst (λ (i : ℕ). Taken a.m a.n from.tick a.f from.place i a.values.now a.stored.now k.stored) all k.invariant.2; }
+    let all = step_all a.n from.tick a.finish from.place pre.0 k.tick k.place k.invariant.0 k.invariant.1 c.loop-tick-test.false in
+    record {
+      tick_value = step_end a.n from.tick a.finish from.place pre.0 k.tick k.place k.invariant.0 k.invariant.1 c.loop-tick-test.false;
+      taken = subst (λ (i : ℕ). Taken a.m a.n from.tick a.f from.place i a.values.now a.stored.now k.stored) all k.invariant.2;
+    }

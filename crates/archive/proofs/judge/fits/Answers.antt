@@ -1,14 +1,13 @@
-use mathlib.Core.Path.{◌≡◌, ◌∙◌, ap, subst}
-use Prim.Native.Nat.{ℕ, ◌*◌, ◌-◌, ◌≤◌, ◌<◌}
+use mathlib.Core.Path.{◌∙◌, ap, subst}
+use Prim.Native.Nat.{ℕ, ◌*◌}
 use native.Mathlib.Nat.{mul-le-mul, mul-le-mul_right, suc-mul}
 use native.Mathlib.Numerals.{add-one}
 use native.Mathlib.Omega.{arith}
 use mathlib.Core.Bool.{true}
-use lib.ListN.{length, length-replicate}
+use lib.ListN.{length-replicate}
 use borrow.Author.Tests.{not-true, not-false}
-use borrow.Author.Rules.{rules}
 use Rattle.table.specs.Rows.{max_flows}
-use Rattle.archive.specs.Private.Steps.{next_in, Carried, fits_at, TickFits}
+use Rattle.archive.specs.Private.Steps.{TickFits}
 use Rattle.archive.proofs.Held.{first_ticks}
 use Rattle.archive.proofs.Judging.{tick_fit, tick_misfit, tick_moved, periods_short, ticks_more, trace_fit, trace_misfit}
 use Rattle.archive.proofs.judge.fits.Goals as goal

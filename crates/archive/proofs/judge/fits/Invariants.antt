@@ -1,20 +1,14 @@
-use mathlib.Core.Path.{◌≡◌, ◌∙◌, ap, subst}
+use mathlib.Core.Path.{◌≡◌}
 use Prim.Native.Nat.{ℕ, ◌*◌, ◌-◌, ◌≤◌, ◌<◌}
-use native.Mathlib.Nat.{mul-le-mul, mul-le-mul_right, suc-mul}
-use native.Mathlib.Numerals.{add-one}
-use native.Mathlib.Omega.{arith}
 use mathlib.Core.Bool.{true}
-use lib.ListN.{length, length-replicate}
-use borrow.Author.Tests.{not-true, not-false}
-use borrow.Author.Rules.{rules}
+use lib.ListN.{length}
 use Rattle.table.specs.Rows.{max_flows}
-use Rattle.archive.specs.Private.Steps.{next_in, Carried, fits_at, TickFits}
-use Rattle.archive.proofs.Held.{first_ticks}
-use Rattle.archive.proofs.Judging.{tick_fit, tick_misfit, tick_moved, periods_short, ticks_more, trace_fit, trace_misfit}
+use Rattle.archive.specs.Private.Steps.{next_in, Carried, fits_at}
 use Rattle.archive.proofs.judge.fits.Given as goal
 
 abbrev pub invariant-loop-t : goal.invariant-loop-t
-invariant-loop-t l = (l.t ≤ l.ticks) × (l.first ≡ l.t * l.m) × (length l.next ≡ max_flows) × Carried l.m (next_in l.clocks) l.t l.next × ((s : ℕ) → s < l.t → (f : ℕ) → f < l.m → fits_at l.m l.clocks l.marks l.values s f ≡ true)
+invariant-loop-t l = (l.t ≤ l.ticks) × (l.first ≡ l.t * l.m) × (length l.next ≡ max_flows) × Carried l.m (next_in l.clocks) l.t l.next
+    × ((s : ℕ) → s < l.t → (f : ℕ) → f < l.m → fits_at l.m l.clocks l.marks l.values s f ≡ true)
 
 abbrev pub decreases-loop-t : goal.decreases-loop-t
 decreases-loop-t l = l.ticks - l.t

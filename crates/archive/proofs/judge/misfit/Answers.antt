@@ -1,7 +1,6 @@
 use Prim.Native.Nat.{◌-◌, ◌≤◌}
 use native.Mathlib.Nat.{mul-le-mul}
 use native.Mathlib.Omega.{arith}
-use borrow.Author.Rules.{rules}
 use Rattle.archive.proofs.Judging.{misfit_is}
 use Rattle.archive.proofs.judge.misfit.Goals as goal
 
@@ -31,4 +30,8 @@ returns c =
     let same = c.same in
     let pre = c.requires in
     let absent : 1 - a.due ≤ 1 = omega arith in
-    let valued : 1 - c.same-2.result ≤ 1 = omega arith in record { result_value = misfit_is a.due a.mark a.value same.result c.same-2.result pre same.ensures.value c.same-2.ensures.value; upper_bound = omega (arith, mul-le-mul absent valued); }
+    let valued : 1 - c.same-2.result ≤ 1 = omega arith in
+    record {
+      result_value = misfit_is a.due a.mark a.value same.result c.same-2.result pre same.ensures.value c.same-2.ensures.value;
+      upper_bound = omega (arith, mul-le-mul absent valued);
+    }

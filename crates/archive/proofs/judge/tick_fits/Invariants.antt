@@ -1,16 +1,9 @@
-use mathlib.Core.Path.{◌≡◌, refl, ◌∙◌, ap, subst}
-use Prim.Native.Nat.{ℕ, ◌+◌, ◌*◌, ◌-◌, ◌≤◌}
-use native.Mathlib.Nat.{mul-le-mul}
-use native.Mathlib.Omega.{arith}
-use mathlib.Core.Bool.{Bool, cond}
-use lib.ListN.{length, get_or, length-set}
+use mathlib.Core.Path.{◌≡◌}
+use Prim.Native.Nat.{ℕ, ◌*◌, ◌-◌, ◌≤◌}
+use lib.ListN.{length, get_or}
 use lib.Dec.{eqb}
-use borrow.Author.Rules.{rules}
-use Rattle.calendar.specs.Calendar.{cell_at}
-use Rattle.archive.specs.Columns.{cell_fits}
 use Rattle.archive.specs.Private.Steps.{moved_on, AllTold}
-use Rattle.archive.proofs.Held.{Moved, moved_none, moved_next, moved_all}
-use Rattle.archive.proofs.Judging.{one_of_lem, moved_is, moved_small, told_none, told_next}
+use Rattle.archive.proofs.Held.{Moved}
 use Rattle.archive.proofs.judge.tick_fits.Given as goal
 
 abbrev pub invariant-loop-f : goal.invariant-loop-f
