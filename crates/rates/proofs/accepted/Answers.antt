@@ -5,7 +5,6 @@ use lib.Dec.{eqb}
 use lib.ListN.{take}
 use Rattle.table.specs.Rows.{row_size}
 use Rattle.checker.specs.Answers.{check_number}
-use borrow.Author.Rules.{rules}
 use Rattle.rates.proofs.accepted.Goals as goal
 
 pub returns : goal.returns

@@ -1,62 +1,39 @@
-use mathlib.Core.Bool.{false}
+use mathlib.Core.Bool.{Bool, false}
+use mathlib.Core.List.{List}
+use lib.Dec.{eqb}
 use mathlib.Core.Path.{◌≡◌, refl}
-use Prim.Native.Nat.{◌*◌, ◌≤◌}
+use Prim.Native.Nat.{ℕ, ◌*◌, ◌≤◌}
 use native.Mathlib.Omega.{arith}
-use lib.ListN.{length}
-use borrow.Author.Rules.{rules}
+use lib.ListN.{take}
 use borrow.Author.Tests.{not-true, not-false}
-use Rattle.table.specs.Answers.{good}
+use Rattle.table.specs.Answers.{good, over}
 use Rattle.table.specs.Rows.{row_size, max_flows}
-use Rattle.table.specs.Plain.{draft_of, rows_in}
+use Rattle.table.specs.Plain.{joined, draft_of, draft_answer, rows_in}
 use Rattle.table.proofs.Tables.{made_by, examined}
-use Rattle.rates.specs.Private.Spread.{Lowest}
+use Rattle.table.specs.declared.Answer.{Answer}
+use Rattle.checker.specs.Answers.{check_number}
+use Rattle.rates.specs.Fillings.{filled}
+use Rattle.rates.specs.Private.Spread.{rates_in, Settled, Lowest}
 use Rattle.rates.proofs.Answering.{starting, said_draft, said_unjoined, all_joined, Said, said}
 use Rattle.rates.proofs.fill.Goals as goal
 
--- the draft is not refused
-is-draft : (c : tie.Else1) → (
-    let a = c.before.before.before.before.before.args in
-    draft_of a.count a.words.now ≡ good (rows_in (draft_of a.count a.words.now)))
-is-draft c =
-    let after-examine = c.before.before in
-    let a = after-examine.before.before.before.args in
-    examined false a.count a.words.now after-examine.examine-draft.result after-examine.examine-draft.ensures c.if1.false
+-- what is known once a draft is examined and not refused
+module _ (m : ℕ) (words : List ℕ) (found : Answer) (told : found ≡ draft_answer m words) (z : found.number ≡ 0) where
+  is_draft : draft_of m words ≡ good (rows_in (draft_of m words))
+  is_draft = examined false m words found told z
 
-few : (c : tie.Else1) → c.before.before.before.before.before.args.count ≤ max_flows
-few c = (made_by false _ _ _ (is-draft c)).few
+  few : m ≤ max_flows
+  few = (made_by false _ _ _ is_draft).few
 
--- each flow has its word
-all_known : (c : tie.Else2) → (
-    let after-spread = c.before.before.before.before in
-    Lowest after-spread.before.before.before.before.before.before.before.args.count after-spread.spread.new.1.1.0
-    after-spread.before.before.before.before.before.before.before.args.count)
-all_known c =
-    let after-lowest = c.before in
-    let after-spread = after-lowest.before.before.before in
-    let else1 = after-spread.before.before in
-    let a = else1.before.before.before.before.before.args in
-    all_joined a.count a.words.now a.filled.now _ (is-draft else1) _ after-spread.spread.ensures.1 after-lowest.lowest.result after-lowest.lowest.ensures c.if2.false
+  -- each flow has its word
+  module _ (old st : List ℕ) (s : Settled m words st) (f : ℕ) (h : Lowest m st f) (l : m ≤ f) where
+    all_known : Lowest m st m
+    all_known = all_joined m words old _ is_draft st s f h l
 
--- the rows have room in the buffer
-room : (c : tie.After-store) → (
-    row_size * c.before.before.before.before.before.before.before.before.before.before.before.before.before.before.args.count ≤ length c.store.new.1.1.1.0)
-room c =
-    let after-spread = c.before.before.before.before.before.before.before in
-    omega (arith, few after-spread.before.before, c.store.auto)
-
--- what is left to say once the filled rows are judged
-judged : (c : tie.After-accepted) → (
-    let after_store = c.before.before.before in
-    let a = after_store.before.before.before.before.before.before.before.before.before.before.before.before.before.before.args in
-    Said a.count a.words.now a.filled.now after_store.store.new.1.1.1.0 c.accepted.result)
-judged c =
-    let after_store = c.before.before.before in
-    let else2 = after_store.before.before.before in
-    let after-spread = else2.before.before.before.before in
-    let else1 = after-spread.before.before in
-    let a = else1.before.before.before.before.before.args in
-    said a.count a.words.now a.filled.now _ (is-draft else1) _ after-spread.spread.ensures.1 (all_known else2) after_store.store.new.1.1.1.0 _
-    after_store.store.ensures c.accepted.result c.accepted.ensures
+    -- what is left to say once the filled rows are judged
+    judged : (buffer zeros : List ℕ) → buffer ≡ over (joined (filled m words (rates_in st))) zeros → (t : Bool) → t ≡ eqb (check_number m (take (row_size * m) buffer)) 0
+        → Said m words old buffer t
+    judged buffer zeros is t e = said m words old _ is_draft st s all_known buffer zeros is t e
 
 pub returns-then-found-ne0 : goal.returns-then-found-ne0
 returns-then-found-ne0 c =
@@ -66,30 +43,59 @@ returns-then-found-ne0 c =
 pub spread-requires : goal.spread-requires
 spread-requires c =
     let a = c.args in
-    (is-draft c, refl, starting a.count a.words.now max_flows)
+    let found = c.examine_draft-found in
+    (is_draft a.count a.words.now found.result found.ensures c.if-found-ne0.false, refl, starting a.count a.words.now max_flows)
 
 pub lowest-f-requires : goal.lowest-f-requires
-lowest-f-requires c = omega (arith, c.spread.ensures.0, few c)
+lowest-f-requires c =
+    let a = c.args in
+    let found = c.examine_draft-found in
+    omega (arith, c.spread.ensures.0, few a.count a.words.now found.result found.ensures c.if-found-ne0.false)
 
 pub returns-then-f-count : goal.returns-then-f-count
 returns-then-f-count c =
     let a = c.args in
-    said_unjoined a.count a.words.now a.filled.now _ (is-draft c) _ c.spread.ensures.1 c.lowest-f.result c.lowest-f.ensures
-    c.if-f-count.true c.refusal.result c.refusal.ensures
+    let found = c.examine_draft-found in
+    said_unjoined a.count a.words.now a.filled.now _ (is_draft a.count a.words.now found.result found.ensures c.if-found-ne0.false) _ c.spread.ensures.1 c.lowest-f.result
+    c.lowest-f.ensures c.if-f-count.true c.refusal.result c.refusal.ensures
 
 pub store-requires : goal.store-requires
-store-requires c = (few c, c.spread.ensures.0, refl, all_known c)
+store-requires c =
+    let a = c.args in
+    let found = c.examine_draft-found in (
+      few a.count a.words.now found.result found.ensures c.if-found-ne0.false,
+      c.spread.ensures.0,
+      refl,
+      all_known a.count a.words.now found.result found.ensures c.if-found-ne0.false a.filled.now c.spread.new.rates c.spread.ensures.1 c.lowest-f.result c.lowest-f.ensures c.if-f-count.false,
+    )
 
 pub accepted-requires : goal.accepted-requires
-accepted-requires c = room c
+accepted-requires c =
+    let a = c.args in
+    let found = c.examine_draft-found in
+    omega (arith, few a.count a.words.now found.result found.ensures c.if-found-ne0.false, c.store.auto.rows)
 
 pub returns-then-not-accepted : goal.returns-then-not-accepted
-returns-then-not-accepted c = (judged c).none (not-true _ c.if-not-accepted.true-raw) c.refusal-then-not-accepted.result c.refusal-then-not-accepted.ensures
+returns-then-not-accepted c =
+    let a = c.args in
+    let found = c.examine_draft-found in
+    let said = judged a.count a.words.now found.result found.ensures c.if-found-ne0.false a.filled.now c.spread.new.rates c.spread.ensures.1 c.lowest-f.result c.lowest-f.ensures c.if-f-count.false
+    c.store.new.rows _ c.store.ensures c.accepted.result c.accepted.ensures in
+    said.none (not-true _ c.if-not-accepted.true-raw) c.refusal-then-not-accepted.result c.refusal-then-not-accepted.ensures
 
 pub returns-then-filled-size : goal.returns-then-filled-size
-returns-then-filled-size c = (judged c).room (not-false _ c.if-not-accepted.false-raw) c.if-filled-size.true c.refusal-then-filled-size.result c.refusal-then-filled-size.ensures
+returns-then-filled-size c =
+    let a = c.args in
+    let found = c.examine_draft-found in
+    let said = judged a.count a.words.now found.result found.ensures c.if-found-ne0.false a.filled.now c.spread.new.rates c.spread.ensures.1 c.lowest-f.result c.lowest-f.ensures c.if-f-count.false
+    c.store.new.rows _ c.store.ensures c.accepted.result c.accepted.ensures in
+    said.room (not-false _ c.if-not-accepted.false-raw) c.if-filled-size.true c.refusal-then-filled-size.result c.refusal-then-filled-size.ensures
 
 pub returns : goal.returns
 returns c =
-    (judged c).whole (not-false _ c.if-not-accepted.false-raw) (room c) c.if-filled-size.false c.success.result c.success.ensures
-    c.copy.new.to c.copy.ensures
+    let a = c.args in
+    let found = c.examine_draft-found in
+    let said = judged a.count a.words.now found.result found.ensures c.if-found-ne0.false a.filled.now c.spread.new.rates c.spread.ensures.1 c.lowest-f.result c.lowest-f.ensures c.if-f-count.false
+    c.store.new.rows _ c.store.ensures c.accepted.result c.accepted.ensures in
+    said.whole (not-false _ c.if-not-accepted.false-raw) (omega (arith, few a.count a.words.now found.result found.ensures c.if-found-ne0.false, c.store.auto.rows)) c.if-filled-size.false
+    c.success.result c.success.ensures c.copy.new.to c.copy.ensures

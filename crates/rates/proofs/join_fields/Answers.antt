@@ -1,5 +1,4 @@
 use borrow.Author.Tests.{le-leb, lt-leb}
-use borrow.Author.Rules.{rules}
 use Rattle.rates.proofs.join_fields.Goals as goal
 
 pub returns-then-kind-lt-FIRST_VIEW : goal.returns-then-kind-lt-FIRST_VIEW

@@ -1,7 +1,4 @@
 use Prim.Native.Nat.{ℕ, ◌-◌, ◌≤◌, ◌<◌}
-use native.Mathlib.Omega.{arith}
-use borrow.Author.Rules.{rules}
-use Rattle.table.proofs.Lists.{below_suc}
 use Rattle.rates.specs.Private.Spread.{Known}
 use Rattle.rates.proofs.lowest.Given as goal
 

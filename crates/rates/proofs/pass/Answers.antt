@@ -1,8 +1,6 @@
 use mathlib.Core.Path.{◌∙◌}
-use Prim.Native.Nat.{◌-◌}
 use native.Mathlib.Omega.{arith}
-use borrow.Author.Rules.{rules}
-use Rattle.rates.proofs.Passing.{Passing, passing_none, passing_next, passing_few, passed}
+use Rattle.rates.proofs.Passing.{passing_none, passing_next, passing_few, passed}
 use Rattle.rates.proofs.pass.Goals as goal
 
 pub loop-f-init : goal.loop-f-init

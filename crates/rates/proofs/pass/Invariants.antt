@@ -1,8 +1,5 @@
-use mathlib.Core.Path.{◌∙◌}
 use Prim.Native.Nat.{◌-◌}
-use native.Mathlib.Omega.{arith}
-use borrow.Author.Rules.{rules}
-use Rattle.rates.proofs.Passing.{Passing, passing_none, passing_next, passing_few, passed}
+use Rattle.rates.proofs.Passing.{Passing}
 use Rattle.rates.proofs.pass.Given as goal
 
 abbrev pub invariant-loop-f : goal.invariant-loop-f

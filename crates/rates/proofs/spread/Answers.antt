@@ -1,9 +1,6 @@
-use mathlib.Core.Path.{◌≡◌, sym, ◌∙◌, subst}
-use Prim.Native.Nat.{◌+◌}
+use mathlib.Core.Path.{sym, ◌∙◌, subst}
 use native.Mathlib.Omega.{arith}
-use lib.ListN.{length}
-use Rattle.table.specs.Rows.{max_flows}
-use Rattle.rates.specs.Private.Spread.{Spread, Started, Closed, unknown}
+use Rattle.rates.specs.Private.Spread.{Closed}
 use Rattle.rates.proofs.spread.Goals as goal
 
 pub start-requires : goal.start-requires

@@ -1,14 +1,8 @@
-use mathlib.Core.Bool.{false}
-use mathlib.Core.Path.{◌≡◌, sym, ◌∙◌, ap, subst}
-use Prim.Native.Nat.{ℕ, ◌+◌, ◌-◌, ◌≤◌}
-use native.Mathlib.Omega.{arith}
-use lib.ListN.{length, set, length-set}
-use borrow.Author.Rules.{rules}
+use mathlib.Core.Path.{◌≡◌}
+use Prim.Native.Nat.{◌-◌, ◌≤◌}
+use lib.ListN.{length}
 use Rattle.table.specs.Rows.{max_flows}
-use Rattle.table.specs.Plain.{row_words}
-use Rattle.table.proofs.Tables.{made_by}
-use Rattle.rates.specs.Private.Spread.{begun, Starting}
-use Rattle.rates.proofs.States.{start_next}
+use Rattle.rates.specs.Private.Spread.{Starting}
 use Rattle.rates.proofs.start.Given as goal
 
 abbrev pub invariant-loop-f : goal.invariant-loop-f

@@ -1,14 +1,9 @@
-use mathlib.Core.Path.{◌≡◌, refl, sym, ◌∙◌, ap}
-use Prim.Native.Nat.{ℕ, ◌-◌, ◌≤◌}
-use native.Mathlib.Numerals.{add-one}
-use native.Mathlib.Omega.{arith}
+use mathlib.Core.Path.{◌≡◌}
+use Prim.Native.Nat.{◌-◌, ◌≤◌}
 use lib.ListN.{length}
-use borrow.Author.Rules.{rules}
 use Rattle.table.specs.Answers.{over}
-use Rattle.table.specs.Rows.{Words}
-use Rattle.table.specs.Plain.{row_words, words_of, joined, put_row, per_flow}
-use Rattle.table.proofs.PlainRows.{per_length, put_next}
-use Rattle.rates.specs.Fillings.{filled_row, filled}
+use Rattle.table.specs.Plain.{joined}
+use Rattle.rates.specs.Fillings.{filled}
 use Rattle.rates.specs.Private.Spread.{rates_in}
 use Rattle.rates.proofs.store.Given as goal
 

@@ -1,6 +1,5 @@
 use native.Mathlib.Omega.{arith}
 use borrow.Author.Tests.{lt-leb}
-use borrow.Author.Rules.{rules}
 use Rattle.rates.proofs.steps.begin.Goals as goal
 
 pub returns-then-r-eq0 : goal.returns-then-r-eq0

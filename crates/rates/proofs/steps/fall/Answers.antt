@@ -1,3 +1,4 @@
+use native.Mathlib.Omega.{arith}
 use Rattle.table.specs.Rows.{kinds}
 use Rattle.table.specs.Plain.{words_of}
 use Rattle.checker.proofs.Laws.{below}
@@ -31,9 +32,9 @@ returns-in-12 c = rw (c.in-12.is, c.given-in-12.ensures, c.difference-in-12.ensu
 pub returns-in-0-to-7 : goal.returns-in-0-to-7
 returns-in-0-to-7 c =
     let a = c.args in
-    (stays (words_of a.r) a.x _ _ _ c.requires.0 c.in_default-1.rest c.period_of-n.ensures.0 c.phase_of-p.ensures.0 c.word.ensures).1
+    (stays (words_of a.r) a.x _ _ _ c.requires.0 (omega arith) c.period_of-n.ensures.0 c.phase_of-p.ensures.0 c.word.ensures).1
 
 pub returns-in-13-to-4294967295 : goal.returns-in-13-to-4294967295
 returns-in-13-to-4294967295 c =
     let a = c.args in
-    (stays (words_of a.r) a.x _ _ _ c.requires.0 c.in_default-1.rest c.period_of-n.ensures.0 c.phase_of-p.ensures.0 c.word-in-13-to-4294967295.ensures).1
+    (stays (words_of a.r) a.x _ _ _ c.requires.0 (omega arith) c.period_of-n.ensures.0 c.phase_of-p.ensures.0 c.word-in-13-to-4294967295.ensures).1

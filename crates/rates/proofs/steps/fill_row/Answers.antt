@@ -1,5 +1,4 @@
 use borrow.Author.Tests.{eq-eqb, ne_eqb}
-use borrow.Author.Rules.{rules}
 use Rattle.rates.proofs.steps.fill_row.Goals as goal
 
 pub returns-then-r-ne-UNRATED : goal.returns-then-r-ne-UNRATED

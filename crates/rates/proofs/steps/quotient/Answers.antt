@@ -1,6 +1,5 @@
 use mathlib.Core.Path.{sym}
 use native.Mathlib.Nat.{div-zero}
-use borrow.Author.Rules.{rules}
 use Rattle.rates.proofs.steps.quotient.Goals as goal
 
 pub returns-then-b-eq0 : goal.returns-then-b-eq0

@@ -35,9 +35,9 @@ returns-in-12 c = rw (c.in-12.is, c.given-in-12.ensures, c.phase_of-p.ensures.0,
 pub returns-in-0-to-7 : goal.returns-in-0-to-7
 returns-in-0-to-7 c =
     let a = c.args in
-    (stays (words_of a.r) a.x _ _ _ c.requires.0 c.in_default-1.rest c.period_of-n.ensures.0 c.phase_of-p.ensures.0 c.word.ensures).0
+    (stays (words_of a.r) a.x _ _ _ c.requires.0 (omega arith) c.period_of-n.ensures.0 c.phase_of-p.ensures.0 c.word.ensures).0
 
 pub returns-in-13-to-4294967295 : goal.returns-in-13-to-4294967295
 returns-in-13-to-4294967295 c =
     let a = c.args in
-    (stays (words_of a.r) a.x _ _ _ c.requires.0 c.in_default-1.rest c.period_of-n.ensures.0 c.phase_of-p.ensures.0 c.word-in-13-to-4294967295.ensures).0
+    (stays (words_of a.r) a.x _ _ _ c.requires.0 (omega arith) c.period_of-n.ensures.0 c.phase_of-p.ensures.0 c.word-in-13-to-4294967295.ensures).0
