@@ -3,10 +3,10 @@ use Rattle.runner.proofs.Words.{unchanged, first}
 use Rattle.runner.proofs.carried.input.Goals as goal
 
 pub overflow_cast-k : goal.overflow_cast-k
-overflow_cast-k c = omega (arith, c.slice_known-then-t-state-1.given (c.args.i + 1))
+overflow_cast-k c = omega arith
 
 pub overflow_add-at : goal.overflow_add-at
-overflow_add-at c = omega (arith, c.slice_known-then-t-state-1.given (c.args.i + 1))
+overflow_add-at c = omega arith
 
 pub returns-then-t-state : goal.returns-then-t-state
 returns-then-t-state c = first c.requires.0 (simp (eq-eqb _ _ c.if-t-state.true, c.word_at.ensures)) (simp (eq-eqb _ _ c.if-t-state.true))

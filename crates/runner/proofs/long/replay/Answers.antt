@@ -11,15 +11,6 @@ use Rattle.table.specs.Answers.{answer, short_window}
 use Rattle.std.proofs.Common.{◌≡◌, ◌*◌, length, refl, arith, rules}
 use Rattle.runner.proofs.long.replay.Goals as goal
 
--- what the limits come to
-limited : (c : tie.After-limits)
-    → (let a = c.before.before.before.before.before.before.before.before.before.args in
-    c.limits.result
-    ≡ answer (λ (u : Unit {0}). 0)
-    (limits a.ticks max_long_ticks (length a.log.now) (inputs (rows_in a.n a.words.now)) (window_ticks * a.n) short_window (length a.marks.now)
-    (length a.values.now)))
-limited c = let after-start = c.before.before in rw after-start.start.ensures.0 at (c.limits.ensures short_window refl)
-
 pub overflow_mul-n : goal.overflow_mul-n
 overflow_mul-n c = omega (arith, (plain_table c.args.n c.args.words.now c.requires.0).few)
 
@@ -32,7 +23,8 @@ limits-found-requires c =
 pub returns-then-found-ne0 : goal.returns-then-found-ne0
 returns-then-found-ne0 c =
     let a = c.args in
-    turned_down a.n a.words.now a.log.now a.ticks a.marks.now a.values.now a.tallies.now c.requires.0 c.requires.1 _ (limited c)
+    let limited = rw c.start-inputs.ensures.0 at (c.limits-found.ensures short_window refl) in
+    turned_down a.n a.words.now a.log.now a.ticks a.marks.now a.values.now a.tallies.now c.requires.0 c.requires.1 _ limited
     c.if-found-ne0.true
 
 pub overflow_mul-n-2 : goal.overflow_mul-n-2
@@ -41,7 +33,8 @@ overflow_mul-n-2 c = omega (arith, (plain_table c.args.n c.args.words.now c.requ
 pub returns-then-tallies-n : goal.returns-then-tallies-n
 returns-then-tallies-n c =
     let a = c.args in
-    short_tallies a.n a.words.now a.log.now a.ticks a.marks.now a.values.now a.tallies.now c.requires.0 c.requires.1 _ (limited c)
+    let limited = rw c.start-inputs.ensures.0 at (c.limits-found.ensures short_window refl) in
+    short_tallies a.n a.words.now a.log.now a.ticks a.marks.now a.values.now a.tallies.now c.requires.0 c.requires.1 _ limited
     c.if-found-ne0.false _ c.refusal.ensures c.if-tallies-n.true
 
 pub listed-register_count-requires : goal.listed-register_count-requires
@@ -57,10 +50,11 @@ listed-backward_count-requires c =
 pub long_ticks-requires : goal.long_ticks-requires
 long_ticks-requires c =
     let a = c.args in
+    let limited = rw c.start-inputs.ensures.0 at (c.limits-found.ensures short_window refl) in
     let pre = c.requires in
     let clear = c.clear in
     let z = clear.auto.tallies in
-    let W = within a.n a.words.now a.log.now a.ticks a.marks.now a.values.now a.tallies.now pre.0 pre.1 _ (limited c) c.if-found-ne0.false in (
+    let W = within a.n a.words.now a.log.now a.ticks a.marks.now a.values.now a.tallies.now pre.0 pre.1 _ limited c.if-found-ne0.false in (
       pre.0,
       W.3,
       W.4,
@@ -79,7 +73,8 @@ long_ticks-requires c =
 pub returns : goal.returns
 returns c =
     let a = c.args in
+    let limited = rw c.start-inputs.ensures.0 at (c.limits-found.ensures short_window refl) in
     let clear = c.clear in
     rw c.success.ensures
-    (ran a.n a.words.now a.log.now a.ticks a.marks.now a.values.now a.tallies.now c.requires.0 c.requires.1 _ (limited c)
+    (ran a.n a.words.now a.log.now a.ticks a.marks.now a.values.now a.tallies.now c.requires.0 c.requires.1 _ limited
     c.if-found-ne0.false _ _ _ _ c.if-tallies-n.false (tallied_cleared a.n a.tallies.now _ clear.auto.tallies clear.ensures) c.long_ticks.ensures)

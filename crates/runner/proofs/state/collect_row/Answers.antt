@@ -1,36 +1,28 @@
+use Rattle.runner.specs.Private.Placed.{first_cell, Fitting}
 use Rattle.runner.specs.Private.Carried.{Held, cell_at, held_size}
 use Rattle.runner.proofs.Words.{stored, stored_other, stored_two, stored_two_other}
-use Rattle.std.proofs.Common.{◌+◌, ◌-◌, ◌*◌, ◌<◌, length, get_or, ap, arith, length-set, rules, le-leb}
+use Rattle.std.proofs.Common.{◌≡◌, ℕ, ◌+◌, ◌-◌, ◌*◌, ◌<◌, length, get_or, ap, arith, length-set, rules, le-leb}
 use borrow.Author.Tests.{lt-leb}
 use Rattle.runner.proofs.state.collect_row.Goals as goal
 
--- the earlier tick's cell is in marks and values
-fit : (c : tie.After-first-cell) → (
-    let start = c.before.before.before.before.before in
-    let args = start.args in
-    let i = c.first_Cell.result + args.a in (i < length args.marks.now) × (i < length args.values.now))
-fit c =
-    let start = c.before.before.before.before.before in
-    let args = start.args in
-    let pre = start.requires in
-    let e = c.first_Cell.ensures in
-    let h : args.t - args.d < args.t + 1 = omega arith in
-    (omega (arith, e, pre.1, pre.4.place (args.t - args.d) h), omega (arith, e, pre.1, pre.5.place (args.t - args.d) h))
+-- the earlier tick's cell is in a list
+fit : {room n size : ℕ} (t a first d : ℕ) → a < n → first ≡ first_cell room n (t - d) → Fitting room n (t + 1) size → first + a < size
+fit t a first d l e F = omega (arith, e, l, F.place (t - d) (omega arith))
 
 pub overflow_add-place : goal.overflow_add-place
-overflow_add-place c = omega (arith, fit (c))
+overflow_add-place c = let a = c.args in let h = fit a.t a.a _ a.d c.requires.1 c.first_cell.ensures c.requires.4 in omega (arith, h)
 
 pub bounds-marks-place : goal.bounds-marks-place
-bounds-marks-place c = omega (arith, fit c)
+bounds-marks-place c = let a = c.args in let h = fit a.t a.a _ a.d c.requires.1 c.first_cell.ensures c.requires.4 in omega (arith, h)
 
 pub overflow_cast-state : goal.overflow_cast-state
-overflow_cast-state c = omega (arith, c.shared_slice_known-then-d-t-1.given (c.first_cell.result + c.args.a))
+overflow_cast-state c = omega arith
 
 pub offset_bounds-values-place : goal.offset_bounds-values-place
-offset_bounds-values-place c = omega (arith, fit c)
+offset_bounds-values-place c = let a = c.args in let h = fit a.t a.a _ a.d c.requires.1 c.first_cell.ensures c.requires.5 in omega (arith, h)
 
 pub bounds-values-place : goal.bounds-values-place
-bounds-values-place c = omega (arith, fit c)
+bounds-values-place c = let a = c.args in let h = fit a.t a.a _ a.d c.requires.1 c.first_cell.ensures c.requires.5 in omega (arith, h)
 
 pub bounds-state-f-then-d-t : goal.bounds-state-f-then-d-t
 bounds-state-f-then-d-t c =

@@ -1,4 +1,4 @@
-use Rattle.std.proofs.Common.{sym}
+use Rattle.std.proofs.Common.{sym, arith}
 use Rattle.table.specs.Rows.{kinds}
 use Rattle.runner.specs.Private.Carried.{start_word}
 use Rattle.runner.proofs.Decoded.{no_start}
@@ -19,4 +19,4 @@ returns-in-7 c = simp c.in-7.is
 pub returns-in_default : goal.returns-in_default
 returns-in_default c =
     let a = c.args in
-    sym (no_start a.kind a.p a.q a.r c.requires c.in_default.in_default-own.rest.0.0.1 c.in_default.in_default-own.rest.0.1 c.in_default.in_default-own.rest.1)
+    sym (no_start a.kind a.p a.q a.r c.requires (omega arith) (omega arith) (omega arith))

@@ -1,22 +1,13 @@
-use Rattle.std.proofs.Common.{ℕ, ◌+◌, ◌-◌, ◌*◌, ◌<◌, length, get_or, refl, ap, ◌∙◌, arith, length-set, rules, eq-eqb, ne_eqb, le-leb}
+use Rattle.std.proofs.Common.{◌≡◌, ℕ, ◌+◌, ◌-◌, ◌*◌, ◌<◌, length, get_or, refl, ap, ◌∙◌, arith, length-set, rules, eq-eqb, ne_eqb, le-leb}
 use borrow.Author.Tests.{lt-leb}
+use Rattle.runner.specs.Private.Placed.{first_cell, Fitting}
 use Rattle.runner.specs.Private.Carried.{cell_at, held, held_size, status}
 use Rattle.runner.proofs.Words.{stored_ends, stored_two_other}
 use Rattle.runner.proofs.state.look_row.Goals as goal
 
--- the earlier tick's cell is in marks and values
-fit : (c : tie.After-first-cell) → (
-    let args = c.before.before.before.before.before.before.before.before.before.args in
-    let i = c.first_Cell.result + args.c in (i < length args.marks.now) × (i < length args.values.now))
-fit c =
-    let then3 = c.before in
-    let start = then3.before.before.before.before.before.before.before.before in
-    let args = start.args in
-    let pre = start.requires in
-    let lag = get_or args.state.now (held_size * args.f + 1) 0 in
-    let e = c.first_Cell.ensures in
-    let h : args.t - lag < args.t + 1 = omega arith in
-    (omega (arith, e, pre.1, pre.4.place (args.t - lag) h), omega (arith, e, pre.1, pre.5.place (args.t - lag) h))
+-- the earlier tick's cell is in a list
+fit : {room n size : ℕ} (t a first d : ℕ) → a < n → first ≡ first_cell room n (t - d) → Fitting room n (t + 1) size → first + a < size
+fit t a first d l e F = omega (arith, e, l, F.place (t - d) (omega arith))
 
 pub returns-then-t-state : goal.returns-then-t-state
 returns-then-t-state c = record { words = rw (ne_eqb _ _ c.if-t-state.true); others = λ g n. refl }
@@ -25,16 +16,16 @@ pub returns-then-lag-eq0 : goal.returns-then-lag-eq0
 returns-then-lag-eq0 c = record { words = rw (eq-eqb _ _ c.if-t-state.false, eq-eqb _ _ c.if-lag-eq0.true); others = λ g n. refl }
 
 pub overflow_add-place : goal.overflow_add-place
-overflow_add-place c = omega (arith, fit c)
+overflow_add-place c = let a = c.args in let h = fit a.t a.c _ (get_or a.state.now (held_size * a.f + 1) 0) c.requires.1 c.first_cell.ensures c.requires.4 in omega (arith, h)
 
 pub bounds-marks-place : goal.bounds-marks-place
-bounds-marks-place c = omega (arith, fit c)
+bounds-marks-place c = let a = c.args in let h = fit a.t a.c _ (get_or a.state.now (held_size * a.f + 1) 0) c.requires.1 c.first_cell.ensures c.requires.4 in omega (arith, h)
 
 pub offset_bounds-values-place : goal.offset_bounds-values-place
-offset_bounds-values-place c = omega (arith, fit c)
+offset_bounds-values-place c = let a = c.args in let h = fit a.t a.c _ (get_or a.state.now (held_size * a.f + 1) 0) c.requires.1 c.first_cell.ensures c.requires.5 in omega (arith, h)
 
 pub bounds-values-place : goal.bounds-values-place
-bounds-values-place c = omega (arith, fit c)
+bounds-values-place c = let a = c.args in let h = fit a.t a.c _ (get_or a.state.now (held_size * a.f + 1) 0) c.requires.1 c.first_cell.ensures c.requires.5 in omega (arith, h)
 
 pub bounds-state-i-then-lag-t-2 : goal.bounds-state-i-then-lag-t-2
 bounds-state-i-then-lag-t-2 c = simp length-set (search rules)

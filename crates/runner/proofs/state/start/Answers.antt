@@ -2,20 +2,16 @@ use Rattle.runner.proofs.Starting.{bit_low, Starting, starts, goes_on, ends}
 use Rattle.runner.proofs.Tabled.{plain_table, row_of_lem}
 use Rattle.runner.specs.Private.Carried.{state_size}
 use Rattle.runner.specs.Private.Ready.{rows_in}
-use Rattle.table.proofs.Tables.{Table}
 use Rattle.std.proofs.Common.{◌≡◌, ℕ, ◌+◌, ◌-◌, ◌*◌, ◌≤◌, eqb, length, get_or, sym, ap, ◌∙◌, arith}
 use lib.ListN.{length-replicate}
 use Rattle.table.specs.Rows.{row_size, max_flows}
 use Rattle.runner.proofs.state.start.Goals as goal
 
-table_at : (c : tie.Start invariant-loop decreases-loop) → Table c.args.n c.args.words.now (rows_in c.args.n c.args.words.now)
-table_at c = plain_table c.args.n c.args.words.now c.requires.0
-
 pub loop-f-init : goal.loop-f-init
 loop-f-init c =
     let pre = c.requires in
     let args = c.args in
-    let T = table_at c in (
+    let T = plain_table args.n args.words.now pre.0 in (
       omega arith,
       T.few,
       T.words_size,
@@ -28,7 +24,7 @@ pub start_row-requires : goal.start_row-requires
 start_row-requires c =
     let loop = c.loop-f in
     let loop-test = c.loop-f-test in
-    ((row_of_lem _ _ _ (table_at c) loop.f loop-test.true).known, omega (arith, loop-test.true), loop.invariant.3)
+    ((row_of_lem _ _ _ (plain_table c.args.n c.args.words.now c.requires.0) loop.f loop-test.true).known, omega (arith, loop-test.true), loop.invariant.3)
 
 pub overflow_add-j : goal.overflow_add-j
 overflow_add-j c =
@@ -53,7 +49,7 @@ loop-f-preserved c =
       loop.invariant.2,
       omega (arith, start-row.auto.state, loop.invariant.3),
       omega (arith, c.bit-j.ensures, bit_low (eqb (get_or args.words.now (row_size * loop.f) 0) 0), loop.invariant.4),
-      goes_on args.n args.words.now _ (table_at c) loop.state _ loop.f loop.j _ loop-test.true loop.invariant.5 start-row.ensures
+      goes_on args.n args.words.now _ (plain_table args.n args.words.now c.requires.0) loop.state _ loop.f loop.j _ loop-test.true loop.invariant.5 start-row.ensures
           (ap (λ (i : ℕ). loop.j + i) c.bit-j.ensures),
     )
 
@@ -66,4 +62,4 @@ pub returns : goal.returns
 returns c =
     let args = c.args in
     let loop = c.loop-f in
-    ends args.n args.words.now _ (table_at c) loop.state loop.f loop.j c.loop-f-test.false loop.invariant.0 loop.invariant.5
+    ends args.n args.words.now _ (plain_table args.n args.words.now c.requires.0) loop.state loop.f loop.j c.loop-f-test.false loop.invariant.0 loop.invariant.5

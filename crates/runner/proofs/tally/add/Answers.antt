@@ -5,70 +5,48 @@ use Rattle.std.proofs.Common.{◌≡◌, ℕ, ◌+◌, ◌-◌, ◌*◌, ◌<◌
 use Rattle.table.specs.Rows.{max_flows}
 use Rattle.runner.proofs.tally.add.Goals as goal
 
--- the flow's cell and its tally are in their lists
-fit : (c : tie.In-loop invariant-loop decreases-loop)
-    → (let s = c.before.before.before.before.before in
-    let l = c.before.loop in
-    (l.f < s.args.k)
-    × (s.args.k ≤ max_flows)
-    × (s.args.first + l.f < length s.args.marks.now)
-    × (s.args.first + l.f < length s.args.values.now)
-    × (tally_size * l.f + 1 < length l.tallies)
-    × (get_or l.tallies (tally_size * l.f) 0 < count_limit))
-fit c =
-    let at-loop = c.before in
-    let s = at-loop.before.before.before.before in
-    let pre = s.requires in
-    let l = at-loop.loop in
-    let t = c.loop-test.true in (
-      t,
-      pre.0,
-      omega (arith, pre.1),
-      omega (arith, pre.2),
-      omega (arith, pre.3, l.invariant.1),
-      omega (arith, l.invariant.2.rest (tally_size * l.f) (omega arith), pre.4.count l.f t),
-    )
-
 pub loop-f-init : goal.loop-f-init
 loop-f-init c = (omega arith, refl, counts_none _ _ _ _)
 
 pub overflow_add-first : goal.overflow_add-first
-overflow_add-first c = omega (arith, fit c)
+overflow_add-first c = omega arith
 
 pub bounds-marks-first : goal.bounds-marks-first
-bounds-marks-first c = omega (arith, fit c)
+bounds-marks-first c = omega arith
 
 pub overflow_add-first-in-loop-f : goal.overflow_add-first-in-loop-f
-overflow_add-first-in-loop-f c = omega (arith, fit c)
+overflow_add-first-in-loop-f c = omega arith
 
 pub offset_bounds-values-first : goal.offset_bounds-values-first
-offset_bounds-values-first c = omega (arith, fit c)
+offset_bounds-values-first c = omega arith
 
 pub bounds-values-first : goal.bounds-values-first
-bounds-values-first c = omega (arith, fit c)
+bounds-values-first c = omega arith
 
 pub add_cell-requires : goal.add_cell-requires
 add_cell-requires c =
-    let h = fit c in (omega (arith, h.0, h.1), h.4, h.5)
+    let l = c.loop-f in
+    let t = c.loop-f-test.true in
+    (omega arith, omega arith, omega (arith, l.invariant.2.rest (tally_size * l.f) (omega arith), c.requires.4.count l.f t))
 
 pub overflow_add-f : goal.overflow_add-f
-overflow_add-f c = omega (arith, fit c)
+overflow_add-f c = omega arith
 
 pub loop-f-smaller : goal.loop-f-smaller
-loop-f-smaller c = omega (arith, fit c)
+loop-f-smaller c = omega arith
 
 pub loop-f-preserved : goal.loop-f-preserved
 loop-f-preserved c =
     let args = c.args in
     let l = c.loop-f in
-    let h = fit c in
+    let h : tally_size * l.f + 1 < length l.tallies = omega arith in
     let e = c.add_cell.ensures in
     let m = get_or args.marks.now (args.first + l.f) 0 in
     let v = get_or args.values.now (args.first + l.f) 0 in (
-      omega (arith, h.0),
+      omega arith,
       ap length e ∙ taken_length l.f m v l.tallies ∙ l.invariant.1,
       rw e
-          (counts_more args.first l.f m v args.marks.now args.values.now args.tallies.now l.tallies h.4 refl refl l.invariant.2),
+          (counts_more args.first l.f m v args.marks.now args.values.now args.tallies.now l.tallies h refl refl l.invariant.2),
     )
 
 pub shape_of-tallies : goal.shape_of-tallies
