@@ -1,4 +1,4 @@
-use Rattle.std.proofs.Common.{◌+◌, arith, rules, eq-eqb, ne_eqb}
+use Rattle.std.proofs.Common.{arith, eq-eqb, ne_eqb}
 use Rattle.runner.proofs.Words.{unchanged, first}
 use Rattle.runner.proofs.carried.input.Goals as goal
 

@@ -1,10 +1,7 @@
-use Rattle.std.proofs.Common.{◌≡◌, ℕ, List, ◌+◌, ◌-◌, ◌*◌, ◌<◌, ◌≤◌, length, get_or, sym, ◌∙◌, arith}
+use Rattle.std.proofs.Common.{◌≡◌, ℕ, List, ◌+◌, ◌*◌, ◌<◌, ◌≤◌, length, get_or, sym, ◌∙◌, arith}
 use Rattle.table.specs.Rows.{max_flows, row_size}
-use Rattle.semantics.specs.Runs.{Ticks, inputs}
-use Rattle.runner.specs.Private.Carried.{state_size}
-use Rattle.runner.specs.Private.Ready.{rows_in, Plain, AllCarry, Listed, looks_back}
-use Rattle.runner.specs.Private.Placed.{Recalls, Near}
-use Rattle.runner.proofs.Collecting.{Collecting, starts, goes_on, ends, operand_low}
+use Rattle.runner.specs.Private.Ready.{Plain, Listed, looks_back}
+use Rattle.runner.proofs.Collecting.{starts, goes_on, ends, operand_low}
 use Rattle.runner.proofs.Tabled.{plain_table}
 use Rattle.runner.proofs.state.collect.Goals as goal
 

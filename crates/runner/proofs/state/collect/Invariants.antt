@@ -1,12 +1,9 @@
-use Rattle.std.proofs.Common.{◌≡◌, ℕ, ◌+◌, ◌-◌, ◌*◌, ◌<◌, ◌≤◌, length, get_or, sym, ◌∙◌, arith}
-use Rattle.table.specs.Rows.{max_flows, row_size}
-use Rattle.table.proofs.Tables.{Table}
+use Rattle.std.proofs.Common.{◌≡◌, ℕ, ◌+◌, ◌-◌, ◌*◌, ◌≤◌, length}
 use Rattle.semantics.specs.Runs.{Ticks, inputs}
 use Rattle.runner.specs.Private.Carried.{state_size}
 use Rattle.runner.specs.Private.Ready.{rows_in, AllCarry}
 use Rattle.runner.specs.Private.Placed.{Recalls, Near}
-use Rattle.runner.proofs.Collecting.{Collecting, starts, goes_on, ends, operand_low}
-use Rattle.runner.proofs.Tabled.{plain_table}
+use Rattle.runner.proofs.Collecting.{Collecting}
 use Rattle.runner.proofs.state.collect.Given as goal
 
 abbrev pub invariant-loop-j : goal.invariant-loop-j

@@ -1,7 +1,7 @@
 use Rattle.runner.specs.Private.Placed.{first_cell, Fitting}
 use Rattle.runner.specs.Private.Carried.{Held, cell_at, held_size}
 use Rattle.runner.proofs.Words.{stored, stored_other, stored_two, stored_two_other}
-use Rattle.std.proofs.Common.{◌≡◌, ℕ, ◌+◌, ◌-◌, ◌*◌, ◌<◌, length, get_or, ap, arith, length-set, rules, le-leb}
+use Rattle.std.proofs.Common.{◌≡◌, ℕ, ◌+◌, ◌-◌, ◌*◌, ◌<◌, get_or, ap, arith, length-set, le-leb}
 use borrow.Author.Tests.{lt-leb}
 use Rattle.runner.proofs.state.collect_row.Goals as goal
 

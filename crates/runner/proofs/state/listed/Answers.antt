@@ -1,6 +1,6 @@
 use Rattle.runner.proofs.Lists.{no_rows, listed_more}
 use Rattle.runner.specs.Private.Ready.{Listed, one_of}
-use Rattle.std.proofs.Common.{◌≡◌, ℕ, ◌-◌, ◌≤◌, length, refl, subst, arith}
+use Rattle.std.proofs.Common.{◌≡◌, ℕ, refl, subst, arith}
 use Rattle.runner.proofs.state.listed.Goals as goal
 
 pub loop-f-init : goal.loop-f-init

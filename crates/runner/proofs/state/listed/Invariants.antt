@@ -1,6 +1,5 @@
-use Rattle.runner.proofs.Lists.{no_rows, listed_more}
 use Rattle.runner.specs.Private.Ready.{Listed, one_of}
-use Rattle.std.proofs.Common.{◌≡◌, ℕ, ◌-◌, ◌≤◌, length, refl, subst, arith}
+use Rattle.std.proofs.Common.{◌≡◌, ◌-◌, ◌≤◌, length}
 use Rattle.runner.proofs.state.listed.Given as goal
 
 abbrev pub invariant-loop-f : goal.invariant-loop-f

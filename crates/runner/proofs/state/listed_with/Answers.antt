@@ -1,4 +1,4 @@
-use Rattle.std.proofs.Common.{refl, rules}
+use Rattle.std.proofs.Common.{refl}
 use Rattle.runner.proofs.state.listed_with.Goals as goal
 
 pub returns-then-one_of : goal.returns-then-one_of

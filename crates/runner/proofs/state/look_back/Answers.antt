@@ -1,4 +1,3 @@
-use Rattle.std.proofs.Common.{rules}
 use Rattle.runner.proofs.state.look_back.Goals as goal
 
 pub collect_row-requires : goal.collect_row-requires

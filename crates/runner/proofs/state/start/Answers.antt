@@ -1,10 +1,9 @@
-use Rattle.runner.proofs.Starting.{bit_low, Starting, starts, goes_on, ends}
+use Rattle.runner.proofs.Starting.{bit_low, starts, goes_on, ends}
 use Rattle.runner.proofs.Tabled.{plain_table, row_of_lem}
 use Rattle.runner.specs.Private.Carried.{state_size}
-use Rattle.runner.specs.Private.Ready.{rows_in}
-use Rattle.std.proofs.Common.{◌≡◌, ℕ, ◌+◌, ◌-◌, ◌*◌, ◌≤◌, eqb, length, get_or, sym, ap, ◌∙◌, arith}
+use Rattle.std.proofs.Common.{ℕ, ◌+◌, ◌*◌, eqb, length, get_or, sym, ap, ◌∙◌, arith}
 use lib.ListN.{length-replicate}
-use Rattle.table.specs.Rows.{row_size, max_flows}
+use Rattle.table.specs.Rows.{row_size}
 use Rattle.runner.proofs.state.start.Goals as goal
 
 pub loop-f-init : goal.loop-f-init

@@ -1,10 +1,7 @@
-use Rattle.runner.proofs.Starting.{bit_low, Starting, starts, goes_on, ends}
-use Rattle.runner.proofs.Tabled.{plain_table, row_of_lem}
+use Rattle.runner.proofs.Starting.{Starting}
 use Rattle.runner.specs.Private.Carried.{state_size}
 use Rattle.runner.specs.Private.Ready.{rows_in}
-use Rattle.table.proofs.Tables.{Table}
-use Rattle.std.proofs.Common.{◌≡◌, ℕ, ◌+◌, ◌-◌, ◌*◌, ◌≤◌, eqb, length, get_or, sym, ap, ◌∙◌, arith}
-use lib.ListN.{length-replicate}
+use Rattle.std.proofs.Common.{◌≡◌, ◌-◌, ◌*◌, ◌≤◌, length}
 use Rattle.table.specs.Rows.{row_size, max_flows}
 use Rattle.runner.proofs.state.start.Given as goal
 

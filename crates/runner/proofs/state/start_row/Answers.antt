@@ -1,4 +1,4 @@
-use Rattle.std.proofs.Common.{ℕ, ◌+◌, ◌*◌, get_or, ap, ◌∙◌, arith, length-set, rules}
+use Rattle.std.proofs.Common.{ℕ, ◌+◌, ◌*◌, get_or, ap, ◌∙◌, arith, length-set}
 use Rattle.runner.specs.Private.Carried.{held_size, held}
 use Rattle.runner.proofs.Words.{stored_two, stored_two_other}
 use Rattle.runner.proofs.state.start_row.Goals as goal

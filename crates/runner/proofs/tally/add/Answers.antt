@@ -1,8 +1,7 @@
 use Rattle.semantics.specs.Windows.{tally_size}
-use Rattle.runner.specs.Private.Placed.{count_limit, Counted}
+use Rattle.runner.specs.Private.Placed.{Counted}
 use Rattle.runner.proofs.Tallying.{counts_none, counts_more, taken_length}
-use Rattle.std.proofs.Common.{◌≡◌, ℕ, ◌+◌, ◌-◌, ◌*◌, ◌<◌, ◌≤◌, length, get_or, refl, ap, ◌∙◌, subst, arith}
-use Rattle.table.specs.Rows.{max_flows}
+use Rattle.std.proofs.Common.{◌≡◌, ℕ, ◌+◌, ◌*◌, ◌<◌, length, get_or, refl, ap, ◌∙◌, subst, arith}
 use Rattle.runner.proofs.tally.add.Goals as goal
 
 pub loop-f-init : goal.loop-f-init

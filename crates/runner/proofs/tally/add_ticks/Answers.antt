@@ -1,8 +1,7 @@
 use Rattle.runner.proofs.Tallying.{tallied_on, low_on, low_within}
-use Rattle.runner.specs.Private.Placed.{Recalls, Low, count_limit}
-use Rattle.semantics.specs.Runs.{Ticks}
+use Rattle.runner.specs.Private.Placed.{count_limit}
 use Rattle.semantics.specs.Windows.{Tallied}
-use Rattle.std.proofs.Common.{◌≡◌, ℕ, ◌+◌, ◌-◌, ◌≤◌, List, length, drop, refl, ◌∙◌, subst, arith}
+use Rattle.std.proofs.Common.{◌≡◌, ℕ, ◌+◌, ◌-◌, drop, refl, ◌∙◌, subst, arith}
 use Rattle.runner.proofs.tally.add_ticks.Goals as goal
 
 pub loop-t-init : goal.loop-t-init

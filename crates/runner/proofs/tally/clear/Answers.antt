@@ -1,6 +1,6 @@
 use Rattle.runner.specs.Private.Placed.{Cleared}
 use Rattle.runner.proofs.Tallying.{clears_none, clears_more}
-use Rattle.std.proofs.Common.{◌≡◌, ℕ, ◌-◌, ◌≤◌, length, refl, ◌∙◌, subst, arith, length-set, rules}
+use Rattle.std.proofs.Common.{◌≡◌, ℕ, refl, ◌∙◌, subst, arith, length-set}
 use Rattle.runner.proofs.tally.clear.Goals as goal
 
 pub loop-i-init : goal.loop-i-init

@@ -1,6 +1,5 @@
 use Rattle.runner.specs.Private.Placed.{Cleared}
-use Rattle.runner.proofs.Tallying.{clears_none, clears_more}
-use Rattle.std.proofs.Common.{◌≡◌, ℕ, ◌-◌, ◌≤◌, length, refl, ◌∙◌, subst, arith, length-set, rules}
+use Rattle.std.proofs.Common.{◌≡◌, ◌-◌, ◌≤◌, length}
 use Rattle.runner.proofs.tally.clear.Given as goal
 
 abbrev pub invariant-loop-i : goal.invariant-loop-i
