@@ -1,5 +1,5 @@
 use Rattle.runner.proofs.Words.{unchanged, first}
-use Rattle.std.proofs.Common.{rules, eq-eqb, ne_eqb}
+use Rattle.std.proofs.Common.{eq-eqb, ne_eqb}
 use Rattle.runner.proofs.carried.after.Goals as goal
 
 pub returns-then-due-eq0 : goal.returns-then-due-eq0

@@ -1,5 +1,5 @@
 use Rattle.runner.proofs.Words.{copies_low, small}
-use Rattle.std.proofs.Common.{◌+◌, set, refl, arith, length-set, rules}
+use Rattle.std.proofs.Common.{◌+◌, set, refl, arith, length-set}
 use Rattle.runner.proofs.Words.{all}
 use Rattle.runner.proofs.carried.begin.Goals as goal
 

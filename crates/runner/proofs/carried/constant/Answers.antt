@@ -1,5 +1,5 @@
 use Rattle.runner.proofs.Words.{unchanged, first}
-use Rattle.std.proofs.Common.{rules, eq-eqb, ne_eqb}
+use Rattle.std.proofs.Common.{eq-eqb, ne_eqb}
 use Rattle.runner.proofs.carried.constant.Goals as goal
 
 pub returns-then-t-state : goal.returns-then-t-state

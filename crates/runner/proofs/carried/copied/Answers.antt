@@ -1,4 +1,4 @@
-use Rattle.std.proofs.Common.{◌+◌, arith, length-set, get_or-set_other, rules, le-ltb, lt-ltb, eq-eqb, ne_eqb}
+use Rattle.std.proofs.Common.{◌+◌, arith, length-set, get_or-set_other, le-ltb, lt-ltb, eq-eqb, ne_eqb}
 use Rattle.runner.proofs.Words.{unchanged, second}
 use Rattle.runner.proofs.carried.copied.Goals as goal
 

@@ -1,4 +1,4 @@
-use Rattle.std.proofs.Common.{rules, eq-eqb, ne_eqb}
+use Rattle.std.proofs.Common.{eq-eqb, ne_eqb}
 use Rattle.runner.proofs.carried.governed.Goals as goal
 
 pub returns-then-mark-eq0 : goal.returns-then-mark-eq0

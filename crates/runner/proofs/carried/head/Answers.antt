@@ -1,5 +1,5 @@
 use Rattle.runner.proofs.Words.{unchanged}
-use Rattle.std.proofs.Common.{rules, lt-ltb, eq-eqb, ne_eqb, le-leb}
+use Rattle.std.proofs.Common.{lt-ltb, eq-eqb, ne_eqb, le-leb}
 use borrow.Author.Tests.{lt-leb}
 use Rattle.runner.proofs.carried.head.Goals as goal
 

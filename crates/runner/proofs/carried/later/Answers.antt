@@ -1,4 +1,4 @@
-use Rattle.std.proofs.Common.{rules, eq-eqb, ne_eqb}
+use Rattle.std.proofs.Common.{eq-eqb, ne_eqb}
 use Rattle.runner.proofs.carried.later.Goals as goal
 
 pub returns-then-d-eq0 : goal.returns-then-d-eq0

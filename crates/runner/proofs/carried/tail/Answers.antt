@@ -1,5 +1,5 @@
 use Rattle.runner.proofs.Words.{unchanged, first}
-use Rattle.std.proofs.Common.{rules, lt-ltb, eq-eqb, ne_eqb}
+use Rattle.std.proofs.Common.{lt-ltb, eq-eqb, ne_eqb}
 use Rattle.runner.proofs.carried.tail.Goals as goal
 
 pub returns-then-marks-j-eq0 : goal.returns-then-marks-j-eq0

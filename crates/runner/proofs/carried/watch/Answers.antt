@@ -1,4 +1,4 @@
-use Rattle.std.proofs.Common.{true, ap, rules, eq-eqb, ne_eqb}
+use Rattle.std.proofs.Common.{true, ap, eq-eqb, ne_eqb}
 use Rattle.runner.specs.Private.Carried.{Held, begun_by}
 use Rattle.runner.proofs.carried.watch.Goals as goal
 

@@ -1,12 +1,7 @@
-use Rattle.runner.proofs.Underway.{Underway, begun, stretched, all_ticks}
-use Rattle.runner.proofs.Placing.{window_fits}
-use Rattle.runner.proofs.Tallying.{tallied_low}
-use Rattle.runner.proofs.Tabled.{plain_table}
-use Rattle.runner.specs.Long.{window_ticks}
+use Rattle.runner.proofs.Underway.{Underway}
 use Rattle.runner.specs.Private.Carried.{state_size}
-use Rattle.runner.specs.Private.Placed.{window_width}
 use Rattle.runner.specs.Private.Ready.{rows_in}
-use Rattle.std.proofs.Common.{◌≡◌, ◌-◌, ◌≤◌, length, sym, refl, ◌∙◌, arith, rules}
+use Rattle.std.proofs.Common.{◌≡◌, ◌-◌, ◌≤◌, length}
 use Rattle.runner.proofs.long.long_ticks.Given as goal
 
 abbrev pub invariant-loop-t : goal.invariant-loop-t

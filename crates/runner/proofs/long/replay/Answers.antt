@@ -2,13 +2,10 @@ use Rattle.runner.proofs.LongCalled.{no_tick_clashes, close_by, turned_down, wit
 use Rattle.runner.proofs.Tallying.{tallied_cleared}
 use Rattle.runner.proofs.Starting.{inputs_all}
 use Rattle.runner.proofs.Tabled.{plain_table}
-use Rattle.runner.specs.Long.{window_ticks, max_long_ticks}
-use Rattle.runner.specs.Private.Placed.{limits}
 use Rattle.runner.specs.Private.Ready.{rows_in}
-use Rattle.semantics.specs.Runs.{inputs}
 use Rattle.semantics.proofs.Tallies.{tallied_same}
-use Rattle.table.specs.Answers.{answer, short_window}
-use Rattle.std.proofs.Common.{◌≡◌, ◌*◌, length, refl, arith, rules}
+use Rattle.table.specs.Answers.{short_window}
+use Rattle.std.proofs.Common.{refl, arith}
 use Rattle.runner.proofs.long.replay.Goals as goal
 
 pub overflow_mul-n : goal.overflow_mul-n
