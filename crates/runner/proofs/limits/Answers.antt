@@ -1,6 +1,6 @@
 use Rattle.runner.proofs.Limiting.{too_many, wrong_log_lem, short_marks, short_values, all_kept}
 use Rattle.runner.proofs.Words.{place_small}
-use Rattle.std.proofs.Common.{◌^◌, arith, rules}
+use Rattle.std.proofs.Common.{◌^◌, arith}
 use Rattle.runner.proofs.limits.Goals as goal
 
 pub returns-then-most-ticks : goal.returns-then-most-ticks

@@ -2,7 +2,7 @@ use Rattle.runner.proofs.LongCalled.{accepted, handed_on}
 use Rattle.checker.specs.Answers.{clock_size}
 use Rattle.table.specs.Rows.{max_flows}
 use lib.ListN.{length-replicate}
-use Rattle.std.proofs.Common.{ℕ, ◌*◌, arith, rules}
+use Rattle.std.proofs.Common.{ℕ, ◌*◌, arith}
 use Rattle.runner.proofs.long_run.Goals as goal
 
 pub replay-requires : goal.replay-requires

@@ -11,7 +11,7 @@ use Rattle.semantics.specs.Answers.{max_ticks}
 use Rattle.semantics.specs.Runs.{inputs}
 use Rattle.table.specs.Answers.{answer, short_trace}
 use Rattle.table.specs.declared.Answer.{Answer}
-use Rattle.std.proofs.Common.{◌≡◌, ℕ, List, ◌*◌, ◌^◌, length, refl, arith, rules}
+use Rattle.std.proofs.Common.{◌≡◌, ℕ, List, ◌*◌, ◌^◌, length, refl, arith}
 use Rattle.runner.proofs.replay.Goals as goal
 
 -- what the limits come to

@@ -1,5 +1,4 @@
 use Rattle.runner.proofs.Called.{accepted, handed_on}
-use Rattle.std.proofs.Common.{rules}
 use Rattle.runner.proofs.run.Goals as goal
 
 pub replay-requires : goal.replay-requires

@@ -1,11 +1,8 @@
 use Rattle.runner.proofs.Running.{recall, close, goes_on, stops, ends}
 use Rattle.runner.proofs.Placing.{fewer}
 use Rattle.runner.proofs.Tabled.{plain_table}
-use Rattle.runner.specs.Private.Carried.{state_size}
-use Rattle.runner.specs.Private.Ready.{rows_in}
-use Rattle.runner.specs.Private.Placed.{Fitting, Running}
-use Rattle.table.proofs.Tables.{Table}
-use Rattle.std.proofs.Common.{◌≡◌, ℕ, ◌+◌, ◌-◌, ◌<◌, ◌≤◌, List, length, sym, refl, ◌∙◌, subst, arith, rules}
+use Rattle.runner.specs.Private.Placed.{Fitting}
+use Rattle.std.proofs.Common.{◌≡◌, ℕ, ◌+◌, ◌<◌, List, length, sym, refl, ◌∙◌, subst, arith}
 use Rattle.runner.proofs.run_ticks.Goals as goal
 
 -- the next tick has its place in marks and values

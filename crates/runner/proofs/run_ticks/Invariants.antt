@@ -1,11 +1,7 @@
-use Rattle.runner.proofs.Running.{recall, close, goes_on, stops, ends}
-use Rattle.runner.proofs.Placing.{fewer}
-use Rattle.runner.proofs.Tabled.{plain_table}
 use Rattle.runner.specs.Private.Carried.{state_size}
 use Rattle.runner.specs.Private.Ready.{rows_in}
-use Rattle.runner.specs.Private.Placed.{Fitting, Running}
-use Rattle.table.proofs.Tables.{Table}
-use Rattle.std.proofs.Common.{◌≡◌, ℕ, ◌+◌, ◌-◌, ◌≤◌, List, length, sym, refl, ◌∙◌, subst, arith, rules}
+use Rattle.runner.specs.Private.Placed.{Running}
+use Rattle.std.proofs.Common.{◌≡◌, ℕ, ◌+◌, ◌-◌, ◌≤◌, List, length}
 use Rattle.runner.proofs.run_ticks.Given as goal
 
 abbrev pub invariant-loop-t : goal.invariant-loop-t

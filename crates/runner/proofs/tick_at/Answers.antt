@@ -1,7 +1,7 @@
 use Rattle.runner.proofs.Lent.{lent, part_length}
 use Rattle.runner.specs.Private.Ready.{rows_in}
 use Rattle.semantics.specs.Runs.{tick_of}
-use Rattle.std.proofs.Common.{arith, rules}
+use Rattle.std.proofs.Common.{arith}
 use Rattle.runner.proofs.tick_at.Goals as goal
 
 pub tick-requires : goal.tick-requires

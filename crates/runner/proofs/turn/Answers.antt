@@ -5,7 +5,7 @@ use Rattle.runner.proofs.Tabled.{plain_table}
 use Rattle.table.specs.Rows.{max_flows}
 use Rattle.table.proofs.Tables.{Table}
 use Rattle.semantics.specs.Runs.{inputs}
-use Rattle.std.proofs.Common.{◌≡◌, ℕ, List, ◌*◌, ◌^◌, ◌≤◌, ap, arith, rules}
+use Rattle.std.proofs.Common.{◌≡◌, ℕ, List, ◌*◌, ◌^◌, ◌≤◌, ap, arith}
 use Rattle.runner.proofs.turn.Goals as goal
 
 -- the place in the log is low

@@ -1,5 +1,5 @@
 use Rattle.semantics.specs.Operators.{alone}
-use Rattle.std.proofs.Common.{rules, lt-ltb, eq-eqb, ne_eqb}
+use Rattle.std.proofs.Common.{lt-ltb, eq-eqb, ne_eqb}
 use Rattle.runner.proofs.operators.alone.Goals as goal
 
 pub returns-then-marks-i-eq0 : goal.returns-then-marks-i-eq0

@@ -1,4 +1,4 @@
-use Rattle.std.proofs.Common.{refl, arith, rules}
+use Rattle.std.proofs.Common.{refl, arith}
 use Rattle.table.specs.Rows.{add, subtract, less, equal, larger, kinds}
 use Rattle.runner.proofs.Decoded.{op_is, six}
 use Rattle.runner.proofs.operators.apply.Goals as goal

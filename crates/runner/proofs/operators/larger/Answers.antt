@@ -1,4 +1,4 @@
-use Rattle.std.proofs.Common.{sym, rules}
+use Rattle.std.proofs.Common.{sym}
 use Rattle.runner.proofs.operators.larger.Goals as goal
 
 pub returns-then-below : goal.returns-then-below

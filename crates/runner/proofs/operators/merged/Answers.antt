@@ -1,5 +1,5 @@
-use Rattle.semantics.specs.Operators.{neither, alone, merged}
-use Rattle.std.proofs.Common.{rules, lt-ltb, eq-eqb, ne_eqb}
+use Rattle.semantics.specs.Operators.{merged}
+use Rattle.std.proofs.Common.{lt-ltb, eq-eqb, ne_eqb}
 use Rattle.runner.proofs.operators.merged.Goals as goal
 
 pub returns-then-marks-j-eq0 : goal.returns-then-marks-j-eq0

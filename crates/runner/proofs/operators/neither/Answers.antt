@@ -1,5 +1,5 @@
 use Rattle.semantics.specs.Operators.{neither}
-use Rattle.std.proofs.Common.{rules, lt-ltb, eq-eqb, ne_eqb}
+use Rattle.std.proofs.Common.{lt-ltb, eq-eqb, ne_eqb}
 use Rattle.runner.proofs.operators.neither.Goals as goal
 
 pub returns-then-marks-b-eq0 : goal.returns-then-marks-b-eq0

@@ -1,4 +1,4 @@
-use Rattle.std.proofs.Common.{rules, lt-ltb, eq-eqb, ne_eqb}
+use Rattle.std.proofs.Common.{lt-ltb, eq-eqb, ne_eqb}
 use Rattle.runner.proofs.operators.registered.Goals as goal
 
 pub returns-then-marks-b-eq0 : goal.returns-then-marks-b-eq0

@@ -1,12 +1,7 @@
-use Rattle.std.proofs.Common.{◌≡◌, ◌-◌, ◌*◌, ◌<◌, ◌≤◌, length, sym, refl, ◌∙◌, arith, eqb-true}
+use Rattle.std.proofs.Common.{◌<◌, sym, refl, ◌∙◌, arith, eqb-true}
 use borrow.Author.Tests.{eqb-false}
-use Rattle.table.proofs.Tables.{Table}
-use Rattle.semantics.specs.Runs.{Ticks}
-use Rattle.runner.specs.Private.Ready.{rows_in, Ready}
 use Rattle.runner.proofs.Tabled.{plain_table, row_of_lem}
-use Rattle.runner.proofs.Flowing.{Going, starts, ends, stops, goes_on}
-use Rattle.table.specs.Rows.{row_size, max_flows}
-use Rattle.runner.specs.Private.Carried.{state_size}
+use Rattle.runner.proofs.Flowing.{starts, ends, stops, goes_on}
 use Rattle.runner.proofs.ticks.flows.Goals as goal
 
 pub loop-f-init : goal.loop-f-init

@@ -1,11 +1,9 @@
-use Rattle.std.proofs.Common.{◌≡◌, ℕ, ◌+◌, ◌-◌, ◌*◌, ◌<◌, ◌≤◌, List, length, get_or, set, sym, ap, ◌∙◌, arith, length-set}
-use Rattle.table.proofs.Tables.{Table}
-use Rattle.semantics.specs.Runs.{Tick, Ticks}
-use Rattle.runner.specs.Private.Ready.{rows_in, Plain, Listed, is_register, Wrote, AllFollow}
+use Rattle.std.proofs.Common.{◌≡◌, ℕ, ◌+◌, ◌*◌, ◌<◌, ◌≤◌, List, length, get_or, set, sym, ap, ◌∙◌, arith, length-set}
+use Rattle.runner.specs.Private.Ready.{Plain, Listed, is_register}
 use Rattle.runner.proofs.Tabled.{plain_table}
-use Rattle.runner.proofs.Latching.{Latching, starts, ends, stops, goes_on, operands_low}
+use Rattle.runner.proofs.Latching.{starts, ends, stops, goes_on, operands_low}
 use Rattle.table.specs.Rows.{row_size, max_flows}
-use Rattle.runner.specs.Private.Carried.{held_size, state_size}
+use Rattle.runner.specs.Private.Carried.{held_size}
 use Rattle.runner.proofs.ticks.latch.Goals as goal
 
 -- the next register's number, beat and source are low, and the list has room for them

@@ -1,11 +1,8 @@
-use Rattle.std.proofs.Common.{◌≡◌, ℕ, ◌+◌, ◌-◌, ◌*◌, ◌<◌, ◌≤◌, List, length, get_or, set, sym, ap, ◌∙◌, arith, length-set}
-use Rattle.table.proofs.Tables.{Table}
+use Rattle.std.proofs.Common.{◌≡◌, ℕ, ◌-◌, ◌≤◌, List, length}
 use Rattle.semantics.specs.Runs.{Tick, Ticks}
 use Rattle.runner.specs.Private.Ready.{rows_in, Wrote, AllFollow}
-use Rattle.runner.proofs.Tabled.{plain_table}
-use Rattle.runner.proofs.Latching.{Latching, starts, ends, stops, goes_on, operands_low}
-use Rattle.table.specs.Rows.{row_size, max_flows}
-use Rattle.runner.specs.Private.Carried.{held_size, state_size}
+use Rattle.runner.proofs.Latching.{Latching}
+use Rattle.runner.specs.Private.Carried.{state_size}
 use Rattle.runner.proofs.ticks.latch.Given as goal
 
 abbrev pub invariant-loop-j : goal.invariant-loop-j

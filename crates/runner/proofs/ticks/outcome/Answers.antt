@@ -1,10 +1,8 @@
-use Rattle.std.proofs.Common.{◌≡◌, ℕ, ◌+◌, ◌*◌, List, get_or, sym, refl, subst, not-le_of_lt, arith, rules}
+use Rattle.std.proofs.Common.{◌≡◌, ℕ, ◌+◌, ◌*◌, List, get_or, sym, refl, subst, not-le_of_lt, arith}
 use Rattle.table.specs.Rows.{Row, add, subtract, less, equal, larger, kinds, kind_at, decode, row_size, max_flows}
 use Rattle.table.specs.Tables.{FieldsFit}
-use Rattle.table.proofs.Entries.{no_kind_lem}
 use Rattle.runner.specs.declared.operators.Outcome.{Outcome}
 use Rattle.runner.specs.Private.Carried.{cells_in, held_size, held_in, step_of, next_of, Did}
-use Rattle.runner.proofs.Decoded.{two_or_more, seven}
 use Rattle.runner.proofs.Words.{unchanged}
 use Rattle.runner.proofs.ticks.outcome.Goals as goal
 
@@ -288,4 +286,3 @@ unfolding kinds step_of next_of
 returns-in-6 c =
     let a = c.args in
     by_kind a.t a.log.now a.at a.marks.now a.values.now a.state.now a.f a.kind a.p a.q (third a.words.now a.f) 6 c.in-6.is (unchanged (c.combined-in-6.ensures larger (λ a b z. refl)) refl)
-

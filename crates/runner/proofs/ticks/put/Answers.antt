@@ -1,4 +1,4 @@
-use Rattle.std.proofs.Common.{refl, rules, eq-eqb, ne_eqb}
+use Rattle.std.proofs.Common.{refl, eq-eqb, ne_eqb}
 use Rattle.runner.proofs.ticks.put.Goals as goal
 
 pub returns-then-mark-eq-CLASHED : goal.returns-then-mark-eq-CLASHED

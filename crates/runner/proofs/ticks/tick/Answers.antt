@@ -2,7 +2,7 @@ use Rattle.runner.proofs.Ticking.{stops, latches}
 use Rattle.runner.proofs.Tabled.{plain_table}
 use Rattle.runner.specs.Private.Ready.{rows_in}
 use Rattle.semantics.specs.Runs.{flows_from, tick_of}
-use Rattle.std.proofs.Common.{[], rules}
+use Rattle.std.proofs.Common.{[]}
 use Rattle.runner.proofs.ticks.tick.Goals as goal
 
 pub returns-in-Stopped : goal.returns-in-Stopped
