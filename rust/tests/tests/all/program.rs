@@ -29,7 +29,7 @@ const LIMIT: Duration = Duration::from_secs(20);
 /// The program: `list` in BAARQIDHO_BIN_DIR, or in target/bin of the repository.
 fn program() -> PathBuf {
     let program = directory("BAARQIDHO_BIN_DIR", "target/bin").join("list");
-    assert!(program.is_file(), "no file {}: run `rt check list` in the repository", program.display());
+    assert!(program.is_file(), "no file {}: run `make list` in the repository", program.display());
     program
 }
 
