@@ -5,20 +5,10 @@ use Rattle.runner.proofs.Recalling.{everywhere}
 use Rattle.runner.proofs.Starting.{inputs_all}
 use Rattle.runner.proofs.Tabled.{plain_table}
 use Rattle.runner.proofs.Words.{place_small}
-use Rattle.runner.specs.Private.Placed.{limits}
 use Rattle.runner.specs.Private.Ready.{rows_in}
-use Rattle.semantics.specs.Answers.{max_ticks}
-use Rattle.semantics.specs.Runs.{inputs}
-use Rattle.table.specs.Answers.{answer, short_trace}
-use Rattle.table.specs.declared.Answer.{Answer}
-use Rattle.std.proofs.Common.{◌≡◌, ℕ, List, ◌*◌, ◌^◌, length, refl, arith}
+use Rattle.table.specs.Answers.{short_trace}
+use Rattle.std.proofs.Common.{◌^◌, length, refl, arith}
 use Rattle.runner.proofs.replay.Goals as goal
-
--- what the limits come to
-limited : (n ticks marks values : ℕ) (words log : List ℕ) (found : Answer) (inputs_of : ℕ) → inputs_of ≡ inputs (rows_in n words)
-    → found ≡ answer (λ (u : Unit {0}). 0) (limits ticks max_ticks (length log) inputs_of (ticks * n) short_trace marks values)
-    → found ≡ answer (λ (u : Unit {0}). 0) (limits ticks max_ticks (length log) (inputs (rows_in n words)) (ticks * n) short_trace marks values)
-limited n ticks marks values words log found inputs_of e h = rw e at h
 
 pub overflow_mul-cells : goal.overflow_mul-cells
 overflow_mul-cells c =
@@ -34,7 +24,8 @@ limits-found-requires c =
 pub returns-then-found-ne0 : goal.returns-then-found-ne0
 returns-then-found-ne0 c =
     let a = c.args in
-    turned_down a.n a.words.now a.log.now a.ticks a.marks.now a.values.now c.requires _ (limited a.n a.ticks (length a.marks.now) (length a.values.now) a.words.now a.log.now c.limits-found.result _ c.start-inputs.ensures.0 (c.limits-found.ensures short_trace refl)) c.if-found-ne0.true
+    let limited = rw c.start-inputs.ensures.0 at (c.limits-found.ensures short_trace refl) in
+    turned_down a.n a.words.now a.log.now a.ticks a.marks.now a.values.now c.requires _ limited c.if-found-ne0.true
 
 pub listed-register_count-requires : goal.listed-register_count-requires
 listed-register_count-requires c =
@@ -49,7 +40,8 @@ listed-backward_count-requires c =
 pub run_ticks-end-requires : goal.run_ticks-end-requires
 run_ticks-end-requires c =
     let a = c.args in
-    let W = within a.n a.words.now a.log.now a.ticks a.marks.now a.values.now c.requires _ (limited a.n a.ticks (length a.marks.now) (length a.values.now) a.words.now a.log.now c.limits-found.result _ c.start-inputs.ensures.0 (c.limits-found.ensures short_trace refl)) c.if-found-ne0.false in (
+    let limited = rw c.start-inputs.ensures.0 at (c.limits-found.ensures short_trace refl) in
+    let W = within a.n a.words.now a.log.now a.ticks a.marks.now a.values.now c.requires _ limited c.if-found-ne0.false in (
       c.requires,
       whole_fits (2 ^ 32) a.n a.ticks (length a.marks.now) (omega arith) W.3,
       whole_fits (2 ^ 32) a.n a.ticks (length a.values.now) (omega arith) W.4,
@@ -67,20 +59,23 @@ run_ticks-end-requires c =
 pub overflow_cast-result : goal.overflow_cast-result
 overflow_cast-result c =
     let a = c.args in
+    let limited = rw c.start-inputs.ensures.0 at (c.limits-found.ensures short_trace refl) in
     let clash =
-    stopped a.n a.words.now a.log.now a.ticks a.marks.now a.values.now c.requires _ (limited a.n a.ticks (length a.marks.now) (length a.values.now) a.words.now a.log.now c.limits-found.result _ c.start-inputs.ensures.0 (c.limits-found.ensures short_trace refl)) c.if-found-ne0.false (2 ^ 32) (omega arith)
+    stopped a.n a.words.now a.log.now a.ticks a.marks.now a.values.now c.requires _ limited c.if-found-ne0.false (2 ^ 32) (omega arith)
     _ _ _ _ (c.run_ticks-end.ensures a.marks.now a.values.now (starts c.start-inputs.ensures.1)) _ _ c.in-Clash.is in
     omega (arith, clash.1, (plain_table a.n a.words.now c.requires).few)
 
 pub returns-in-Clash : goal.returns-in-Clash
 returns-in-Clash c =
     let a = c.args in
-    (stopped a.n a.words.now a.log.now a.ticks a.marks.now a.values.now c.requires _ (limited a.n a.ticks (length a.marks.now) (length a.values.now) a.words.now a.log.now c.limits-found.result _ c.start-inputs.ensures.0 (c.limits-found.ensures short_trace refl)) c.if-found-ne0.false (2 ^ 32) (omega arith)
+    let limited = rw c.start-inputs.ensures.0 at (c.limits-found.ensures short_trace refl) in
+    (stopped a.n a.words.now a.log.now a.ticks a.marks.now a.values.now c.requires _ limited c.if-found-ne0.false (2 ^ 32) (omega arith)
     _ _ _ _ (c.run_ticks-end.ensures a.marks.now a.values.now (starts c.start-inputs.ensures.1)) _ _ c.in-Clash.is).0
 
 pub returns-in-End : goal.returns-in-End
 returns-in-End c =
     let a = c.args in
+    let limited = rw c.start-inputs.ensures.0 at (c.limits-found.ensures short_trace refl) in
     rw c.success.ensures
-    (ended a.n a.words.now a.log.now a.ticks a.marks.now a.values.now c.requires _ (limited a.n a.ticks (length a.marks.now) (length a.values.now) a.words.now a.log.now c.limits-found.result _ c.start-inputs.ensures.0 (c.limits-found.ensures short_trace refl)) c.if-found-ne0.false (2 ^ 32) (omega arith)
+    (ended a.n a.words.now a.log.now a.ticks a.marks.now a.values.now c.requires _ limited c.if-found-ne0.false (2 ^ 32) (omega arith)
     _ _ _ _ (c.run_ticks-end.ensures a.marks.now a.values.now (starts c.start-inputs.ensures.1)) c.in-End.is)

@@ -14,19 +14,21 @@ overflow_cast-before c = omega (arith, c.slice_known-2-1.given (c.args.self.at /
 
 pub returns : goal.returns
 returns c =
-    let out : List ℕ = c.args.out.now in
-    let i = c.args.self.at / 8 in
+    let a = c.args in
+    let p = c.requires in
+    let out : List ℕ = a.out.now in
+    let i = a.self.at / 8 in
     let b : get_or out i 0 < 256 = omega (arith, c.slice_known-2-1.given i) in
-    let e = nine_word (get_or out i 0) (c.args.self.at % 8) c.args.w c.args.v b (mod-lt c.args.self.at (zero-lt-suc 7)) (omega arith) c.requires.3 in (
+    let e = nine_word (get_or out i 0) (a.self.at % 8) a.w a.v b (mod-lt a.self.at (zero-lt-suc 7)) (omega arith) p.3 in (
       refl,
       elim c.if-i-size.branch [
         | then-i-size w ↦
-            put_law c.args.size c.args.self.at c.args.w c.args.v 9 out c.requires.3 c.requires.4 c.requires.5 (omega arith) (omega arith) (omega (arith, w.if-i-size.true)) c.if-i-size.out
+            put_law a.size a.self.at a.w a.v 9 out p.3 p.4 p.5 (omega arith) (omega arith) (omega (arith, w.if-i-size.true)) c.if-i-size.out
             (w.out-is ∙ w.store.ensures ∙ ap (λ (v : ℕ). take i out ++ (take 9 (nine v) ++ drop (i + 9) out)) e)
         | else-i-size w ↦
             (let n = w.byte_count.result - i in
             let end = w.byte_count.ensures in
-            put_law c.args.size c.args.self.at c.args.w c.args.v n out c.requires.3 c.requires.4 c.requires.5 (omega (arith, end)) (omega (arith, end, w.if-i-size.false)) (omega (arith, end)) c.if-i-size.out
+            put_law a.size a.self.at a.w a.v n out p.3 p.4 p.5 (omega (arith, end)) (omega (arith, end, w.if-i-size.false)) (omega (arith, end)) c.if-i-size.out
             (w.out-is ∙ w.store-else-i-size.ensures ∙ ap (λ (v : ℕ). take i out ++ (take n (nine v) ++ drop (i + n) out)) e))
       ],
     )

@@ -31,30 +31,56 @@ accepts-requires c = (refl, refl, ap length c.loop-row.invariant.2)
 
 pub returns-then-not-accepts : goal.returns-then-not-accepts
 returns-then-not-accepts c =
-    let n = sym (c.accepts.ensures c.args.rated c.args.count c.loop-row.row c.barred_kind-barred.ensures c.requires.0 (omega (arith, c.requires.0, c.loop-row-test.true)) c.loop-row.invariant.2) ∙ not-true c.accepts.result c.if-not-accepts.true-raw in (
-      sym c.loop-row.invariant.3 ∙ survey_stop c.args.rated c.args.count c.loop-row.row c.args.words.now (words_of c.record_at-r.result) c.record_at-r.ensures
-          c.loop-row-test.true c.why.result (c.why.ensures c.args.count c.loop-row.row n) (not_zero c.why.result _ (c.why.ensures c.args.count c.loop-row.row n) n),
+    let a = c.args in
+    let l = c.loop-row in
+    let r = c.record_at-r in
+    let told = c.accepts.ensures a.rated a.count l.row c.barred_kind-barred.ensures c.requires.0 (omega (arith, c.requires.0, c.loop-row-test.true)) l.invariant.2 in
+    let n = sym told ∙ not-true c.accepts.result c.if-not-accepts.true-raw in (
+      sym l.invariant.3 ∙ survey_stop a.rated a.count l.row a.words.now (words_of r.result) r.ensures
+          c.loop-row-test.true c.why.result (c.why.ensures a.count l.row n) (not_zero c.why.result _ (c.why.ensures a.count l.row n) n),
       tt,
     )
 
 pub length_of-bits-requires : goal.length_of-bits-requires
-length_of-bits-requires c = (kind_lt c.args.rated c.args.count c.loop-row.row (words_of c.record_at-r.result) (accepted _ c.accepts.result (c.accepts.ensures c.args.rated c.args.count c.loop-row.row c.barred_kind-barred.ensures c.requires.0 (omega (arith, c.requires.0, c.loop-row-test.true)) c.loop-row.invariant.2) c.if-not-accepts.false-raw), refl)
+length_of-bits-requires c =
+    let a = c.args in
+    let l = c.loop-row in
+    let r = c.record_at-r in
+    let told = c.accepts.ensures a.rated a.count l.row c.barred_kind-barred.ensures c.requires.0 (omega (arith, c.requires.0, c.loop-row-test.true)) l.invariant.2 in
+    let taken = accepted _ c.accepts.result told c.if-not-accepts.false-raw in
+    let known = kind_lt a.rated a.count l.row (words_of r.result) taken in
+    (known, refl)
 
 pub overflow_add-bits : goal.overflow_add-bits
-overflow_add-bits c = omega (arith, c.length_of-bits.ensures, row_le _ (kind_lt c.args.rated c.args.count c.loop-row.row (words_of c.record_at-r.result) (accepted _ c.accepts.result (c.accepts.ensures c.args.rated c.args.count c.loop-row.row c.barred_kind-barred.ensures c.requires.0 (omega (arith, c.requires.0, c.loop-row-test.true)) c.loop-row.invariant.2) c.if-not-accepts.false-raw)))
+overflow_add-bits c =
+    let a = c.args in
+    let l = c.loop-row in
+    let r = c.record_at-r in
+    let told = c.accepts.ensures a.rated a.count l.row c.barred_kind-barred.ensures c.requires.0 (omega (arith, c.requires.0, c.loop-row-test.true)) l.invariant.2 in
+    let taken = accepted _ c.accepts.result told c.if-not-accepts.false-raw in
+    let known = kind_lt a.rated a.count l.row (words_of r.result) taken in
+    omega (arith, c.length_of-bits.ensures, row_le _ known)
 
 pub loop-row-preserved : goal.loop-row-preserved
 loop-row-preserved c =
-    let f : c.loop-row.row < c.args.count = c.loop-row-test.true in (
+    let a = c.args in
+    let l = c.loop-row in
+    let r = c.record_at-r in
+    let told = c.accepts.ensures a.rated a.count l.row c.barred_kind-barred.ensures c.requires.0 (omega (arith, c.requires.0, c.loop-row-test.true)) l.invariant.2 in
+    let taken = accepted _ c.accepts.result told c.if-not-accepts.false-raw in
+    let known = kind_lt a.rated a.count l.row (words_of r.result) taken in
+    let f : l.row < a.count = c.loop-row-test.true in (
       search rules,
-      omega (arith, c.length_of-bits.ensures, row_le _ (kind_lt c.args.rated c.args.count c.loop-row.row (words_of c.record_at-r.result) (accepted _ c.accepts.result (c.accepts.ensures c.args.rated c.args.count c.loop-row.row c.barred_kind-barred.ensures c.requires.0 (omega (arith, c.requires.0, c.loop-row-test.true)) c.loop-row.invariant.2) c.if-not-accepts.false-raw))),
-      ap (λ (b : List ℕ). set b 0 (c.loop-row.row + 1)) c.loop-row.invariant.2,
-      survey_next c.args.rated c.args.count c.loop-row.row c.args.words.now (words_of c.record_at-r.result) c.record_at-r.ensures f (accepted _ c.accepts.result (c.accepts.ensures c.args.rated c.args.count c.loop-row.row c.barred_kind-barred.ensures c.requires.0 (omega (arith, c.requires.0, c.loop-row-test.true)) c.loop-row.invariant.2) c.if-not-accepts.false-raw) ∙ c.loop-row.invariant.3,
-      omega (arith, c.length_of-bits.ensures, size_next c.args.rated c.args.count c.loop-row.row c.args.words.now (words_of c.record_at-r.result) c.record_at-r.ensures f (accepted _ c.accepts.result (c.accepts.ensures c.args.rated c.args.count c.loop-row.row c.barred_kind-barred.ensures c.requires.0 (omega (arith, c.requires.0, c.loop-row-test.true)) c.loop-row.invariant.2) c.if-not-accepts.false-raw), c.loop-row.invariant.4),
+      omega (arith, c.length_of-bits.ensures, row_le _ known),
+      ap (λ (b : List ℕ). set b 0 (l.row + 1)) l.invariant.2,
+      survey_next a.rated a.count l.row a.words.now (words_of r.result) r.ensures f taken ∙ l.invariant.3,
+      omega (arith, c.length_of-bits.ensures, size_next a.rated a.count l.row a.words.now (words_of r.result) r.ensures f taken, l.invariant.4),
     )
 
 pub returns : goal.returns
 unfolding rows_from rows_bits
 returns c =
-    let e : split (c.args.count - c.loop-row.row) (drop (row_size * c.loop-row.row) c.args.words.now) ≡ [] = split_end c.args.count c.loop-row.row c.args.words.now c.loop-row.invariant.0 c.loop-row-test.false in
-    (sym (rw e at c.loop-row.invariant.3), omega (arith, c.byte_count.ensures, rw e at c.loop-row.invariant.4))
+    let a = c.args in
+    let l = c.loop-row in
+    let e : split (a.count - l.row) (drop (row_size * l.row) a.words.now) ≡ [] = split_end a.count l.row a.words.now l.invariant.0 c.loop-row-test.false in
+    (sym (rw e at l.invariant.3), omega (arith, c.byte_count.ensures, rw e at l.invariant.4))
