@@ -10,7 +10,8 @@ invariant-loop-t l = (l.from ≤ l.t)
     × (length l.state ≡ state_size)
     × (length l.marks ≡ length l.initial.marks)
     × (length l.values ≡ length l.initial.values)
-    × ((ms vs : List ℕ) → Running l.n (l.mask + 1) l.from (rows_in l.n l.words) l.log ms vs l.initial.state l.initial.marks l.initial.values → Running l.n (l.mask + 1) l.t (rows_in l.n l.words) l.log ms vs l.state l.marks l.values)
+    × ((ms vs : List ℕ) → Running l.n (l.mask + 1) l.from (rows_in l.n l.words) l.log ms vs l.initial.state l.initial.marks l.initial.values
+    → Running l.n (l.mask + 1) l.t (rows_in l.n l.words) l.log ms vs l.state l.marks l.values)
 
 abbrev pub decreases-loop-t : goal.decreases-loop-t
 decreases-loop-t l = l.to - l.t
