@@ -4,10 +4,10 @@
 ghost use Rattle.std.specs.Prelude.{IfOk};
 ghost use Rattle.list.specs.Private.Inputs.{Within};
 
-use anyhow::Context;
 use lister::Listed;
 use std::io;
 use std::io::Read;
+use std::process::ExitCode;
 
 // One byte more than the longest table has: it decides every longer input.
 const ROOM: usize = table::LONGEST_TABLE + 1;
@@ -28,18 +28,30 @@ fn read_all(input: &mut impl Read, packed: &mut [u8]) -> io::Result<usize>
 }
 
 // Writes the listing of a packed table.
-fn list(rt: &impl Print, packed: &[u8]) -> anyhow::Result<()> {
+fn list(rt: &impl Print, packed: &[u8]) -> io::Result<()> {
     let mut text = [0u8; lister::LONGEST];
     let listed = lister::listing(packed, &mut text);
     let Listed::Bytes(size) = listed else {
         return Ok(());
     };
     let end = size as usize;
-    rt.write_all(&text[..end]).context("standard output")
+    rt.write_all(&text[..end])
 }
 
-fn main(rt: HostRuntime) -> anyhow::Result<()> {
+// Says on standard error in a line what failed, as far as it can be said.
+fn failed(rt: &impl Eprint, what: &str, error: &io::Error) -> ExitCode {
+    let _ = eprintln!(rt; "{what}: {error}");
+    ExitCode::FAILURE
+}
+
+fn main(rt: HostRuntime) -> ExitCode {
     let mut packed = [0u8; ROOM];
-    let size = read_all(&mut rt.stdin(), &mut packed).context("standard input")?;
-    list(&rt, &packed[..size])
+    let size = match read_all(&mut rt.stdin(), &mut packed) {
+        Ok(size) => size,
+        Err(error) => return failed(&rt, "standard input", &error),
+    };
+    match list(&rt, &packed[..size]) {
+        Ok(()) => ExitCode::SUCCESS,
+        Err(error) => failed(&rt, "standard output", &error),
+    }
 }
