@@ -16,7 +16,7 @@ use Rattle.table.proofs.AnswerLaws.{answer_other}
 use Rattle.table.proofs.PlainRows.{length_joined}
 use Rattle.checker.specs.Answers.{check_number}
 use Rattle.rates.specs.Joins.{Joined}
-use Rattle.rates.specs.Fillings.{filled, Accepted, bad_draft, no_chain, none_accepted, no_room_lem, accepted, Filled}
+use Rattle.rates.specs.Fillings.{filled, Accepted, bad_draft, no_chain, none_accepted, without_room, accepted, Filled}
 use Rattle.rates.specs.Private.Spread.{word_at, rates_in, Starting, Settled, Lowest}
 use Rattle.rates.proofs.Spreading.{derived_chained, all_known, spread_accepted}
 use Rattle.rates.proofs.Given.{filled_count}
@@ -84,7 +84,7 @@ module _ (m : ℕ) (words old : List ℕ) where
               answered = e;
               stored = refl;
             };
-            room = λ y l x e. record { outcome = refused no_room 0; comes = no_room_lem (rates_in st) chained (passes y) l; answered = e; stored = refl };
+            room = λ y l x e. record { outcome = refused no_room 0; comes = without_room (rates_in st) chained (passes y) l; answered = e; stored = refl };
             whole = λ y lb l x e left c. record {
               outcome = good (filled m words (rates_in st));
               comes = accepted (rates_in st) chained (passes y) l;

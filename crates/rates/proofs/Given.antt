@@ -12,7 +12,7 @@ use Rattle.table.specs.Plain.{row_words, joined, draft_of}
 use Rattle.table.proofs.Tests.{not_good}
 use Rattle.table.proofs.PlainRows.{per_length}
 use Rattle.rates.specs.Joins.{Chained, Joined}
-use Rattle.rates.specs.Fillings.{Rate, filled_row, filled, Accepted, Filling, bad_draft, no_chain, none_accepted, no_room_lem, accepted, Filled}
+use Rattle.rates.specs.Fillings.{Rate, filled_row, filled, Accepted, Filling, bad_draft, no_chain, none_accepted, without_room, accepted, Filled}
 use Rattle.rates.specs.Given.{Given}
 use Rattle.rates.proofs.Unique.{unique}
 
@@ -45,7 +45,7 @@ module _ (m : ℕ) (words : List ℕ) (room : ℕ) where
   full r t (bad_draft why f e) = not_draft e t.draft
   full r t (no_chain rows f e l h k) = off_chain f l h t
   full r t (none_accepted u h) = none h
-  full r t (no_room_lem q u a l) = short q a l
+  full r t (without_room q u a l) = short q a l
   full r t (accepted q u a l) = whole q a l
 
   full_same : (r s : Result (List Words)) → Joined m words → Full r → Full s → r ≡ s
@@ -63,16 +63,16 @@ module _ (m : ℕ) (words : List ℕ) (room : ℕ) where
   outcome_same r s (bad_draft why f e) (bad_draft why' f' e') = same_refusal (sym e ∙ e')
   outcome_same r s (bad_draft why f e) (no_chain rows f' t l h k) = not_draft e t
   outcome_same r s (bad_draft why f e) (none_accepted t h) = not_draft e t.draft
-  outcome_same r s (bad_draft why f e) (no_room_lem q t a l) = not_draft e t.draft
+  outcome_same r s (bad_draft why f e) (without_room q t a l) = not_draft e t.draft
   outcome_same r s (bad_draft why f e) (accepted q t a l) = not_draft e t.draft
   outcome_same r s (no_chain rows f t l h k) (bad_draft why f' e) = not_draft e t
   outcome_same r s (no_chain rows f t l h k) (no_chain rows' f' t' l' h' k') =
       ap (refused unjoined) (let x : f' ≤ f = lowest f f' h k' in let y : f ≤ f' = lowest f' f h' k in omega arith)
   outcome_same r s (no_chain rows f t l h k) (none_accepted u h') = off_chain f l h u
-  outcome_same r s (no_chain rows f t l h k) (no_room_lem q u a l') = off_chain f l h u
+  outcome_same r s (no_chain rows f t l h k) (without_room q u a l') = off_chain f l h u
   outcome_same r s (no_chain rows f t l h k) (accepted q u a l') = off_chain f l h u
   outcome_same r s (none_accepted t h) d = full_same r s t (none h) (full s t d)
-  outcome_same r s (no_room_lem q t a l) d = full_same r s t (short q a l) (full s t d)
+  outcome_same r s (without_room q t a l) d = full_same r s t (short q a l) (full s t d)
   outcome_same r s (accepted q t a l) d = full_same r s t (whole q a l) (full s t d)
 
 -- the call's answer and words are those of any outcome

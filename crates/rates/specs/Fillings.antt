@@ -31,7 +31,7 @@ pub data Filling (m : ℕ) (words : List ℕ) (room : ℕ) : Result (List Words)
       (rows : List Row) (f : ℕ) → draft_of m words ≡ good rows → f < m → (Chained m words f → ⊥) → ((g : ℕ) → g < f → Chained m words g)
       → Filling m words room (refused unjoined f)
   none_accepted : Joined m words → ((rates : ℕ → Rate) → Accepted m words rates → ⊥) → Filling m words room (refused clocks_differ 0)
-  no_room_lem : (rates : ℕ → Rate) → Joined m words → Accepted m words rates → room < row_size * m → Filling m words room (refused no_room 0)
+  without_room : (rates : ℕ → Rate) → Joined m words → Accepted m words rates → room < row_size * m → Filling m words room (refused no_room 0)
   accepted : (rates : ℕ → Rate) → Joined m words → Accepted m words rates → row_size * m ≤ room → Filling m words room (good (filled m words rates))
 
 -- what the call answers, and leaves in the lent buffer
