@@ -166,6 +166,7 @@ fn put(n: u32, i: u32, word: u32, old: u32) -> u32
 }
 
 // A clock with one more, last, condition.
+#[tactic(auto, unfolding(crate::specs::Private::Kept::under))]
 fn under(k: Clock, word: u32) -> Verdict
     ensures { result ≡ under k word }
 {
