@@ -126,6 +126,7 @@ pub(crate) fn faster(
 }
 
 // Slower: carries how many presences are still to be left out.
+#[tactic(auto, using(crate::proofs::Words::unchanged, crate::proofs::Words::first))]
 pub(crate) fn slower(
     marks: &[u8],
     values: &[u32],
