@@ -6,7 +6,7 @@ use native.Mathlib.Omega.{arith}
 use lib.Dec.{ltb, eqb}
 use borrow.Author.Tests.{ltb-true, ltb-false, eqb-true, eqb-false}
 use Rattle.table.proofs.Tests.{Tried, passed, failed, try}
-use Rattle.loads.specs.Loads.{distance, Nearest, rounded}
+use Rattle.loads.specs.Loads.{distance, Nearest, rounded, max_time, max_load}
 
 -- two multiples of p are p apart at least, by way of x too
 apart : (x p r s : ℕ) → (s ≡ r → ⊥) → p ≤ distance x (r * p) + distance x (s * p)
@@ -80,3 +80,13 @@ nearest_bound x p r o n = go (try (ltb x r))
 pub rounded_bound : (x p : ℕ) → rounded x p ≤ x
 rounded_bound x zero = omega arith
 rounded_bound x (suc n) = nearest_bound x (suc n) (rounded x (suc n)) (omega arith) (rounded_nearest x (suc n) (omega arith))
+
+-- the two ways of a load: each is the rounding, and no more than the largest load
+pub load_down : (w p : ℕ) → 1 ≤ p → 2 * (1000 * w % p) + 1000 * w / p % 2 ≤ p → 1000 * w / p ≡ rounded (1000 * w) p
+load_down w p o h = nearest_rounded (1000 * w) p _ o (down (1000 * w) p h)
+
+pub load_up : (w p : ℕ) → 1 ≤ p → p < 2 * (1000 * w % p) + 1000 * w / p % 2 → 1000 * w / p + 1 ≡ rounded (1000 * w) p
+load_up w p o h = nearest_rounded (1000 * w) p _ o (up (1000 * w) p o h)
+
+pub load_bound : (w p r : ℕ) → w ≤ max_time → r ≡ rounded (1000 * w) p → r ≤ max_load
+load_bound w p r m e = omega (arith, e, rounded_bound (1000 * w) p)

@@ -23,6 +23,7 @@ pub const LINE_SIZE: usize = 26;
 const NO_KEY: u64 = 9223372036854775808;
 
 // 1000 times the worst time divided by the period, to the nearest whole, the half going to the even one; 0 over a period of 0, which no clock has.
+#[tactic(auto, using(crate::proofs::Rounding::load_down, crate::proofs::Rounding::load_up, crate::proofs::Rounding::load_bound))]
 fn load(worst: u16, period: u32) -> u32
     ensures value { result ≡ rounded (1000 * worst) period }
     ensures upper_bound { result ≤ max_load }
