@@ -62,6 +62,7 @@ pub same_read : (l : List ℕ) (a b : ℕ)
     → same (clock_in (drop a l)) (clock_in (drop b l))
     ≡ ((eqb (get_or l a 0) (get_or l b 0) && (eqb (get_or l (a + 1) 0) (get_or l (b + 1) 0) && eqb (get_or l (a + 2) 0) (get_or l (b + 2) 0)))
     && cond (eqb (get_or l (a + 2) 0) 0) true
-    (eqb (get_or l (a + 3) 0) (get_or l (b + 3) 0) && (eqb (get_or l (a + 4) 0) (get_or l (b + 4) 0) && (eqb (get_or l (a + 5) 0) (get_or l (b + 5) 0) && eqb (get_or l (a + 6) 0) (get_or l (b + 6) 0)))))
+    (eqb (get_or l (a + 3) 0) (get_or l (b + 3) 0) && (eqb (get_or l (a + 4) 0) (get_or l (b + 4) 0)
+    && (eqb (get_or l (a + 5) 0) (get_or l (b + 5) 0) && eqb (get_or l (a + 6) 0) (get_or l (b + 6) 0)))))
 unfolding same
 same_read l a b = sym (ap₂ same (clock_read l a) (clock_read l b))

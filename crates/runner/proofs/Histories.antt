@@ -1,5 +1,6 @@
 -- The other rows that carry words: what the words say is what the history says, at the tick and after it. Assumes nothing.
-use Rattle.std.proofs.Common.{◌≡◌, ℕ, suc, ◌+◌, ◌-◌, ◌%◌, ◌<◌, ◌≤◌, Bool, true, false, cond, not, ◌&&◌, ◌||◌, eqb, ltb, leb, ◌∷◌, length, sym, refl, ap, ◌∙◌, subst, mod-eq_of_lt, zero-add, arith, le-ltb, lt-ltb, eq-eqb, ne_eqb, eqb-true, le-leb, leb-false, leb-true}
+use Rattle.std.proofs.Common.{◌≡◌, ℕ, suc, ◌+◌, ◌-◌, ◌%◌, ◌<◌, ◌≤◌, Bool, true, false, cond, not, ◌&&◌, ◌||◌, eqb, ltb, leb, ◌∷◌, length, sym, refl}
+use Rattle.std.proofs.Common.{ap, ◌∙◌, subst, mod-eq_of_lt, zero-add, arith, le-ltb, lt-ltb, eq-eqb, ne_eqb, eqb-true, le-leb, leb-false, leb-true}
 use native.Mathlib.Nat.{mod-add-mod, add-mod_right, sub_self, zero-mod}
 use borrow.Author.Tests.{lt-leb, eqb-false}
 use Rattle.table.proofs.Tests.{Tried, passed, failed, try, same_test, and_left, and_right, and_both}

@@ -1,5 +1,6 @@
 -- The list of the rows whose kinds pass a test, row after row. Assumes nothing.
-use Rattle.std.proofs.Common.{◌≡◌, ℕ, ◌+◌, ◌*◌, ◌<◌, ◌≤◌, Bool, true, cond, ◌⊎◌, List, length, get_or, set, sym, ap, ◌∙◌, subst, inl, inr, ⊎_elim, true≢false, eq-or-lt_of_le, arith, length-set, get_or-set_other, get_or-set_same}
+use Rattle.std.proofs.Common.{◌≡◌, ℕ, ◌+◌, ◌*◌, ◌<◌, ◌≤◌, Bool, true, cond, ◌⊎◌, List, length, get_or, set, sym, ap, ◌∙◌, subst, inl, inr, ⊎_elim}
+use Rattle.std.proofs.Common.{true≢false, eq-or-lt_of_le, arith, length-set, get_or-set_other, get_or-set_same}
 use Rattle.table.proofs.Tests.{Tried, passed, failed, try}
 use Rattle.runner.specs.Private.Ready.{Listed}
 use Rattle.table.specs.Rows.{row_size}

@@ -1,5 +1,7 @@
 -- Marks and values that take each tick's cells at its own place: what each place then holds. Assumes nothing.
-use Rattle.std.proofs.Common.{◌≡◌, ℕ, zero, suc, ◌+◌, ◌-◌, ◌*◌, ◌%◌, ◌^◌, ◌<◌, ◌≤◌, ltb, ◌⊎◌, List, [], ◌∷◌, ◌++◌, map, length, get_or, take, drop, sym, refl, ap, ◌∙◌, subst, inl, inr, append_assoc, mul-le-mul_right, mod-lt, mod-eq_of_lt, suc-mul, arith, length-append, length-drop, length-take-le, get_or-drop, get_or-take, drop-drop, get_or-append-add, ltb-false, ltb-true}
+use Rattle.std.proofs.Common.{◌≡◌, ℕ, zero, suc, ◌+◌, ◌-◌, ◌*◌, ◌%◌, ◌^◌, ◌<◌, ◌≤◌, ltb, ◌⊎◌, List, [], ◌∷◌, ◌++◌, map, length, get_or, take, drop}
+use Rattle.std.proofs.Common.{sym, refl, ap, ◌∙◌, subst, inl, inr, append_assoc, mul-le-mul_right, mod-lt, mod-eq_of_lt, suc-mul, arith}
+use Rattle.std.proofs.Common.{length-append, length-drop, length-take-le, get_or-drop, get_or-take, drop-drop, get_or-append-add, ltb-false, ltb-true}
 use native.Mathlib.Nat.{mod-le, mod-eq-sub-mod, mod-add-mod}
 use mathlib.Core.List.{map-append}
 use lib.ListN.{length-map, get_or-append, get_or-map}

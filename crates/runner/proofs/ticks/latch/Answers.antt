@@ -1,20 +1,18 @@
 use Rattle.std.proofs.Common.{◌≡◌, ℕ, ◌+◌, ◌*◌, ◌<◌, ◌≤◌, List, length, get_or, set, sym, ap, ◌∙◌, arith, length-set}
 use Rattle.runner.specs.Private.Ready.{Plain, Listed, is_register}
-use Rattle.runner.proofs.Tabled.{plain_table}
+use Rattle.runner.proofs.Tabled.{plain_table, listed_low}
 use Rattle.runner.proofs.Latching.{starts, ends, stops, goes_on, operands_low}
 use Rattle.table.specs.Rows.{row_size, max_flows}
 use Rattle.runner.specs.Private.Carried.{held_size}
 use Rattle.runner.proofs.ticks.latch.Goals as goal
 
--- the next register's number, beat and source are low, and the list has room for them
-low : (n count : ℕ) (words registers : List ℕ) → Plain n words → Listed is_register n words registers count → (j : ℕ) → j < count
+-- the next register's number, beat and source are low
+low : {n count j : ℕ} {words registers : List ℕ} → Listed is_register n words registers count → j < count → Plain n words
     → (let f = get_or registers j 0 in
-    (f < n) × (n ≤ max_flows) × (length words ≡ row_size * n) × (get_or words (row_size * f + 2) 0 < f) × (get_or words (row_size * f + 3) 0 < n)
-    × (count ≤ length registers))
-low n count words registers plain listed j h =
-    let T = plain_table n words plain in
-    let o = operands_low n count words registers _ T listed j h in
-    (listed.within j h, T.few, T.words_size, o.0, o.1, listed.room)
+    ((f < n) × (n ≤ max_flows) × (length words ≡ row_size * n) × (count ≤ length registers) × (j < count))
+    × (get_or words (row_size * f + 2) 0 < f) × (get_or words (row_size * f + 3) 0 < n))
+low {n = n} {count = count} {j = j} {words = words} {registers = registers} I h p =
+    let o = operands_low n count words registers _ (plain_table n words p) I j h in (listed_low I h p, o.0, o.1)
 
 pub loop-j-init : goal.loop-j-init
 loop-j-init c =
@@ -26,49 +24,49 @@ loop-j-init c =
     )
 
 pub offset_bounds-registers-j : goal.offset_bounds-registers-j
-offset_bounds-registers-j c = omega (arith, low c.args.n c.args.count c.args.words.now c.args.registers.now c.requires.0 c.requires.4 c.loop-j.j c.loop-j-test.true)
+offset_bounds-registers-j c = omega (arith, low c.requires.4 c.loop-j-test.true c.requires.0)
 
 pub bounds-registers-j : goal.bounds-registers-j
-bounds-registers-j c = omega (arith, low c.args.n c.args.count c.args.words.now c.args.registers.now c.requires.0 c.requires.4 c.loop-j.j c.loop-j-test.true)
+bounds-registers-j c = omega (arith, low c.requires.4 c.loop-j-test.true c.requires.0)
 
 pub overflow_cast-f : goal.overflow_cast-f
-overflow_cast-f c = omega (arith, low c.args.n c.args.count c.args.words.now c.args.registers.now c.requires.0 c.requires.4 c.loop-j.j c.loop-j-test.true)
+overflow_cast-f c = omega (arith, low c.requires.4 c.loop-j-test.true c.requires.0)
 
 pub overflow_mul-b : goal.overflow_mul-b
-overflow_mul-b c = omega (arith, low c.args.n c.args.count c.args.words.now c.args.registers.now c.requires.0 c.requires.4 c.loop-j.j c.loop-j-test.true)
+overflow_mul-b c = omega (arith, low c.requires.4 c.loop-j-test.true c.requires.0)
 
 pub overflow_add-b : goal.overflow_add-b
-overflow_add-b c = omega (arith, low c.args.n c.args.count c.args.words.now c.args.registers.now c.requires.0 c.requires.4 c.loop-j.j c.loop-j-test.true)
+overflow_add-b c = omega (arith, low c.requires.4 c.loop-j-test.true c.requires.0)
 
 pub offset_bounds-words-f : goal.offset_bounds-words-f
-offset_bounds-words-f c = omega (arith, low c.args.n c.args.count c.args.words.now c.args.registers.now c.requires.0 c.requires.4 c.loop-j.j c.loop-j-test.true)
+offset_bounds-words-f c = omega (arith, low c.requires.4 c.loop-j-test.true c.requires.0)
 
 pub bounds-words-f : goal.bounds-words-f
-bounds-words-f c = omega (arith, low c.args.n c.args.count c.args.words.now c.args.registers.now c.requires.0 c.requires.4 c.loop-j.j c.loop-j-test.true)
+bounds-words-f c = omega (arith, low c.requires.4 c.loop-j-test.true c.requires.0)
 
 pub overflow_cast-b : goal.overflow_cast-b
-overflow_cast-b c = omega (arith, low c.args.n c.args.count c.args.words.now c.args.registers.now c.requires.0 c.requires.4 c.loop-j.j c.loop-j-test.true)
+overflow_cast-b c = omega (arith, low c.requires.4 c.loop-j-test.true c.requires.0)
 
 pub overflow_mul-a : goal.overflow_mul-a
-overflow_mul-a c = omega (arith, low c.args.n c.args.count c.args.words.now c.args.registers.now c.requires.0 c.requires.4 c.loop-j.j c.loop-j-test.true)
+overflow_mul-a c = omega (arith, low c.requires.4 c.loop-j-test.true c.requires.0)
 
 pub overflow_add-a : goal.overflow_add-a
-overflow_add-a c = omega (arith, low c.args.n c.args.count c.args.words.now c.args.registers.now c.requires.0 c.requires.4 c.loop-j.j c.loop-j-test.true)
+overflow_add-a c = omega (arith, low c.requires.4 c.loop-j-test.true c.requires.0)
 
 pub offset_bounds-words-f-in-loop-j : goal.offset_bounds-words-f-in-loop-j
-offset_bounds-words-f-in-loop-j c = omega (arith, low c.args.n c.args.count c.args.words.now c.args.registers.now c.requires.0 c.requires.4 c.loop-j.j c.loop-j-test.true)
+offset_bounds-words-f-in-loop-j c = omega (arith, low c.requires.4 c.loop-j-test.true c.requires.0)
 
 pub bounds-words-f-in-loop-j : goal.bounds-words-f-in-loop-j
-bounds-words-f-in-loop-j c = omega (arith, low c.args.n c.args.count c.args.words.now c.args.registers.now c.requires.0 c.requires.4 c.loop-j.j c.loop-j-test.true)
+bounds-words-f-in-loop-j c = omega (arith, low c.requires.4 c.loop-j-test.true c.requires.0)
 
 pub overflow_cast-a : goal.overflow_cast-a
-overflow_cast-a c = omega (arith, low c.args.n c.args.count c.args.words.now c.args.registers.now c.requires.0 c.requires.4 c.loop-j.j c.loop-j-test.true)
+overflow_cast-a c = omega (arith, low c.requires.4 c.loop-j-test.true c.requires.0)
 
 pub bounds-marks-a : goal.bounds-marks-a
-bounds-marks-a c = omega (arith, low c.args.n c.args.count c.args.words.now c.args.registers.now c.requires.0 c.requires.4 c.loop-j.j c.loop-j-test.true)
+bounds-marks-a c = omega (arith, low c.requires.4 c.loop-j-test.true c.requires.0)
 
 pub bounds-marks-b : goal.bounds-marks-b
-bounds-marks-b c = omega (arith, low c.args.n c.args.count c.args.words.now c.args.registers.now c.requires.0 c.requires.4 c.loop-j.j c.loop-j-test.true)
+bounds-marks-b c = omega (arith, low c.requires.4 c.loop-j-test.true c.requires.0)
 
 pub shape_of-state-then-marks-a : goal.shape_of-state-then-marks-a
 shape_of-state-then-marks-a c = c.loop-j.invariant.1 ∙ sym c.requires.3
@@ -82,37 +80,37 @@ returns-then-marks-a c =
     c.loop-j-test.true c.if-marks-a.true
 
 pub overflow_mul-f : goal.overflow_mul-f
-overflow_mul-f c = omega (arith, low c.args.n c.args.count c.args.words.now c.args.registers.now c.requires.0 c.requires.4 c.loop-j.j c.loop-j-test.true)
+overflow_mul-f c = omega (arith, low c.requires.4 c.loop-j-test.true c.requires.0)
 
 pub offset_bounds-state-f : goal.offset_bounds-state-f
-offset_bounds-state-f c = omega (arith, low c.args.n c.args.count c.args.words.now c.args.registers.now c.requires.0 c.requires.4 c.loop-j.j c.loop-j-test.true)
+offset_bounds-state-f c = omega (arith, low c.requires.4 c.loop-j-test.true c.requires.0)
 
 pub bounds-state-f : goal.bounds-state-f
-bounds-state-f c = omega (arith, low c.args.n c.args.count c.args.words.now c.args.registers.now c.requires.0 c.requires.4 c.loop-j.j c.loop-j-test.true)
+bounds-state-f c = omega (arith, low c.requires.4 c.loop-j-test.true c.requires.0)
 
 pub bounds-marks-a-in-loop-j : goal.bounds-marks-a-in-loop-j
-bounds-marks-a-in-loop-j c = omega (arith, low c.args.n c.args.count c.args.words.now c.args.registers.now c.requires.0 c.requires.4 c.loop-j.j c.loop-j-test.true)
+bounds-marks-a-in-loop-j c = omega (arith, low c.requires.4 c.loop-j-test.true c.requires.0)
 
 pub offset_bounds-values-a : goal.offset_bounds-values-a
-offset_bounds-values-a c = omega (arith, low c.args.n c.args.count c.args.words.now c.args.registers.now c.requires.0 c.requires.4 c.loop-j.j c.loop-j-test.true)
+offset_bounds-values-a c = omega (arith, low c.requires.4 c.loop-j-test.true c.requires.0)
 
 pub bounds-values-a : goal.bounds-values-a
-bounds-values-a c = omega (arith, low c.args.n c.args.count c.args.words.now c.args.registers.now c.requires.0 c.requires.4 c.loop-j.j c.loop-j-test.true)
+bounds-values-a c = omega (arith, low c.requires.4 c.loop-j-test.true c.requires.0)
 
 pub overflow_mul-state : goal.overflow_mul-state
-overflow_mul-state c = omega (arith, low c.args.n c.args.count c.args.words.now c.args.registers.now c.requires.0 c.requires.4 c.loop-j.j c.loop-j-test.true)
+overflow_mul-state c = omega (arith, low c.requires.4 c.loop-j-test.true c.requires.0)
 
 pub offset_bounds-state-f-in-loop-j : goal.offset_bounds-state-f-in-loop-j
-offset_bounds-state-f-in-loop-j c = omega (arith, low c.args.n c.args.count c.args.words.now c.args.registers.now c.requires.0 c.requires.4 c.loop-j.j c.loop-j-test.true)
+offset_bounds-state-f-in-loop-j c = omega (arith, low c.requires.4 c.loop-j-test.true c.requires.0)
 
 pub bounds-state-f-in-loop-j : goal.bounds-state-f-in-loop-j
-bounds-state-f-in-loop-j c = omega (arith, low c.args.n c.args.count c.args.words.now c.args.registers.now c.requires.0 c.requires.4 c.loop-j.j c.loop-j-test.true)
+bounds-state-f-in-loop-j c = omega (arith, low c.requires.4 c.loop-j-test.true c.requires.0)
 
 pub overflow_add-j : goal.overflow_add-j
-overflow_add-j c = omega (arith, low c.args.n c.args.count c.args.words.now c.args.registers.now c.requires.0 c.requires.4 c.loop-j.j c.loop-j-test.true)
+overflow_add-j c = omega (arith, low c.requires.4 c.loop-j-test.true c.requires.0)
 
 pub loop-j-smaller : goal.loop-j-smaller
-loop-j-smaller c = omega (arith, low c.args.n c.args.count c.args.words.now c.args.registers.now c.requires.0 c.requires.4 c.loop-j.j c.loop-j-test.true)
+loop-j-smaller c = omega (arith, low c.requires.4 c.loop-j-test.true c.requires.0)
 
 pub loop-j-preserved : goal.loop-j-preserved
 loop-j-preserved c =
