@@ -5,8 +5,7 @@
 
 A name is respelled everywhere if it is declared in specs/ or in a law file (proofs/*.antt) and has a dash or a capital inside. What keeps its
 spelling: types and modules, functions of src/, names that Rattle makes (goals), and names that the kit declares too. Functions' own proof files
-(proofs/F/) follow the names that they cite. A lemma that would get a
-definition's name gets `_lem`.
+(proofs/F/) follow the names that they cite. A lemma that would get a definition's name gets `_lem`.
 """
 import os, re, sys
 
