@@ -1,5 +1,5 @@
 -- The ticks of a progression below a tick, counted. Assumes nothing.
-use mathlib.Core.Path.{◌≡◌, refl, ◌∙◌, ap, subst}
+use mathlib.Core.Path.{◌≡◌, refl, sym, ◌∙◌, ap, subst}
 use Prim.Native.Nat.{ℕ, zero, suc, ◌+◌, ◌*◌, ◌-◌, ◌/◌, ◌≤◌, ◌<◌}
 use native.Mathlib.Nat.{mul-le-mul_right, suc-mul, div-eq_of_lt-le}
 use native.Mathlib.Decide.{dec_lt}
@@ -7,6 +7,8 @@ use native.Mathlib.Omega.{arith}
 use mathlib.Core.Bool.{Bool, true, false, cond}
 use lib.Dec.{leb}
 use borrow.Author.Tests.{le-leb, lt-leb}
+use Rattle.std.specs.Int.{div_ceil}
+use Rattle.std.proofs.lemmas.Grind.{div_ceil_times}
 use Rattle.table.specs.Bits.{bit}
 use Rattle.table.proofs.Tests.{Tried, passed, failed, try}
 use Rattle.semantics.specs.Cells.{on_grid}
@@ -117,6 +119,15 @@ module _ (n p : ℕ) (pos : 0 < n) where
 
   pub point_above : (t j : ℕ) → points n p t ≤ j → t ≤ p + j * n
   point_above t j l = let m : points n p t * n ≤ j * n = mul-le-mul_right n l in omega (arith, (span n p t pos).above)
+
+  -- the ticks from the phase on by periods, rounded up
+  pub points_ceil : (t : ℕ) → div_ceil (t - p) n ≡ points n p t
+  points_ceil t = sym (span_is t (div_ceil (t - p) n) record { above = omega (arith, (div_ceil_times (t - p) n pos).0); below = below })
+    where
+      below : (j : ℕ) → j < div_ceil (t - p) n → p + j * n < t
+      below j l =
+          let m : suc j * n ≤ div_ceil (t - p) n * n = mul-le-mul_right n l in
+          omega (arith, suc-mul j n, (div_ceil_times (t - p) n pos).1)
 
   -- the formula
   pub points_formula : (t : ℕ) → points n p t ≡ cond (leb t p) 0 ((t - p - 1) / n + 1)

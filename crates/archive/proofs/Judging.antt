@@ -1,24 +1,24 @@
 -- A trace is judged cell by cell: a flow is due where its next due tick has come. Assumes nothing.
 use mathlib.Core.Path.{◌≡◌, refl, sym, ◌∙◌, ap, subst}
-use Prim.Native.Nat.{ℕ, zero, suc, ◌+◌, ◌*◌, ◌-◌, ◌≤◌, ◌<◌, ◌^◌}
-use native.Mathlib.Nat.{suc-mul, zero-mul}
+use Prim.Native.Nat.{ℕ, suc, ◌+◌, ◌*◌, ◌<◌}
+use native.Mathlib.Nat.{suc-mul}
 use native.Mathlib.Numerals.{add-one}
 use native.Mathlib.Omega.{arith}
-use mathlib.Core.Bool.{Bool, true, false, cond, ◌&&◌, false≢true}
+use mathlib.Core.Bool.{Bool, true, false, cond, false≢true}
 use mathlib.Core.List.{List}
-use lib.ListN.{length, get_or}
+use lib.ListN.{get_or}
 use lib.Dec.{eqb}
 use borrow.Author.Tests.{eq-eqb, ne_eqb, eqb-true, eqb-false}
 use Rattle.table.specs.Bits.{bit}
 use Rattle.table.proofs.Tests.{Tried, passed, failed, try}
 use Rattle.table.proofs.Lists.{below_suc}
 use Rattle.checker.specs.Clocks.{Clock}
-use Rattle.checker.specs.Rules.{max_derived, clock_at}
+use Rattle.checker.specs.Rules.{clock_at}
 use Rattle.semantics.specs.Cells.{on_grid}
 use Rattle.calendar.specs.Calendar.{cell_at}
 use Rattle.archive.specs.Columns.{points, cell_fits, column_fits}
 use Rattle.archive.specs.Traces.{column, trace_fits}
-use Rattle.archive.specs.Private.Steps.{period_in, phase_in, clocks_in, Sound, next_from, next_in, Carried, fits_at, Short, cell_told, AllTold, TickFits}
+use Rattle.archive.specs.Private.Steps.{period_in, phase_in, clocks_in, Sound, next_from, next_in, Carried, fits_at, cell_told, AllTold, TickFits}
 use Rattle.archive.proofs.Grids.{one_more, none_more, tick_is, tick_before}
 use Rattle.archive.proofs.Columns.{fits_at_lem, fits_of}
 use Rattle.archive.proofs.Traces.{trace_fits_at, trace_fits_of}
@@ -46,22 +46,6 @@ pub one_of_lem : (b : Bool) → eqb (bit b) 1 ≡ b
 one_of_lem true = refl
 one_of_lem false = refl
 
--- a cell that is due has mark 1; one that is not has mark 0 and value 0
-pub misfit_is : (due mark value a b : ℕ) → due ≤ 1 → a ≡ bit (eqb mark due) → b ≡ bit (eqb value 0) → eqb (1 - a + (1 - due) * (1 - b)) 0 ≡ cell_fits (eqb due 1) mark value
-misfit_is zero mark value a b l p q = rw (p, q) (go (eqb mark 0) (eqb value 0))
-  where
-    go : (x y : Bool) → eqb (1 - bit x + 1 * (1 - bit y)) 0 ≡ (x && y)
-    go true true = refl
-    go true false = refl
-    go false true = refl
-    go false false = refl
-misfit_is (suc zero) mark value a b l p q = rw (p, zero-mul (1 - b)) (go (eqb mark 1))
-  where
-    go : (x : Bool) → eqb (1 - bit x + 0) 0 ≡ x
-    go true = refl
-    go false = refl
-misfit_is (suc (suc n)) mark value a b l p q = absurd (omega arith)
-
 -- its next due tick moves on where it has come
 pub moved_is : (x t n due : ℕ) → due ≡ bit (eqb x t) → x + due * n ≡ cond (eqb x t) (t + n) x
 moved_is x t n due e = rw e (go (try (eqb x t)))
@@ -70,18 +54,8 @@ moved_is x t n due e = rw e (go (try (eqb x t)))
     go (passed p) = rw p (omega (arith, eqb-true x t p))
     go (failed p) = rw p (omega arith)
 
-pub moved_small : (x t n due : ℕ) → due ≡ bit (eqb x t) → x < 2 ^ 32 → t < 2 ^ 24 → n ≤ max_derived → x + due * n < 2 ^ 32
-moved_small x t n due e a b l = rw (moved_is x t n due e) (go (eqb x t))
-  where
-    go : (d : Bool) → cond d (t + n) x < 2 ^ 32
-    go true = omega arith
-    go false = a
-
 -- THE CELLS OF A TICK, flow by flow: what they add is 0 so far, or it is not
 module _ (m t : ℕ) (marks values next : List ℕ) where
-  pub told_none : AllTold m t marks values next 0 true
-  told_none f l = absurd (omega arith)
-
   pub told_next : (f wrong r : ℕ) → eqb r 0 ≡ cell_told m t marks values next f → AllTold m t marks values next f (eqb wrong 0)
       → AllTold m t marks values next (f + 1) (eqb (wrong + r) 0)
   told_next f wrong r e h = go (try (eqb wrong 0)) (try (eqb r 0))
@@ -97,7 +71,7 @@ module _ (m t : ℕ) (marks values next : List ℕ) where
           subst (AllTold m t marks values next (f + 1)) (sym (ne_eqb (wrong + r) 0 (λ (z : wrong + r ≡ 0). eqb-false wrong 0 p (omega arith)))) (x.0, omega (arith, x.1), x.2)
 
 -- ONE TICK by the clocks, where the next due ticks are theirs
-module _ (m : ℕ) (clocks marks values : List ℕ) (sound : Sound m clocks) (t : ℕ) (next : List ℕ) (h : Carried m (next_in clocks) t next) where
+module _ (m : ℕ) (clocks marks values : List ℕ) (sound : Sound m clocks) (t : ℕ) (next : List ℕ) (h : Carried 0 m (next_in clocks) t next) where
   cell_is : (f : ℕ) → f < m → cell_told m t marks values next f ≡ fits_at m clocks marks values t f
   cell_is f l =
       ap (λ (d : Bool). cell_fits d (cell_at m marks t f) (cell_at m values t f))
@@ -110,8 +84,8 @@ module _ (m : ℕ) (clocks marks values : List ℕ) (sound : Sound m clocks) (t 
     pub tick_misfit : TickFits m t periods marks values next next' false → (f : ℕ) × (f < m) × (fits_at m clocks marks values t f ≡ false)
     tick_misfit x = let y = x.told in (y.0, y.1, sym (cell_is y.0 y.1) ∙ y.2)
 
-    pub tick_moved : (r : Bool) → TickFits m t periods marks values next next' r → Carried m (λ (s f : ℕ). period_in clocks f) 0 periods
-        → Carried m (next_in clocks) (t + 1) next'
+    pub tick_moved : (r : Bool) → TickFits m t periods marks values next next' r → Carried 0 m (λ (s f : ℕ). period_in clocks f) 0 periods
+        → Carried 0 m (next_in clocks) (t + 1) next'
     tick_moved r x p =
         record {
           each =
@@ -121,9 +95,6 @@ module _ (m : ℕ) (clocks marks values : List ℕ) (sound : Sound m clocks) (t 
               ∙ ap (λ (i : ℕ). cond (eqb i t) (t + period_in clocks f) i) (h.each f l)
               ∙ next_after (period_in clocks f) (phase_in clocks f) (sound.positive f l) t;
         }
-
-pub periods_short : (m : ℕ) (clocks periods : List ℕ) → Sound m clocks → m ≤ length periods → Carried m (λ (s f : ℕ). period_in clocks f) 0 periods → Short m periods
-periods_short m clocks periods s l p = record { room = l; short = λ f x. omega (arith, p.each f x, s.period_fits f x) }
 
 -- ALL TICKS
 module _ (m : ℕ) (clocks marks values : List ℕ) where

@@ -1,5 +1,5 @@
 -- Words given back at their due cells, block by block, over cells that are all 0. Assumes nothing.
-use mathlib.Core.Path.{◌≡◌, refl, sym, ◌∙◌, ap, subst}
+use mathlib.Core.Path.{◌≡◌, sym, ◌∙◌, ap, subst}
 use Prim.Native.Nat.{ℕ, suc, ◌+◌, ◌*◌, ◌-◌, ◌≤◌, ◌<◌}
 use native.Mathlib.Nat.{mul-le-mul_right, suc-mul}
 use native.Mathlib.Decide.{dec_lt}
@@ -16,28 +16,11 @@ use Rattle.calendar.specs.Calendar.{cell_at}
 use Rattle.calendar.proofs.Grid.{off_grid}
 use Rattle.archive.specs.Columns.{points, spread}
 use Rattle.archive.specs.Traces.{words_before, restored_mark, restored_value, cells_of}
-use Rattle.archive.specs.Private.Steps.{period_in, phase_in, clocks_in, point, next_in, place_in, Cleared, Put, FilledTo, Filled}
+use Rattle.archive.specs.declared.plan.Next.{Next}
+use Rattle.archive.specs.Private.Steps.{period_in, phase_in, clocks_in, point, next_in, place_in, next_at, Put, FilledTo, Filled}
 use Rattle.archive.proofs.Grids.{more_points, before_last, tick_is}
 use Rattle.archive.proofs.Traces.{cells_are}
 use Rattle.archive.proofs.Held.{clock_at_lem, points_from, from_begin}
-
--- PLACES made 0
-module _ (from to : ℕ) (old : List ℕ) where
-  pub clear_none : Cleared from from old old
-  clear_none = record { size = refl; inside = λ i x y. absurd (omega arith); before = λ i x. refl }
-
-  pub clear_next : (i : ℕ) (new : List ℕ) → from ≤ i → i < length new → Cleared from i old new → Cleared from (i + 1) old (set new i 0)
-  clear_next i new l k h =
-      record {
-        size = length-set new i 0 ∙ h.size;
-        inside =
-            λ j x y.
-            elim (dec_lt j i) [
-              | yes z ↦ get_or-set_other new i j 0 0 (λ e. omega arith) ∙ h.inside j x z
-              | no z ↦ let q : i ≡ j = omega arith in subst (λ (n : ℕ). get_or (set new i 0) n 0 ≡ 0) q (get_or-set_same new i 0 0 k)
-            ];
-        before = λ j x. get_or-set_other new i j 0 0 (λ e. omega arith) ∙ h.before j x;
-      }
 
 -- PLACES OF CELLS
 pub same_place : (m t g s f : ℕ) → g < m → f < m → t * m + g ≡ s * m + f → (t ≡ s) × (g ≡ f)
@@ -49,20 +32,17 @@ same_place m t g s f k l e = go (dec_lt t s) (dec_lt s t)
     go (no x) (no y) = let q : t ≡ s = omega arith in (q, omega (arith, ap (λ (i : ℕ). i * m) q))
 
 -- THE DUE CELLS OF A COLUMN
-module _ (m n p f : ℕ) (pos : 0 < n) (in_row : f < m) (given : ℕ → ℕ) (old : List ℕ) where
-  pub put_none : Put m n p f 0 given old old
-  put_none = record { size = refl; own = λ j l. absurd (omega arith); others = λ x h. refl }
+-- places of different ones differ
+before : (m n p f c : ℕ) → 0 < n → f < m → (j : ℕ) → j < c → point n p j * m + f < point n p c * m + f
+before m n p f c pos in_row j l =
+    let a : suc j * n ≤ c * n = mul-le-mul_right n l in
+    let b : suc (point n p j) * m ≤ point n p c * m = mul-le-mul_right m (omega (arith, suc-mul j n)) in
+    omega (arith, suc-mul (point n p j) m)
 
-  -- places of different ones differ
-  before : (j c : ℕ) → j < c → point n p j * m + f < point n p c * m + f
-  before j c l =
-      let a : suc j * n ≤ c * n = mul-le-mul_right n l in
-      let b : suc (point n p j) * m ≤ point n p c * m = mul-le-mul_right m (omega (arith, suc-mul j n)) in
-      omega (arith, suc-mul (point n p j) m)
-
-  pub put_next : (c t v : ℕ) (new : List ℕ) → t ≡ point n p c → t * m + f < length new → v ≡ given c → Put m n p f c given old new
+module _ {m n p f c t v : ℕ} {given : ℕ → ℕ} {old new : List ℕ} (pos : 0 < n) (in_row : f < m) where
+  pub put_next : t ≡ point n p c → t * m + f < length old → v ≡ given c → Put m n p f c given old new
       → Put m n p f (suc c) given old (set new (t * m + f) v)
-  put_next c t v new tick l e h =
+  put_next tick l e h =
       let x : ℕ = t * m + f in
       let q : x ≡ point n p c * m + f = ap (λ (i : ℕ). i * m + f) tick in
       record {
@@ -70,34 +50,22 @@ module _ (m n p f : ℕ) (pos : 0 < n) (in_row : f < m) (given : ℕ → ℕ) (o
         own =
             λ j k.
             elim (dec_lt j c) [
-              | yes y ↦ get_or-set_other new x (point n p j * m + f) v 0 (λ z. omega (arith, before j c y)) ∙ h.own j y
+              | yes y ↦ get_or-set_other new x (point n p j * m + f) v 0 (λ z. omega (arith, before m n p f c pos in_row j y)) ∙ h.own j y
               | no y ↦ let z : j ≡ c = omega arith in
-                  ap (λ (i : ℕ). get_or (set new x v) i 0) (ap (λ (i : ℕ). point n p i * m + f) z ∙ sym q) ∙ get_or-set_same new x v 0 l ∙ e ∙ ap given (sym z)
+                  ap (λ (i : ℕ). get_or (set new x v) i 0) (ap (λ (i : ℕ). point n p i * m + f) z ∙ sym q)
+                  ∙ get_or-set_same new x v 0 (omega (arith, h.size))
+                  ∙ e
+                  ∙ ap given (sym z)
             ];
         others = λ y k. get_or-set_other new x y v 0 (λ z. k c (omega arith) (z ∙ q)) ∙ h.others y (λ j a. k j (omega arith));
       }
 
 -- A BLOCK OF TICKS
 module _ (m : ℕ) (want : ℕ → ℕ → ℕ) where
-  pub fill_none : (l : List ℕ) → FilledTo m 0 want l
-  fill_none l = record { before = λ t g x y. absurd (omega arith) }
-
   pub fill_all : (ticks begin : ℕ) (l : List ℕ) → ticks ≤ begin → length l ≡ ticks * m → FilledTo m begin want l → l ≡ cells_of m want ticks
   fill_all ticks begin l k e h = sym (cells_are m want ticks l e (λ t g x y. h.before t g (omega arith) y))
 
   module _ (begin end : ℕ) where
-    pub fill_begin : (old l : List ℕ) → FilledTo m begin want old → Cleared (begin * m) (end * m) old l → Filled m begin end 0 want l
-    fill_begin old l h c =
-        record {
-          early = record { before = λ t g x y. c.before (t * m + g) (omega (arith, mul-le-mul_right m x, suc-mul t m)) ∙ h.before t g x y };
-          inside = λ t g x y z. absurd (omega arith);
-          beside = λ t g x y z u. c.inside (t * m + g) (omega (arith, mul-le-mul_right m x)) (omega (arith, mul-le-mul_right m y, suc-mul t m));
-        }
-
-    pub fill_end : (f : ℕ) (l : List ℕ) → m ≤ f → Filled m begin end f want l → FilledTo m end want l
-    fill_end f l e h =
-        record { before = λ t g x y. elim (dec_lt t begin) [ yes z ↦ h.early.before t g z y | no z ↦ h.inside t g (omega arith) x (omega arith) ] }
-
     -- one flow more, of which other cells than its own in the block are left
     module _ (f : ℕ) (l₀ l : List ℕ) (k : f < m) (h : Filled m begin end f want l₀)
         (others : (t g : ℕ) → g < m → (g ≡ f → ⊥) → cell_at m l t g ≡ cell_at m l₀ t g)
@@ -176,22 +144,22 @@ module _ (m : ℕ) (clocks : List ℕ) (ticks begin end : ℕ) (a : begin ≤ en
           (λ t o. put.others (t * m + f) (earlier t o)) (λ t b k. own_cell t b k (try (on_grid n p t)))
 
   -- marks, and the values of stored words; the column was put from its next due tick and place on
-  module _ (tick place : ℕ) (here : tick ≡ next_in clocks begin f) (on : place ≡ place_in m clocks ticks begin f) where
-    pub marks_more : (old new : List ℕ) → Put m n tick f (points n tick end) (λ (j : ℕ). 1) old new
+  module _ (from : Next) (on : from ≡ next_at m clocks ticks begin f) where
+    pub marks_more : (old new : List ℕ) → Put m n from.tick f (points n from.tick end) (λ (j : ℕ). 1) old new
         → Filled m begin end f (restored_mark (clocks_in m clocks)) old → Filled m begin end (f + 1) (restored_mark (clocks_in m clocks)) new
     marks_more old new put =
         fill_more (restored_mark (clocks_in m clocks)) (λ (j : ℕ). 1) old new
-        (subst (λ (i : ℕ). Put m n i f (points n i end) (λ (j : ℕ). 1) old new) here put) (λ t b k e. sym (want t ∙ ap bit e)) (λ t e. sym (want t ∙ ap bit e))
+        (subst (λ (k : Next). Put m n k.tick f (points n k.tick end) (λ (j : ℕ). 1) old new) on put) (λ t b k e. sym (want t ∙ ap bit e)) (λ t e. sym (want t ∙ ap bit e))
       where
         want : (t : ℕ) → restored_mark (clocks_in m clocks) t f ≡ bit (on_grid n p t)
         want t = ap (λ (c : Clock). bit (on_grid c.period c.phase t)) (clock_at_lem m clocks f l)
 
-    pub values_more : (stored old new : List ℕ) → Put m n tick f (points n tick end) (λ (j : ℕ). get_or stored (place + j) 0) old new
+    pub values_more : (stored old new : List ℕ) → Put m n from.tick f (points n from.tick end) (λ (j : ℕ). get_or stored (from.place + j) 0) old new
         → Filled m begin end f (restored_value (clocks_in m clocks) ticks stored) old
         → Filled m begin end (f + 1) (restored_value (clocks_in m clocks) ticks stored) new
     values_more stored old new put =
-        fill_more (restored_value (clocks_in m clocks) ticks stored) (λ (j : ℕ). get_or stored (place + j) 0) old new
-        (subst (λ (i : ℕ). Put m n i f (points n i end) (λ (j : ℕ). get_or stored (place + j) 0) old new) here put)
+        fill_more (restored_value (clocks_in m clocks) ticks stored) (λ (j : ℕ). get_or stored (place_in m clocks ticks begin f + j) 0) old new
+        (subst (λ (k : Next). Put m n k.tick f (points n k.tick end) (λ (j : ℕ). get_or stored (k.place + j) 0) old new) on put)
         (λ t b k e. at t b k e ∙ sym (want t ∙ ap (λ (x : Bool). cond x (get_or (drop w stored) (points n p t) 0) 0) e))
         (λ t e. sym (want t ∙ ap (λ (x : Bool). cond x (get_or (drop w stored) (points n p t) 0) 0) e))
       where
@@ -201,7 +169,8 @@ module _ (m : ℕ) (clocks : List ℕ) (ticks begin end : ℕ) (a : begin ≤ en
         want : (t : ℕ) → restored_value (clocks_in m clocks) ticks stored t f ≡ spread n p (drop w stored) t
         want t = ap (λ (c : Clock). spread c.period c.phase (drop w stored) t) (clock_at_lem m clocks f l)
 
-        at : (t : ℕ) (b : begin ≤ t) (k : t < end) (e : on_grid n p t ≡ true) → get_or stored (place + number t b k e) 0 ≡ get_or (drop w stored) (points n p t) 0
+        at : (t : ℕ) (b : begin ≤ t) (k : t < end) (e : on_grid n p t ≡ true)
+            → get_or stored (place_in m clocks ticks begin f + number t b k e) 0 ≡ get_or (drop w stored) (points n p t) 0
         at t b k e =
-            let q : place + number t b k e ≡ w + points n p t = omega (arith, on, number_is t b k e) in
+            let q : place_in m clocks ticks begin f + number t b k e ≡ w + points n p t = omega (arith, number_is t b k e) in
             ap (λ (i : ℕ). get_or stored i 0) q ∙ sym (get_or-drop w stored (points n p t) 0)

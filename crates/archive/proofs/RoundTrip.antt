@@ -9,7 +9,8 @@ use lib.ListN.{length, get_or, drop, length-map, drop_of_length-le}
 use lib.Dec.{eqb}
 use borrow.Author.Tests.{le-leb, eq-eqb, eqb-true}
 use Rattle.table.specs.declared.Answer.{Answer}
-use Rattle.table.specs.Answers.{Result, good, over, leaves, answer, success, wrong_length, off_calendar}
+use Rattle.table.specs.declared.refusal.Refusal.TheVariants.{WrongLength, OffCalendar}
+use Rattle.table.specs.Answers.{Result, good, over, leaves, answer, success}
 use Rattle.table.specs.Rows.{Row}
 use Rattle.table.specs.Plain.{table_of}
 use Rattle.table.proofs.Tests.{and_left, and_right, and_both, unless_good, then_good}
@@ -69,8 +70,8 @@ module _ (m : ℕ) (words : List ℕ) (ticks : ℕ) where
   stores marks values room e =
       let a = answer_zero length (storing m words ticks marks values room) e in
       let b = then_good (archiving m words ticks) _ a.0 a.1 in
-      let c = unless_good (lengths_fit m ticks b.0 (length marks) (length values) room) wrong_length 0 _ a.0 b.2 in
-      let d = unless_good (trace_fits b.0 m marks values ticks m) off_calendar 0 _ a.0 c.1 in
+      let c = unless_good (lengths_fit m ticks b.0 (length marks) (length values) room) WrongLength 0 _ a.0 b.2 in
+      let d = unless_good (trace_fits b.0 m marks values ticks m) OffCalendar 0 _ a.0 c.1 in
       record { clocks = b.0; plan = b.1; sizes = lengths c.0; fits = d.0; eq = a.1 ∙ sym d.1 }
 
   store_of : (marks values : List ℕ) (room : ℕ) (ks : List Clock) → archiving m words ticks ≡ good ks → Lengths m ticks ks (length marks) (length values) room

@@ -18,9 +18,10 @@ use Rattle.semantics.specs.Cells.{on_grid}
 use Rattle.calendar.specs.Calendar.{cell_at}
 use Rattle.archive.specs.Columns.{points, picked}
 use Rattle.archive.specs.Traces.{column, words_before, stored_of}
-use Rattle.archive.specs.Private.Steps.{period_in, phase_in, clocks_in, point, next_in, place_in, Taken, WordsTo}
+use Rattle.archive.specs.declared.plan.Next.{Next}
+use Rattle.archive.specs.Private.Steps.{period_in, phase_in, clocks_in, point, next_in, place_in, next_at, moved_to, Taken, WordsTo}
 use Rattle.archive.proofs.Grids.{more_points, tick_is, point_below, point_above}
-use Rattle.archive.proofs.Held.{clock_at_lem, words_none, words_next, words_end, points_from}
+use Rattle.archive.proofs.Held.{next_is, clock_at_lem, words_none, words_next, words_end, points_from}
 
 -- DUE TICKS of period n from p on: `number` of them are done, t is the next, w the place of its word, where the first one's is `at`
 pub record Stepping (n p end at t w number : ℕ) : Type 0 where
@@ -28,58 +29,57 @@ pub record Stepping (n p end at t w number : ℕ) : Type 0 where
   pub tick : t ≡ point n p number
   pub place : w ≡ at + number
 
-module _ (n p end at : ℕ) where
-  pub step_none : Stepping n p end at p at 0
-  step_none = record { few = omega arith; tick = omega arith; place = omega arith }
+module _ {n p end at t w number : ℕ} (pos : 0 < n) (s : Stepping n p end at t w number) where
+  -- one that is below the end is counted
+  step_in : t < end → number < points n p end
+  step_in l =
+      elim (dec_lt number (points n p end)) [ yes y ↦ y | no y ↦ absurd (omega (arith, point_above n p pos end number (omega arith), s.tick)) ]
 
-  module _ (pos : 0 < n) (t w number : ℕ) (s : Stepping n p end at t w number) where
-    -- one that is below the end is counted
-    pub step_in : t < end → number < points n p end
-    step_in l =
-        elim (dec_lt number (points n p end)) [ yes y ↦ y | no y ↦ absurd (omega (arith, point_above n p pos end number (omega arith), s.tick)) ]
+  -- and its word has a place
+  pub step_room : {q size : ℕ} → n ≡ q → at + points q p end ≤ size → t < end → w < size
+  step_room e r l = omega (arith, ap (λ (i : ℕ). points i p end) e, step_in l, s.place)
 
-    pub step_next : t < end → Stepping n p end at (t + n) (w + 1) (suc number)
-    step_next l = record { few = step_in l; tick = omega (arith, s.tick, suc-mul number n); place = omega (arith, s.place) }
+  pub step_next : t < end → Stepping n p end at (t + n) (w + 1) (suc number)
+  step_next l = record { few = step_in l; tick = omega (arith, s.tick, suc-mul number n); place = omega (arith, s.place) }
 
-    pub step_all : end ≤ t → number ≡ points n p end
-    step_all l =
-        elim (dec_lt number (points n p end)) [
-          | yes y ↦ absurd (omega (arith, point_below n p pos end number y, s.tick))
-          | no y ↦ omega (arith, s.few)
-        ]
+  pub step_all : {q : ℕ} → n ≡ q → end ≤ t → number ≡ points q p end
+  step_all e l =
+      elim (dec_lt number (points n p end)) [
+        | yes y ↦ absurd (omega (arith, point_below n p pos end number y, s.tick))
+        | no y ↦ omega (arith, s.few, ap (λ (i : ℕ). points i p end) e)
+      ]
 
-    pub step_end : end ≤ t → (t ≡ point n p (points n p end)) × (w ≡ at + points n p end)
-    step_end l = (s.tick ∙ ap (point n p) (step_all l), s.place ∙ ap (λ (i : ℕ). at + i) (step_all l))
+  pub step_end : {q : ℕ} → n ≡ q → end ≤ t
+      → (let now : Next = record { tick = t; place = w } in let first : Next = record { tick = p; place = at } in now ≡ moved_to q first end)
+  step_end {q} e l = let c : number ≡ points q p end = step_all e l in next_is (s.tick ∙ ap (λ (i : ℕ). p + number * i) e ∙ ap (point q p) c) (s.place ∙ ap (λ (i : ℕ). at + i) c)
 
 -- THE WORDS OF A COLUMN
-module _ (m n p f at : ℕ) (values old : List ℕ) where
-  pub taken_none : Taken m n p f at 0 values old old
-  taken_none = record { size = refl; words = λ j l. absurd (omega arith); others = λ x o. refl }
+pub taken_next : {m n p f at c t w : ℕ} {values old stored : List ℕ} → t ≡ point n p c → w ≡ at + c → w < length stored → Taken m n p f at c values old stored
+    → Taken m n p f at (suc c) values old (set stored w (get_or values (t * m + f) 0))
+taken_next {m} {n} {p} {f} {at} {c} {t} {w} {values} {old} {stored} tick place l h =
+    record {
+      size = length-set stored w v ∙ h.size;
+      words =
+          λ j x.
+          elim (dec_lt j c) [
+            | yes y ↦ get_or-set_other stored w (at + j) v 0 (λ z. omega arith) ∙ h.words j y
+            | no y ↦ let z : c ≡ j = omega arith in
+                subst (λ (i : ℕ). get_or (set stored w v) (at + i) 0 ≡ cell_at m values (point n p i) f) z
+                (ap (λ (i : ℕ). get_or (set stored w v) i 0) (sym place) ∙ get_or-set_same stored w v 0 l ∙ ap (λ (i : ℕ). cell_at m values i f) tick)
+          ];
+      others = λ x o. get_or-set_other stored w x v 0 (λ z. apart x o (omega arith)) ∙ h.others x (within x o);
+    }
+  where
+    v : ℕ
+    v = get_or values (t * m + f) 0
 
-  pub taken_next : (c t w : ℕ) (stored : List ℕ) → t ≡ point n p c → w ≡ at + c → w < length stored → Taken m n p f at c values old stored
-      → Taken m n p f at (suc c) values old (set stored w (get_or values (t * m + f) 0))
-  taken_next c t w stored tick place l h =
-      let v : ℕ = get_or values (t * m + f) 0 in
-      record {
-        size = length-set stored w v ∙ h.size;
-        words =
-            λ j x.
-            elim (dec_lt j c) [
-              | yes y ↦ get_or-set_other stored w (at + j) v 0 (λ z. omega arith) ∙ h.words j y
-              | no y ↦ let z : c ≡ j = omega arith in
-                  subst (λ (i : ℕ). get_or (set stored w v) (at + i) 0 ≡ cell_at m values (point n p i) f) z
-                  (ap (λ (i : ℕ). get_or (set stored w v) i 0) (sym place) ∙ get_or-set_same stored w v 0 l ∙ ap (λ (i : ℕ). cell_at m values i f) tick)
-            ];
-        others = λ x o. get_or-set_other stored w x v 0 (λ z. apart x o (omega arith)) ∙ h.others x (within x o);
-      }
-    where
-      apart : (x : ℕ) → (x < at) ⊎ (at + suc c ≤ x) → x ≡ at + c → ⊥
-      apart x (inl y) z = omega arith
-      apart x (inr y) z = omega arith
+    apart : (x : ℕ) → (x < at) ⊎ (at + suc c ≤ x) → x ≡ at + c → ⊥
+    apart x (inl y) z = omega arith
+    apart x (inr y) z = omega arith
 
-      within : (x : ℕ) → (x < at) ⊎ (at + suc c ≤ x) → (x < at) ⊎ (at + c ≤ x)
-      within x (inl y) = inl y
-      within x (inr y) = inr (omega arith)
+    within : (x : ℕ) → (x < at) ⊎ (at + suc c ≤ x) → (x < at) ⊎ (at + c ≤ x)
+    within x (inl y) = inl y
+    within x (inr y) = inr (omega arith)
 
 -- a column's words by their numbers
 picked_each : (n p : ℕ) → 0 < n → (column : ℕ → ℕ) (ticks : ℕ) → picked n p column ticks ≡ per_flow (λ (j : ℕ). column (point n p j)) (points n p ticks)
@@ -157,20 +157,16 @@ module _ (m : ℕ) (clocks values : List ℕ) (ticks : ℕ) where
         → get_or stored (words_before ks ticks g + j) 0 ≡ cell_at m values (point (period_in clocks g) (phase_in clocks g) j) g
 
   module _ (begin end : ℕ) (a : begin ≤ end) (b : end ≤ ticks) where
-    pub block_begin : (stored : List ℕ) → WordsTo m clocks values ticks begin stored → Worded begin end 0 stored
-    block_begin stored h = record { early = h; inside = λ g j l k. absurd (omega arith) }
-
     pub block_end : (f : ℕ) (stored : List ℕ) → m ≤ f → Worded begin end f stored → WordsTo m clocks values ticks end stored
     block_end f stored e h = record { words = λ g j l k. h.inside g j (omega arith) k }
 
-    module _ (f : ℕ) (l : f < m) (pos : 0 < period_in clocks f) (tick place : ℕ) (here : tick ≡ next_in clocks begin f) (on : place ≡ place_in m clocks ticks begin f)
+    module _ (f : ℕ) (l : f < m) (pos : 0 < period_in clocks f) (from : Next) (on : from ≡ next_at m clocks ticks begin f)
         (old stored : List ℕ) (h : Worded begin end f old)
-        (column-taken : Taken m (period_in clocks f) tick f place (points (period_in clocks f) tick end) values old stored) where
+        (column-taken : Taken m (period_in clocks f) from.tick f from.place (points (period_in clocks f) from.tick end) values old stored) where
       taken :
           Taken m (period_in clocks f) (next_in clocks begin f) f (place_in m clocks ticks begin f) (points (period_in clocks f) (next_in clocks begin f) end) values old stored
       taken =
-          subst (λ (i : ℕ). Taken m (period_in clocks f) (next_in clocks begin f) f i (points (period_in clocks f) (next_in clocks begin f) end) values old stored) on
-          (subst (λ (i : ℕ). Taken m (period_in clocks f) i f place (points (period_in clocks f) i end) values old stored) here column-taken)
+          subst (λ (k : Next). Taken m (period_in clocks f) k.tick f k.place (points (period_in clocks f) k.tick end) values old stored) on column-taken
 
       -- how many words flow g has before a tick
       abbrev count : ℕ → ℕ → ℕ

@@ -1,7 +1,8 @@
 -- What storing and restoring answer, and leave in the lent buffers.
 use Rattle.std.specs.Prelude.{◌≡◌, ℕ, ◌*◌, Bool, ◌&&◌, List, length, leb, eqb}
 use Rattle.table.specs.declared.Answer.{Answer}
-use Rattle.table.specs.Answers.{Result, good, unless, then, answer, leaves, too_many_ticks, has_conditions, wrong_length, off_calendar}
+use Rattle.table.specs.declared.refusal.Refusal.TheVariants.{TooManyTicks, HasConditions, WrongLength, OffCalendar}
+use Rattle.table.specs.Answers.{Result, good, unless, then, answer, leaves}
 use Rattle.checker.specs.Clocks.{Clock}
 use Rattle.checker.specs.Answers.{clocks_for}
 use Rattle.semantics.specs.Answers.{max_ticks}
@@ -12,8 +13,8 @@ use Rattle.archive.specs.Traces.{words_before, stored_of, trace_fits, restored_m
 unfoldable pub archiving : ℕ → List ℕ → ℕ → Result (List Clock)
 archiving m words ticks =
     then (clocks_for m words) λ ks.
-    unless (leb ticks max_ticks) too_many_ticks 0
-    (unless (free m words) has_conditions 0
+    unless (leb ticks max_ticks) TooManyTicks 0
+    (unless (free m words) HasConditions 0
     (good ks))
 
 -- how many words a trace has in store
@@ -28,8 +29,8 @@ lengths_fit m ticks ks marks values stored =
 -- the words of a trace, for a buffer of so many: 42 and 43
 unfoldable pub stored_by : ℕ → ℕ → List ℕ → List ℕ → ℕ → List Clock → Result (List ℕ)
 stored_by m ticks marks values room ks =
-    unless (lengths_fit m ticks ks (length marks) (length values) room) wrong_length 0
-    (unless (trace_fits ks m marks values ticks m) off_calendar 0
+    unless (lengths_fit m ticks ks (length marks) (length values) room) WrongLength 0
+    (unless (trace_fits ks m marks values ticks m) OffCalendar 0
     (good (stored_of ks m values ticks m)))
 
 unfoldable pub storing : ℕ → List ℕ → ℕ → List ℕ → List ℕ → ℕ → Result (List ℕ)
@@ -43,7 +44,7 @@ stored_after m words ticks marks values old = leaves (λ (l : List ℕ). l) (sto
 
 -- the clocks by which so many words are restored into so many marks and values: 42
 unfoldable pub restored_by : ℕ → ℕ → ℕ → ℕ → ℕ → List Clock → Result (List Clock)
-restored_by m ticks stored marks values ks = unless (lengths_fit m ticks ks marks values stored) wrong_length 0 (good ks)
+restored_by m ticks stored marks values ks = unless (lengths_fit m ticks ks marks values stored) WrongLength 0 (good ks)
 
 unfoldable pub restoring : ℕ → List ℕ → ℕ → ℕ → ℕ → ℕ → Result (List Clock)
 restoring m words ticks stored marks values = then (archiving m words ticks) (restored_by m ticks stored marks values)

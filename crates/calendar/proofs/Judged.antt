@@ -9,7 +9,9 @@ use mathlib.Core.Option.{none}
 use lib.ListN.{length, length-append}
 use lib.Dec.{eqb}
 use borrow.Author.Tests.{eqb-false}
-use Rattle.table.specs.Answers.{Refusal, Result, good, refused, unless, clocks_differ, beyond_limits, not_plain}
+use Rattle.table.specs.declared.refusal.Refusal.{Refusal}
+use Rattle.table.specs.declared.refusal.Refusal.TheVariants.{ClocksDiffer, BeyondLimits, NotPlain}
+use Rattle.table.specs.Answers.{Result, good, refused, unless}
 use Rattle.table.specs.Rows.{Row, input, constant, combine, register, faster, slower, later, head, tail, sample, merge, unrated, view, on_register}
 use Rattle.table.proofs.Tests.{beq_true}
 use Rattle.table.proofs.Lists.{Each, each_front, each_at}
@@ -45,10 +47,10 @@ passed_test : (b : Bool) (why why' : Refusal) (f g : ℕ) (v : Result Clock) →
 passed_test true why why' f g v p e = e
 passed_test false why why' f g v p e = absurd (false≢true p)
 
-not_limited : (f g : ℕ) (k : Clock) → limited f k ≡ refused clocks_differ g → ⊥
+not_limited : (f g : ℕ) (k : Clock) → limited f k ≡ refused ClocksDiffer g → ⊥
 not_limited f g k e = go (within_limits k) e
   where
-    go : (b : Bool) → unless b beyond_limits f (good k) ≡ refused clocks_differ g → ⊥
+    go : (b : Bool) → unless b BeyondLimits f (good k) ≡ refused ClocksDiffer g → ⊥
     go true e = good_refused e
     go false e = let z : ◌≡◌ {A = ℕ} 0 1 = cc in omega arith
 
@@ -94,30 +96,30 @@ module _ (rows : List Row) (log : List ℕ) (clk : ℕ → Clock) (f : ℕ) (san
         clash = λ past now t k. head_early _ _ _ _ (regular_at a l past now k) v s (omega arith) (history_length past a ∙ t);
       }
 
-  row_clashing : (m g : ℕ) (r : Row) → Fits m f r → FreeRow r → clock_of clk f r ≡ refused clocks_differ g → Clashing rows log clk f r
+  row_clashing : (m g : ℕ) (r : Row) → Fits m f r → FreeRow r → clock_of clk f r ≡ refused ClocksDiffer g → Clashing rows log clk f r
   unfolding clock_of cell_of
   row_clashing m g (input n p) w x e = good_refused e
   row_clashing m g (constant v n p) w x e = good_refused e
   row_clashing m g (combine op a b) w x e =
-      let p : Parted (clk a).period (clk a).phase (clk b).period (clk b).phase max_derived = parting a b w.0 w.1 (failed_test _ clocks_differ clocks_differ f g (clk a) e) in
+      let p : Parted (clk a).period (clk a).phase (clk b).period (clk b).phase max_derived = parting a b w.0 w.1 (failed_test _ ClocksDiffer ClocksDiffer f g (clk a) e) in
       record { tick = p.tick; soon = p.soon; clash = λ past now t k. combined_clash op _ _ (λ q. marks_part a b w.0 w.1 p past now t k q) }
   row_clashing m g (register v b a) w x e = good_refused e
   row_clashing m g (faster a c gap) w x e =
       let s : Sane clk a (clk a) = sane a w.0 in
       let d : ((clk a).period ≡ c * gap → ⊥) =
-      eqb-false _ _ (failed_test (eqb (clk a).period (c * gap)) clocks_differ clocks_differ f g _ (passed_test _ not_plain clocks_differ f g _ (flat a w.0) e)) in
+      eqb-false _ _ (failed_test (eqb (clk a).period (c * gap)) ClocksDiffer ClocksDiffer f g _ (passed_test _ NotPlain ClocksDiffer f g _ (flat a w.0) e)) in
       record {
         tick = (clk a).phase + (clk a).period;
         soon = omega arith;
         clash = λ past now t k. faster_clash _ _ _ _ s.positive (regular_at a w.0 past now k) c gap d (history_length past a ∙ t);
       }
-  row_clashing m g (slower a c) w x e = absurd (not_limited f g (every (c * (clk a).period) (clk a).phase) (passed_test _ not_plain clocks_differ f g _ (flat a w.0) e))
-  row_clashing m g (later a d) w x e = absurd (not_limited f g (every (clk a).period ((clk a).phase + d)) (passed_test _ not_plain clocks_differ f g _ (flat a w.0) e))
+  row_clashing m g (slower a c) w x e = absurd (not_limited f g (every (c * (clk a).period) (clk a).phase) (passed_test _ NotPlain ClocksDiffer f g _ (flat a w.0) e))
+  row_clashing m g (later a d) w x e = absurd (not_limited f g (every (clk a).period ((clk a).phase + d)) (passed_test _ NotPlain ClocksDiffer f g _ (flat a w.0) e))
   row_clashing m g (head a v s) w x e =
       let d : ((clk a).phase ≡ s + (clk a).period → ⊥) =
-      eqb-false _ _ (failed_test (eqb (clk a).phase (s + (clk a).period)) clocks_differ clocks_differ f g _ (passed_test _ not_plain clocks_differ f g _ (flat a w.0) e)) in
+      eqb-false _ _ (failed_test (eqb (clk a).phase (s + (clk a).period)) ClocksDiffer ClocksDiffer f g _ (passed_test _ NotPlain ClocksDiffer f g _ (flat a w.0) e)) in
       head_clashing a v s w.0 d (dec_lt s (clk a).phase)
-  row_clashing m g (tail a) w x e = absurd (not_limited f g (every (clk a).period ((clk a).phase + (clk a).period)) (passed_test _ not_plain clocks_differ f g _ (flat a w.0) e))
+  row_clashing m g (tail a) w x e = absurd (not_limited f g (every (clk a).period ((clk a).phase + (clk a).period)) (passed_test _ NotPlain ClocksDiffer f g _ (flat a w.0) e))
   row_clashing m g (sample u a c) w x e = absurd (true≢false x)
   row_clashing m g (merge c a b) w x e = absurd (true≢false x)
   row_clashing m g unrated w x e = absurd (let z : ◌≡◌ {A = ℕ} 0 1 = cc in omega arith)
@@ -134,7 +136,7 @@ module _ (rows : List Row) (fit : AllFit (length rows) 0 rows) (free : AllFree 0
 
   -- no row of it was refused for its clocks
   no_bad_row : (ks : List Clock) (g : ℕ) (front : List Row) (r : Row) (back : List Row) → rows ≡ front ++ (r ∷ back) → Clocked (clock_at ks) 0 front
-      → clock_of (clock_at ks) (length front) r ≡ refused clocks_differ g → ⊥
+      → clock_of (clock_at ks) (length front) r ≡ refused ClocksDiffer g → ⊥
   unfolding flows_from
   no_bad_row ks g front r back e ck x =
       go (row_clashing rows log clk (length front) sane flat (length rows) g r
@@ -210,12 +212,12 @@ module _ (rows : List Row) (fit : AllFit (length rows) 0 rows) (free : AllFree 0
       go q (is_register_lem {v = v} {b = b} {a = a}) w x y = differ v b a (omega (arith, w.0, inside)) w.1 x y
       go q (is_other p) w x y = true≢false (sym (p (source_fits ks)) ∙ x)
 
-  no_refusal : (c : Result (List Clock)) (g : ℕ) → c ≡ refused clocks_differ g → Checked rows c → ⊥
+  no_refusal : (c : Result (List Clock)) (g : ℕ) → c ≡ refused ClocksDiffer g → Checked rows c → ⊥
   no_refusal c g e (fine ks s k x) = good_refused e
-  no_refusal c g e (bad_row ks why h front r back y k z) = let p : why ≡ clocks_differ = cc in no_bad_row ks h front r back y k (z ∙ ap (λ (q : Refusal). refused q h) p)
+  no_refusal c g e (bad_row ks why h front r back y k z) = let p : why ≡ ClocksDiffer = cc in no_bad_row ks h front r back y k (z ∙ ap (λ (q : Refusal). refused q h) p)
   no_refusal c g e (bad_source ks h front r back k y z) = no_bad_source ks front r back k y z
 
 -- a plan refused with 21 does not run to the end of the judging ticks
-pub refused_clashes : (rows : List Row) → AllFit (length rows) 0 rows → AllFree 0 rows → (g : ℕ) → clocks_of rows ≡ refused clocks_differ g
+pub refused_clashes : (rows : List Row) → AllFit (length rows) 0 rows → AllFree 0 rows → (g : ℕ) → clocks_of rows ≡ refused ClocksDiffer g
     → (log : List ℕ) (past : Ticks) → run rows log judging_ticks ≡ done past → ⊥
 refused_clashes rows w x g e log past d = no_refusal rows w x log past d (clocks_of rows) g e (checked (length rows) rows w)

@@ -9,12 +9,14 @@ use mathlib.Core.List.{List, map}
 use lib.ListN.{length, drop}
 use lib.Dec.{leb, eqb}
 use borrow.Author.Tests.{le-leb, eq-eqb}
-use Rattle.table.specs.Answers.{Refusal, Result, good, refused, unless, number, over, answer, no_room, clocks_differ, too_many_ticks}
-use Rattle.table.specs.Answers.{wrong_log, short_trace}
+use Rattle.table.specs.declared.refusal.Refusal.{Refusal}
+use Rattle.table.specs.declared.refusal.Refusal.TheVariants.{NoRoom, ClocksDiffer, TooManyTicks}
+use Rattle.table.specs.Answers.{Result, good, refused, unless, number, over, answer}
+use Rattle.table.specs.declared.refusal.Refusal.TheVariants.{WrongLog, ShortTrace}
 use Rattle.table.specs.Rows.{Row}
 use Rattle.table.specs.Plain.{table_of}
 use Rattle.table.proofs.Tests.{good_inj, unless_good, then_good}
-use Rattle.table.proofs.AnswerLaws.{no_zero, is_differing}
+use Rattle.table.proofs.AnswerLaws.{no_zero, number_inj}
 use Rattle.table.proofs.Lists.{Each}
 use Rattle.table.proofs.Registers.{Passes}
 use Rattle.table.proofs.Tables.{AllFit, table_made}
@@ -119,21 +121,21 @@ ended ticks (good (clashed t f now past)) e = absurd (let z : ◌≡◌ {A = ℕ
 ended ticks (refused why f) e = absurd (no_zero why e)
 
 -- a check that answers 21 past the table has refused the clocks so
-differing : (b : Bool) (c : Result (List Clock)) → (answer length (unless b no_room 0 c)).number ≡ number clocks_differ → (g : ℕ) × (c ≡ refused clocks_differ g)
+differing : (b : Bool) (c : Result (List Clock)) → (answer length (unless b NoRoom 0 c)).number ≡ number ClocksDiffer → (g : ℕ) × (c ≡ refused ClocksDiffer g)
 differing true (good ks) e = absurd (let z : ◌≡◌ {A = ℕ} 0 21 = e in omega arith)
-differing true (refused why g) e = (g, ap (λ (w : Refusal). refused w g) (is_differing why e))
+differing true (refused why g) e = (g, ap (λ (w : Refusal). refused w g) (number_inj why ClocksDiffer e))
 differing false c e = absurd (let z : ◌≡◌ {A = ℕ} 10 21 = e in omega arith)
 
 module _ (m : ℕ) (words clocks : List ℕ) (unsampled : free m words ≡ true) (log marks values : List ℕ) where
-  never_both : (check_answer m words (length clocks)).number ≡ number clocks_differ → Ends m words log judging_ticks marks values → ⊥
+  never_both : (check_answer m words (length clocks)).number ≡ number ClocksDiffer → Ends m words log judging_ticks marks values → ⊥
   unfolding running checking
   never_both e x =
       let r = ended judging_ticks (running m words log judging_ticks (length marks) (length values)) x in
       let t = then_good (table_of m words) _ (done r.0) r.1 in
-      let a = unless_good (leb judging_ticks max_ticks) too_many_ticks 0 _ (done r.0) t.2 in
-      let b = unless_good (eqb (length log) (judging_ticks * inputs t.0)) wrong_log 0 _ (done r.0) a.1 in
-      let c = unless_good (leb (judging_ticks * m) (length marks) && leb (judging_ticks * m) (length values)) short_trace 0 _ (done r.0) b.1 in
-      let d : (g : ℕ) × (clocks_of t.0 ≡ refused clocks_differ g) = differing (leb (clock_size * m) (length clocks)) (clocks_of t.0) (rw t.1 at e) in
+      let a = unless_good (leb judging_ticks max_ticks) TooManyTicks 0 _ (done r.0) t.2 in
+      let b = unless_good (eqb (length log) (judging_ticks * inputs t.0)) WrongLog 0 _ (done r.0) a.1 in
+      let c = unless_good (leb (judging_ticks * m) (length marks) && leb (judging_ticks * m) (length values)) ShortTrace 0 _ (done r.0) b.1 in
+      let d : (g : ℕ) × (clocks_of t.0 ≡ refused ClocksDiffer g) = differing (leb (clock_size * m) (length clocks)) (clocks_of t.0) (rw t.1 at e) in
       refused_clashes t.0 (rows_fit m words t.0 t.1) (free_rows m words t.0 t.1 unsampled) d.0 d.1 log r.0 (good_inj c.1)
 
 one_run : (m : ℕ) (words clocks : List ℕ) → free m words ≡ true → Judged m words clocks → (log marks values : List ℕ)

@@ -1,7 +1,8 @@
 -- Demand 3: check and run share one calendar. It is stated over what a caller sees: the answers' numbers, the words that the
 -- check wrote, the log, the lengths, and the marks and values that the run left.
 use Rattle.std.specs.Prelude.{◌≡◌, ◌↔◌, ◌⊎◌, ℕ, zero, suc, ◌+◌, ◌*◌, ◌-◌, ◌/◌, ◌≤◌, ◌<◌, Bool, true, cond, ◌&&◌, ◌||◌, not, List, length, get_or, eqb, leb}
-use Rattle.table.specs.Answers.{number, clocks_differ}
+use Rattle.table.specs.declared.refusal.Refusal.TheVariants.{ClocksDiffer}
+use Rattle.table.specs.Answers.{number}
 use Rattle.table.specs.Plain.{row_words, table_of, rows_in}
 use Rattle.checker.specs.Rules.{max_derived}
 use Rattle.checker.specs.Answers.{clock_size, check_answer, clocks_after}
@@ -79,7 +80,7 @@ free (suc f) words = free f words && not (samples (row_words words f).kind)
 
 -- the check answers 0 or 21
 abbrev pub Judged : ℕ → List ℕ → List ℕ → Type 0
-Judged m words clocks = Accepts m words clocks ⊎ ((check_answer m words (length clocks)).number ≡ number clocks_differ)
+Judged m words clocks = Accepts m words clocks ⊎ ((check_answer m words (length clocks)).number ≡ number ClocksDiffer)
 
 -- so many ticks show every difference of plain clocks: 131,071
 abbrev pub judging_ticks : ℕ

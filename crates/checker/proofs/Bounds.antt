@@ -8,7 +8,9 @@ use lib.ListN.{length, get_or, drop}
 use lib.Dec.{leb}
 use borrow.Author.Tests.{le-leb}
 use Rattle.table.specs.declared.Answer.{Answer}
-use Rattle.table.specs.Answers.{Refusal, Result, good, refused, unless, then, refusal, answer, leaves, no_room}
+use Rattle.table.specs.declared.refusal.Refusal.{Refusal}
+use Rattle.table.specs.declared.refusal.Refusal.TheVariants.{NoRoom}
+use Rattle.table.specs.Answers.{Result, good, refused, unless, then, refusal, answer, leaves}
 use Rattle.table.specs.Rows.{Row, max_flows}
 use Rattle.table.specs.Plain.{table_of}
 use Rattle.table.proofs.AnswerLaws.{answer_zero, answer_other}
@@ -41,8 +43,8 @@ checked_rows : (m : ℕ) (words : List ℕ) (room : ℕ) (ks : List Clock) → c
     → (rows : List Row) × (table_of m words ≡ good rows) × (clocks_of rows ≡ good ks)
 unfolding checking
 checked_rows m words room ks e =
-    let x = then_good (table_of m words) (λ rows. unless (leb (clock_size * m) room) no_room 0 (clocks_of rows)) ks e in
-    (x.0, x.1, (unless_good (leb (clock_size * m) room) no_room 0 (clocks_of x.0) ks x.2).1)
+    let x = then_good (table_of m words) (λ rows. unless (leb (clock_size * m) room) NoRoom 0 (clocks_of rows)) ks e in
+    (x.0, x.1, (unless_good (leb (clock_size * m) room) NoRoom 0 (clocks_of x.0) ks x.2).1)
 
 -- the rows and clocks of a table that it accepts
 pub accepted_rows : (m : ℕ) (words : List ℕ) (room : ℕ) → (check_answer m words room).number ≡ 0
@@ -64,7 +66,7 @@ pub check_whole : (m : ℕ) (words : List ℕ) (room : ℕ) → clock_size * max
 unfolding checking
 check_whole m words room l = go (table_of m words) refl
   where
-    go : (r : Result (List Row)) → table_of m words ≡ r → then r (λ rows. unless (leb (clock_size * m) room) no_room 0 (clocks_of rows)) ≡ then r clocks_of
+    go : (r : Result (List Row)) → table_of m words ≡ r → then r (λ rows. unless (leb (clock_size * m) room) NoRoom 0 (clocks_of rows)) ≡ then r clocks_of
     go (good rows) e = let h : clock_size * m ≤ room = omega (arith, (table_made m words rows e).few) in rw (le-leb (clock_size * m) room h)
     go (refused why f) e = refl
 

@@ -9,7 +9,9 @@ use mathlib.Core.Option.{Option}
 use lib.ListN.{length, length-append, get_or-append}
 use lib.Seq.{get_or-append_seam}
 use Rattle.table.specs.Tables.{Fits}
-use Rattle.table.specs.Answers.{Refusal, Result, good, refused, then, clocks_differ}
+use Rattle.table.specs.declared.refusal.Refusal.{Refusal}
+use Rattle.table.specs.declared.refusal.Refusal.TheVariants.{ClocksDiffer}
+use Rattle.table.specs.Answers.{Result, good, refused, then}
 use Rattle.table.specs.Rows.{Row, input, constant, combine, register, faster, slower, later, head, tail, sample, merge, unrated, view, on_register, bad_register}
 use Rattle.table.proofs.Tests.{not_good, good_inj}
 use Rattle.table.proofs.Lists.{Each, below_suc}
@@ -105,7 +107,7 @@ pub data Checked (rows : List Row) : Result (List Clock) → Type 0 where
   bad_row : (ks : List Clock) (why : Refusal) (g : ℕ) (front : List Row) (r : Row) (back : List Row) → rows ≡ front ++ (r ∷ back)
       → Clocked (clock_at ks) 0 front → clock_of (clock_at ks) (length front) r ≡ refused why g → Checked rows (refused why g)
   bad_source : (ks : List Clock) (g : ℕ) (front : List Row) (r : Row) (back : List Row) → Clocked (clock_at ks) 0 rows
-      → rows ≡ front ++ (r ∷ back) → on_register (source_fits ks) r ≡ false → Checked rows (refused clocks_differ g)
+      → rows ≡ front ++ (r ∷ back) → on_register (source_fits ks) r ≡ false → Checked rows (refused ClocksDiffer g)
 
 sources_view : (rows : List Row) (ks : List Clock) (o : Option ℕ) → length ks ≡ length rows → Clocked (clock_at ks) 0 rows
     → Registers (source_fits ks) 0 rows o → Checked rows (sourced ks o)

@@ -6,7 +6,9 @@ use mathlib.Core.Bool.{Bool, true, false, ◌&&◌}
 use lib.ListN.{length}
 use lib.Dec.{eqb, leb}
 use borrow.Author.Tests.{eqb-true, leb-true, le-leb}
-use Rattle.table.specs.Answers.{Refusal, Result, good, refused, unless, clocks_differ, beyond_limits, not_plain, bad_view}
+use Rattle.table.specs.declared.refusal.Refusal.{Refusal}
+use Rattle.table.specs.declared.refusal.Refusal.TheVariants.{ClocksDiffer, BeyondLimits, NotPlain, BadView}
+use Rattle.table.specs.Answers.{Result, good, refused, unless}
 use Rattle.table.specs.Rows.{Row, Op, input, constant, combine, register, faster, slower, later, head, tail, sample, merge, unrated, view, max_field}
 use Rattle.table.proofs.Tests.{and_left, and_right, and_both, good_inj, not_good, unless_good}
 use Rattle.checker.specs.Clocks.{Clock, every, plain, same_clock, under}
@@ -37,7 +39,7 @@ within_limits_lem k l = and_both (le-leb _ _ l.period_fits) (and_both (le-leb _ 
 
 limited_good : (f : ℕ) (j k : Clock) → limited f j ≡ good k → (j ≡ k) × Limited j
 limited_good f j k e =
-    let r = unless_good (within_limits j) beyond_limits f (good j) k e in
+    let r = unless_good (within_limits j) BeyondLimits f (good j) k e in
     (good_inj r.1, limits j r.0)
 
 -- a view that fits
@@ -65,24 +67,24 @@ own_unless f true why r h = h
 own_unless f false why r h = refl
 
 own_limited : (f : ℕ) (k : Clock) → Own f (limited f k)
-own_limited f k = own_unless f (within_limits k) beyond_limits (good k) tt
+own_limited f k = own_unless f (within_limits k) BeyondLimits (good k) tt
 
 pub own_row : (clk : ℕ → Clock) (f : ℕ) (r : Row) → Own f (clock_of clk f r)
 unfolding clock_of
 own_row clk f (input n p) = tt
 own_row clk f (constant v n p) = tt
-own_row clk f (combine op a b) = own_unless f (same_clock (clk a) (clk b)) clocks_differ (good (clk a)) tt
+own_row clk f (combine op a b) = own_unless f (same_clock (clk a) (clk b)) ClocksDiffer (good (clk a)) tt
 own_row clk f (register v b a) = tt
-own_row clk f (faster a k g) = own_unless f (plain (clk a)) not_plain _ (own_unless f (eqb (clk a).period (k * g)) clocks_differ (good (every g (clk a).phase)) tt)
-own_row clk f (slower a k) = own_unless f (plain (clk a)) not_plain _ (own_limited f (every (k * (clk a).period) (clk a).phase))
-own_row clk f (later a d) = own_unless f (plain (clk a)) not_plain _ (own_limited f (every (clk a).period ((clk a).phase + d)))
-own_row clk f (head a v s) = own_unless f (plain (clk a)) not_plain _ (own_unless f (eqb (clk a).phase (s + (clk a).period)) clocks_differ (good (every (clk a).period s)) tt)
-own_row clk f (tail a) = own_unless f (plain (clk a)) not_plain _ (own_limited f (every (clk a).period ((clk a).phase + (clk a).period)))
-own_row clk f (sample u a c) = own_unless f (same_clock (clk a) (clk c)) clocks_differ _ (own_limited f (under (clk a) c u 0))
-own_row clk f (merge c a b) = own_unless f (same_clock (clk a) (under (clk c) c true 0) && same_clock (clk b) (under (clk c) c false 0)) clocks_differ (good (clk c)) tt
+own_row clk f (faster a k g) = own_unless f (plain (clk a)) NotPlain _ (own_unless f (eqb (clk a).period (k * g)) ClocksDiffer (good (every g (clk a).phase)) tt)
+own_row clk f (slower a k) = own_unless f (plain (clk a)) NotPlain _ (own_limited f (every (k * (clk a).period) (clk a).phase))
+own_row clk f (later a d) = own_unless f (plain (clk a)) NotPlain _ (own_limited f (every (clk a).period ((clk a).phase + d)))
+own_row clk f (head a v s) = own_unless f (plain (clk a)) NotPlain _ (own_unless f (eqb (clk a).phase (s + (clk a).period)) ClocksDiffer (good (every (clk a).period s)) tt)
+own_row clk f (tail a) = own_unless f (plain (clk a)) NotPlain _ (own_limited f (every (clk a).period ((clk a).phase + (clk a).period)))
+own_row clk f (sample u a c) = own_unless f (same_clock (clk a) (clk c)) ClocksDiffer _ (own_limited f (under (clk a) c u 0))
+own_row clk f (merge c a b) = own_unless f (same_clock (clk a) (under (clk c) c true 0) && same_clock (clk b) (under (clk c) c false 0)) ClocksDiffer (good (clk c)) tt
 own_row clk f unrated = refl
 own_row clk f (view u a c w) =
-    own_unless f (plain (clk a) && plain (clk c)) not_plain _ (own_unless f (view_fits w (clk a) (clk c)) bad_view (good (under (clk a) c u w)) tt)
+    own_unless f (plain (clk a) && plain (clk c)) NotPlain _ (own_unless f (view_fits w (clk a) (clk c)) BadView (good (under (clk a) c u w)) tt)
 
 -- The rules once more, as what holds where a row has a clock.
 pub data Rule (clk : ℕ → Clock) : Row → Clock → Type 0 where
@@ -118,24 +120,24 @@ module _ (clk : ℕ → Clock) (f : ℕ) where
   unfolding clock_of
   rule_of_lem (input n p) k e = subst (Rule clk (input n p)) (good_inj e) by_input
   rule_of_lem (constant v n p) k e = subst (Rule clk (constant v n p)) (good_inj e) by_constant
-  rule_of_lem (combine op a b) k e = tested (same_clock (clk a) (clk b)) clocks_differ (clk a) k (combine op a b) (λ x. by_combine (same_clock_lem _ _ x)) e
+  rule_of_lem (combine op a b) k e = tested (same_clock (clk a) (clk b)) ClocksDiffer (clk a) k (combine op a b) (λ x. by_combine (same_clock_lem _ _ x)) e
   rule_of_lem (register v b a) k e = subst (Rule clk (register v b a)) (good_inj e) by_register
   rule_of_lem (faster a m g) k e =
-      let u = unless_good (plain (clk a)) not_plain f _ k e in
-      tested (eqb (clk a).period (m * g)) clocks_differ (every g (clk a).phase) k (faster a m g) (λ x. by_faster u.0 (eqb-true _ _ x)) u.1
-  rule_of_lem (slower a m) k e = within (plain (clk a)) not_plain (every (m * (clk a).period) (clk a).phase) k (slower a m) (λ x l. by_slower x l) e
-  rule_of_lem (later a d) k e = within (plain (clk a)) not_plain (every (clk a).period ((clk a).phase + d)) k (later a d) (λ x l. by_later x l) e
+      let u = unless_good (plain (clk a)) NotPlain f _ k e in
+      tested (eqb (clk a).period (m * g)) ClocksDiffer (every g (clk a).phase) k (faster a m g) (λ x. by_faster u.0 (eqb-true _ _ x)) u.1
+  rule_of_lem (slower a m) k e = within (plain (clk a)) NotPlain (every (m * (clk a).period) (clk a).phase) k (slower a m) (λ x l. by_slower x l) e
+  rule_of_lem (later a d) k e = within (plain (clk a)) NotPlain (every (clk a).period ((clk a).phase + d)) k (later a d) (λ x l. by_later x l) e
   rule_of_lem (head a v s) k e =
-      let u = unless_good (plain (clk a)) not_plain f _ k e in
-      tested (eqb (clk a).phase (s + (clk a).period)) clocks_differ (every (clk a).period s) k (head a v s) (λ x. by_head u.0 (eqb-true _ _ x)) u.1
-  rule_of_lem (tail a) k e = within (plain (clk a)) not_plain (every (clk a).period ((clk a).phase + (clk a).period)) k (tail a) (λ x l. by_tail x l) e
-  rule_of_lem (sample u a c) k e = within (same_clock (clk a) (clk c)) clocks_differ (under (clk a) c u 0) k (sample u a c) (λ x l. by_sample (same_clock_lem _ _ x) l) e
+      let u = unless_good (plain (clk a)) NotPlain f _ k e in
+      tested (eqb (clk a).phase (s + (clk a).period)) ClocksDiffer (every (clk a).period s) k (head a v s) (λ x. by_head u.0 (eqb-true _ _ x)) u.1
+  rule_of_lem (tail a) k e = within (plain (clk a)) NotPlain (every (clk a).period ((clk a).phase + (clk a).period)) k (tail a) (λ x l. by_tail x l) e
+  rule_of_lem (sample u a c) k e = within (same_clock (clk a) (clk c)) ClocksDiffer (under (clk a) c u 0) k (sample u a c) (λ x l. by_sample (same_clock_lem _ _ x) l) e
   rule_of_lem (merge c a b) k e =
       let left : Bool = same_clock (clk a) (under (clk c) c true 0) in
-      tested (left && same_clock (clk b) (under (clk c) c false 0)) clocks_differ (clk c) k (merge c a b)
+      tested (left && same_clock (clk b) (under (clk c) c false 0)) ClocksDiffer (clk c) k (merge c a b)
       (λ x. by_merge (same_clock_lem _ _ (and_left left _ x)) (same_clock_lem _ _ (and_right left _ x))) e
   rule_of_lem unrated k e = not_good e
   rule_of_lem (view u a c w) k e =
-      let x = unless_good (plain (clk a) && plain (clk c)) not_plain f _ k e in
-      tested (view_fits w (clk a) (clk c)) bad_view (under (clk a) c u w) k (view u a c w)
+      let x = unless_good (plain (clk a) && plain (clk c)) NotPlain f _ k e in
+      tested (view_fits w (clk a) (clk c)) BadView (under (clk a) c u w) k (view u a c w)
       (λ y. by_view (and_left (plain (clk a)) _ x.0) (and_right (plain (clk a)) _ x.0) (views w (clk a) (clk c) y)) x.1

@@ -1,10 +1,11 @@
 -- The words that the check writes for a flow are its clock's. Assumes nothing.
-use mathlib.Core.Path.{◌≡◌, refl, ◌∙◌, ap, subst}
+use mathlib.Core.Path.{◌≡◌, ◌∙◌, ap, subst}
 use Prim.Native.Nat.{ℕ, zero, suc, ◌+◌, ◌*◌, min, ◌≤◌, ◌<◌}
 use native.Mathlib.Omega.{arith}
 use mathlib.Core.List.{List, [], ◌∷◌, ◌++◌, map, append_assoc}
 use lib.ListN.{length, get_or, length-append, length-take, length-map, get_or-append}
 use lib.Seq.{get_or-append-add, get_or-take}
+use Rattle.std.proofs.lemmas.List.{get_or-map}
 use Rattle.checker.specs.Clocks.{Condition, Clock}
 use Rattle.checker.specs.Rules.{max_conditions, clock_at}
 use Rattle.checker.specs.Answers.{clock_size, condition_word, four_words, clock_words, clocks_words}
@@ -21,12 +22,7 @@ four_at : (word : Condition → ℕ) (cs : List Condition) (i : ℕ) (d : Condit
 four_at word cs i d l few =
     get_or-take 4 (map word cs ++ (0 ∷ 0 ∷ 0 ∷ 0 ∷ [])) i 0 (omega arith)
     ∙ get_or-append (map word cs) (0 ∷ 0 ∷ 0 ∷ 0 ∷ []) 0 i (rw (length-map cs word) l)
-    ∙ mapped cs i l
-  where
-    mapped : (cs : List Condition) (i : ℕ) → i < length cs → get_or (map word cs) i 0 ≡ word (get_or cs i d)
-    mapped [] i l = absurd (omega arith)
-    mapped (c ∷ cs) zero l = refl
-    mapped (c ∷ cs) (suc i) l = mapped cs i (omega arith)
+    ∙ get_or-map word cs i d 0 l
 
 abbrev pub view_of : Condition → ℕ
 view_of c = c.view

@@ -1,7 +1,8 @@
 -- What the check answers, and leaves in its buffer: a clock's words for each flow.
 use Rattle.std.specs.Prelude.{ℕ, ◌+◌, ◌*◌, List, [], ◌∷◌, ◌++◌, map, length, take, leb}
 use Rattle.table.specs.declared.Answer.{Answer}
-use Rattle.table.specs.Answers.{Result, unless, then, answer, leaves, no_room}
+use Rattle.table.specs.declared.refusal.Refusal.TheVariants.{NoRoom}
+use Rattle.table.specs.Answers.{Result, unless, then, answer, leaves}
 use Rattle.table.specs.Bits.{bit}
 use Rattle.table.specs.Rows.{max_flows}
 use Rattle.table.specs.Plain.{table_of}
@@ -35,7 +36,7 @@ clocks_for m words = then (table_of m words) clocks_of
 
 -- what the check comes to where there is room for so many words
 unfoldable pub checking : ℕ → List ℕ → ℕ → Result (List Clock)
-checking m words room = then (table_of m words) λ rows. unless (leb (clock_size * m) room) no_room 0 (clocks_of rows)
+checking m words room = then (table_of m words) λ rows. unless (leb (clock_size * m) room) NoRoom 0 (clocks_of rows)
 
 abbrev pub check_answer : ℕ → List ℕ → ℕ → Answer
 check_answer m words room = answer length (checking m words room)

@@ -1,7 +1,8 @@
 -- The clock of each row, or why it has none.
 use Rattle.std.specs.Prelude.{◌≡◌, ℕ, ◌+◌, ◌*◌, ◌%◌, ◌<◌, ◌≤◌, Bool, true, false, ◌&&◌, List, [], ◌∷◌, ◌++◌, length, get_or, eqb, leb}
 use Rattle.std.proofs.Math.Option.{Option, none, some}
-use Rattle.table.specs.Answers.{Result, good, refused, unless, then, unknown_kind, clocks_differ, beyond_limits, not_plain, bad_view}
+use Rattle.table.specs.declared.refusal.Refusal.TheVariants.{UnknownKind, ClocksDiffer, BeyondLimits, NotPlain, BadView}
+use Rattle.table.specs.Answers.{Result, good, refused, unless, then}
 use Rattle.table.specs.Rows.{Row, input, constant, combine, register, faster, slower, later, head, tail, sample, merge, unrated, view, bad_register, max_flows, max_field}
 use Rattle.checker.specs.Clocks.{Condition, Clock, every, plain, same_clock, under}
 
@@ -17,7 +18,7 @@ within_limits k =
     leb k.period max_derived && (leb k.phase max_derived && leb (length k.conditions) max_conditions)
 
 abbrev pub limited : ℕ → Clock → Result Clock
-limited f k = unless (within_limits k) beyond_limits f (good k)
+limited f k = unless (within_limits k) BeyondLimits f (good k)
 
 -- A view period fits where it is a multiple of both periods, and c's phase is at most a's.
 abbrev pub multiple : ℕ → ℕ → Bool
@@ -30,26 +31,26 @@ view_fits w a c = multiple a.period w && (multiple c.period w && leb c.phase a.p
 unfoldable pub clock_of : (ℕ → Clock) → ℕ → Row → Result Clock
 clock_of clk f (input n p) = good (every n p)
 clock_of clk f (constant v n p) = good (every n p)
-clock_of clk f (combine op a b) = unless (same_clock (clk a) (clk b)) clocks_differ f (good (clk a))
+clock_of clk f (combine op a b) = unless (same_clock (clk a) (clk b)) ClocksDiffer f (good (clk a))
 clock_of clk f (register v b a) = good (clk b)
 clock_of clk f (faster a k g) =
-    unless (plain (clk a)) not_plain f
-    (unless (eqb (clk a).period (k * g)) clocks_differ f (good (every g (clk a).phase)))
-clock_of clk f (slower a k) = unless (plain (clk a)) not_plain f (limited f (every (k * (clk a).period) (clk a).phase))
-clock_of clk f (later a d) = unless (plain (clk a)) not_plain f (limited f (every (clk a).period ((clk a).phase + d)))
+    unless (plain (clk a)) NotPlain f
+    (unless (eqb (clk a).period (k * g)) ClocksDiffer f (good (every g (clk a).phase)))
+clock_of clk f (slower a k) = unless (plain (clk a)) NotPlain f (limited f (every (k * (clk a).period) (clk a).phase))
+clock_of clk f (later a d) = unless (plain (clk a)) NotPlain f (limited f (every (clk a).period ((clk a).phase + d)))
 clock_of clk f (head a v s) =
-    unless (plain (clk a)) not_plain f
-    (unless (eqb (clk a).phase (s + (clk a).period)) clocks_differ f (good (every (clk a).period s)))
+    unless (plain (clk a)) NotPlain f
+    (unless (eqb (clk a).phase (s + (clk a).period)) ClocksDiffer f (good (every (clk a).period s)))
 clock_of clk f (tail a) =
-    unless (plain (clk a)) not_plain f (limited f (every (clk a).period ((clk a).phase + (clk a).period)))
-clock_of clk f (sample u a c) = unless (same_clock (clk a) (clk c)) clocks_differ f (limited f (under (clk a) c u 0))
+    unless (plain (clk a)) NotPlain f (limited f (every (clk a).period ((clk a).phase + (clk a).period)))
+clock_of clk f (sample u a c) = unless (same_clock (clk a) (clk c)) ClocksDiffer f (limited f (under (clk a) c u 0))
 clock_of clk f (merge c a b) =
-    unless (same_clock (clk a) (under (clk c) c true 0) && same_clock (clk b) (under (clk c) c false 0)) clocks_differ f
+    unless (same_clock (clk a) (under (clk c) c true 0) && same_clock (clk b) (under (clk c) c false 0)) ClocksDiffer f
     (good (clk c))
-clock_of clk f unrated = refused unknown_kind f
+clock_of clk f unrated = refused UnknownKind f
 clock_of clk f (view u a c w) =
-    unless (plain (clk a) && plain (clk c)) not_plain f
-    (unless (view_fits w (clk a) (clk c)) bad_view f (good (under (clk a) c u w)))
+    unless (plain (clk a) && plain (clk c)) NotPlain f
+    (unless (view_fits w (clk a) (clk c)) BadView f (good (under (clk a) c u w)))
 
 abbrev pub clock_at : List Clock → ℕ → Clock
 clock_at ks f = get_or ks f (every 1 0)
@@ -62,7 +63,7 @@ clocks_from ks (r ∷ rs) = then (clock_of (clock_at ks) (length ks) r) λ k. cl
 -- once every row has a clock, a register's source must have its beat's: the lowest register that differs is named
 abbrev pub sourced : List Clock → Option ℕ → Result (List Clock)
 sourced ks none = good ks
-sourced ks (some f) = refused clocks_differ f
+sourced ks (some f) = refused ClocksDiffer f
 
 abbrev pub source_fits : List Clock → ℕ → ℕ → Bool
 source_fits ks b a = same_clock (clock_at ks a) (clock_at ks b)

@@ -1,18 +1,15 @@
 // Writes the listings of some packed tables.
 #![tactic(auto)]
 
-use lister::Listed;
 use std::io;
 
 // Writes the listing of a packed table.
 fn show(rt: &impl Print, packed: &[u8]) -> io::Result<()> {
     let mut text = [0u8; lister::LONGEST];
-    let listed = lister::listing(packed, &mut text);
-    let Listed::Bytes(size) = listed else {
+    let Ok(size) = lister::listing(packed, &mut text) else {
         return Ok(());
     };
-    let end = size as usize;
-    rt.write_all(&text[..end])
+    rt.write_all(&text[..size as usize])
 }
 
 // Plans A to F.

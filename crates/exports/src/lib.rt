@@ -3,6 +3,7 @@
 #![tactic(auto)]
 
 ghost use Rattle.std.specs.Prelude.{◌≡◌, length};
+ghost use Rattle.table.specs.Answers.{parts};
 ghost use Rattle.table.specs.Packed.{read_answer, words_after, write_answer, bytes_after};
 ghost use Rattle.checker.specs.Answers.{check_answer, clocks_after};
 ghost use Rattle.semantics.specs.Answers.{run_answer, marks_after, values_after};
@@ -15,12 +16,13 @@ ghost use Rattle.rates.specs.Fillings.{Filled};
 ghost use Rattle.influence.specs.Felt.{felt_answer, felt_after};
 ghost use Rattle.exports.specs.Parts.{Given, answer_of};
 
-use table::Answer;
+use table::Refused;
 
 // Gives an answer's parts out: the number returned, the others through pointers.
-fn give(answer: Answer, flow: &mut u32, tick: &mut u32, count: &mut u32) -> u32
-    ensures { Given answer result flow.new tick.new count.new }
+fn give(answered: Result<u32, Refused>, flow: &mut u32, tick: &mut u32, count: &mut u32) -> u32
+    ensures { Given (parts answered) result flow.new tick.new count.new }
 {
+    let answer = table::parts(answered);
     *flow = answer.flow;
     *tick = answer.tick;
     *count = answer.count;
@@ -40,8 +42,7 @@ pub extern "C" fn baarqidho_read(
         result flow.new tick.new count.new }
     ensures stored { words.new ≡ words_after packed.now words.old }
 {
-    let answer = table::parts(table::read(packed, words));
-    give(answer, flow, tick, count)
+    give(table::read(packed, words), flow, tick, count)
 }
 
 // Writes a table in plain form as a packed table: the count of bytes.
@@ -58,8 +59,8 @@ pub extern "C" fn baarqidho_write(
         result flow.new tick.new count.new }
     ensures stored { packed.new ≡ bytes_after flows words.now packed.old }
 {
-    let answer = table::write(flows, words, packed);
-    give(answer, flow, tick, count)
+    let answered = table::write(flows, words, packed);
+    give(answered, flow, tick, count)
 }
 
 // Checks a table in plain form: the count of flows, and the words of a clock for each flow.
@@ -76,8 +77,8 @@ pub extern "C" fn baarqidho_check(
         result flow.new tick.new count.new }
     ensures stored { clocks.new ≡ clocks_after flows words.now clocks.old }
 {
-    let answer = checker::check(flows, words, clocks);
-    give(answer, flow, tick, count)
+    let answered = checker::check(flows, words, clocks);
+    give(answered, flow, tick, count)
 }
 
 // Runs a table in plain form over a log: the count of ticks, and a mark and a value a cell.
@@ -98,8 +99,8 @@ pub extern "C" fn baarqidho_run(
     ensures marked { marks.new ≡ marks_after flows words.now log.now ticks marks.old values.old }
     ensures valued { values.new ≡ values_after flows words.now log.now ticks marks.old values.old }
 {
-    let answer = runner::run(flows, words, log, ticks, marks, values);
-    give(answer, flow, tick, count)
+    let answered = runner::run(flows, words, log, ticks, marks, values);
+    give(answered, flow, tick, count)
 }
 
 // Checks a table in plain form and runs it over a log for many ticks: the count of ticks, a mark and a value a cell of the window, and two words
@@ -126,8 +127,8 @@ pub extern "C" fn baarqidho_long_run(
         (length tallies.old))
         marks.old values.old tallies.old marks.new values.new tallies.new }
 {
-    let answer = runner::long_run(flows, words, log, ticks, marks, values, tallies);
-    give(answer, flow, tick, count)
+    let answered = runner::long_run(flows, words, log, ticks, marks, values, tallies);
+    give(answered, flow, tick, count)
 }
 
 // Counts the words that a trace of a table in plain form has in the archive.
@@ -142,8 +143,8 @@ pub extern "C" fn baarqidho_stored_words(
 ) -> u32
     ensures { Given (size_answer flows words.now ticks) result flow.new tick.new count.new }
 {
-    let answer = archive::stored_words(flows, words, ticks);
-    give(answer, flow, tick, count)
+    let answered = archive::stored_words(flows, words, ticks);
+    give(answered, flow, tick, count)
 }
 
 // Stores a trace of a table in plain form, flow after flow the values present: the count of words.
@@ -163,8 +164,8 @@ pub extern "C" fn baarqidho_store(
         result flow.new tick.new count.new }
     ensures stored { stored.new ≡ stored_after flows words.now ticks marks.now values.now stored.old }
 {
-    let answer = archive::store(flows, words, ticks, marks, values, stored);
-    give(answer, flow, tick, count)
+    let answered = archive::store(flows, words, ticks, marks, values, stored);
+    give(answered, flow, tick, count)
 }
 
 // Restores a stored trace of a table in plain form: the count of cells, and a mark and a value a cell.
@@ -191,8 +192,8 @@ pub extern "C" fn baarqidho_restore(
         (restoring flows words.now ticks (length stored.now) (length marks.old) (length values.old))
         stored.now values.old }
 {
-    let answer = archive::restore(flows, words, ticks, stored, marks, values);
-    give(answer, flow, tick, count)
+    let answered = archive::restore(flows, words, ticks, stored, marks, values);
+    give(answered, flow, tick, count)
 }
 
 // Lists a packed table as text: the count of bytes.
@@ -208,8 +209,7 @@ pub extern "C" fn baarqidho_listing(
         result flow.new tick.new count.new }
     ensures stored { text.new ≡ text_after packed.now text.old }
 {
-    let answer = lister::parts(lister::listing(packed, text));
-    give(answer, flow, tick, count)
+    give(lister::listing(packed, text), flow, tick, count)
 }
 
 // Writes the load page of a table in plain form, from one worst time a flow: the count of bytes.
@@ -227,8 +227,8 @@ pub extern "C" fn baarqidho_load_page(
         result flow.new tick.new count.new }
     ensures stored { page.new ≡ page_after flows words.now times.now page.old }
 {
-    let answer = loads::page(flows, words, times, page);
-    give(answer, flow, tick, count)
+    let answered = loads::page(flows, words, times, page);
+    give(answered, flow, tick, count)
 }
 
 // Gives the least part of a table in plain form that the check still answers with 21: the count of its flows, and four words a flow.
@@ -245,8 +245,8 @@ pub extern "C" fn baarqidho_least_part(
         result flow.new tick.new count.new }
     ensures stored { part.new ≡ part_after flows words.now part.old }
 {
-    let answer = least::least(flows, words, part);
-    give(answer, flow, tick, count)
+    let answered = least::least(flows, words, part);
+    give(answered, flow, tick, count)
 }
 
 // Gives the numbers that the flows of the least part have in the table: their count, and a word a flow.
@@ -263,8 +263,8 @@ pub extern "C" fn baarqidho_least_flows(
         result flow.new tick.new count.new }
     ensures stored { numbers.new ≡ flows_after flows words.now numbers.old }
 {
-    let answer = least::least_flows(flows, words, numbers);
-    give(answer, flow, tick, count)
+    let answered = least::least_flows(flows, words, numbers);
+    give(answered, flow, tick, count)
 }
 
 // Fills in the rates of the inputs of a table in plain form that have none written: the count of flows, and four words a flow.
@@ -280,8 +280,8 @@ pub extern "C" fn baarqidho_fill_rates(
     ensures { Filled flows words.now filled.old
         (answer_of result flow.new tick.new count.new) filled.new }
 {
-    let answer = rates::fill(flows, words, filled);
-    give(answer, flow, tick, count)
+    let answered = rates::fill(flows, words, filled);
+    give(answered, flow, tick, count)
 }
 
 // Gives the input rows that each flow of a table in plain form feels, as a set a flow, bit i for row i: the count of flows.
@@ -298,6 +298,6 @@ pub extern "C" fn baarqidho_felt_inputs(
         result flow.new tick.new count.new }
     ensures stored { sets.new ≡ felt_after flows words.now sets.old }
 {
-    let answer = influence::felt(flows, words, sets);
-    give(answer, flow, tick, count)
+    let answered = influence::felt(flows, words, sets);
+    give(answered, flow, tick, count)
 }

@@ -1,5 +1,5 @@
 -- What the call answers and leaves, by what check and closure told. Assumes nothing.
-use mathlib.Core.Path.{◌≡◌, sym, ◌∙◌, ap, ap₂}
+use mathlib.Core.Path.{◌≡◌, refl, sym, ◌∙◌, ap, ap₂}
 use Prim.Native.Nat.{ℕ, ◌*◌, ◌≤◌, ◌<◌}
 use native.Mathlib.Decide.{dec_lt}
 use native.Mathlib.Omega.{arith}
@@ -8,11 +8,15 @@ use mathlib.Core.List.{List}
 use lib.Bits.{bit_and}
 use lib.ListN.{length, get_or, drop, length-append}
 use borrow.Author.Tests.{le-leb, lt-leb}
+use Rattle.std.specs.Prelude.{Err}
 use Rattle.table.specs.declared.Answer.{Answer}
-use Rattle.table.specs.Answers.{Refusal, no_room, good, refused, success, answer, over}
+use Rattle.table.specs.declared.refusal.Refusal.{Refusal}
+use Rattle.table.specs.declared.refusal.Refusal.TheVariants.{NoRoom}
+use Rattle.table.specs.declared.refusal.Refused.{Refused}
+use Rattle.table.specs.Answers.{good, refused, success, parts, answer, over}
 use Rattle.table.specs.Rows.{max_flows}
 use Rattle.table.specs.Plain.{per_flow}
-use Rattle.table.proofs.AnswerLaws.{refused_leaves, over_again}
+use Rattle.table.proofs.AnswerLaws.{no_zero, refused_leaves, over_again}
 use Rattle.table.proofs.PlainRows.{per_length, per_same}
 use Rattle.checker.specs.Clocks.{Clock}
 use Rattle.checker.specs.Answers.{clock_size, clocks_for, check_answer}
@@ -34,7 +38,7 @@ no_clocks : (m : ℕ) (words : List ℕ) (room : ℕ) (why : Refusal) (f : ℕ) 
 unfolding feeling
 no_clocks m words room why f e = rw e
 
-too_small : (m : ℕ) (words : List ℕ) (room : ℕ) (ks : List Clock) → clocks_for m words ≡ good ks → room < m → feeling m words room ≡ refused no_room 0
+too_small : (m : ℕ) (words : List ℕ) (room : ℕ) (ks : List Clock) → clocks_for m words ≡ good ks → room < m → feeling m words room ≡ refused NoRoom 0
 unfolding feeling
 too_small m words room ks e l = rw (e, lt-leb m room l)
 
@@ -42,25 +46,27 @@ pub felt_told : (m : ℕ) (words : List ℕ) (room : ℕ) (ks : List Clock) → 
 unfolding feeling
 felt_told m words room ks e l = rw (e, le-leb m room l)
 
-reach_small : (m : ℕ) (words : List ℕ) (room : ℕ) (ks : List Clock) → Plan m words ks → room < m → reaching m words room ≡ refused no_room 0
+reach_small : (m : ℕ) (words : List ℕ) (room : ℕ) (ks : List Clock) → Plan m words ks → room < m → reaching m words room ≡ refused NoRoom 0
 unfolding reaching
 reach_small m words room ks p l = rw (p.is_table, lt-leb m room l)
 
--- the check, given room for the clocks of any plan, answered so
-module _ (m : ℕ) (words : List ℕ) (room : ℕ) (wide : clock_size * max_flows ≤ room) {found : Answer} (told : found ≡ check_answer m words room) where
-  pub handed_on : (found.number ≡ 0 → ⊥) → (old : List ℕ) → Felt m words old found old
-  handed_on h old =
-      let x = told_refusal m words room found wide told h in
+-- the check was given room for the clocks of any plan
+module _ (m : ℕ) (words : List ℕ) (room : ℕ) (wide : clock_size * max_flows ≤ room) where
+  -- it refused
+  pub handed_on : (r : Refused) → parts (Err r) ≡ check_answer m words room → (old : List ℕ) → Felt m words old (parts (Err r)) old
+  handed_on r told old =
+      let x = told_refusal m words room (parts (Err r)) wide told (no_zero r.why) in
       let e = refused_leaves length (λ (sets : List ℕ). sets) (feeling m words (length old)) old x.0 x.1 (no_clocks m words (length old) x.0 x.1 x.2) in
       (x.3 ∙ e.0, e.1)
 
-  module _ (h : found.number ≡ 0) where
+  -- it counted
+  module _ {n : ℕ} (told : success n ≡ check_answer m words room) where
     ks : List Clock
-    ks = (told_clocks m words room found wide told h).0
+    ks = (told_clocks m words room (success n) wide told refl).0
 
     are : clocks_for m words ≡ good ks
     unfolding ks
-    are = (told_clocks m words room found wide told h).2
+    are = (told_clocks m words room (success n) wide told refl).2
 
     p : Plan m words ks
     p = plan m words ks are
@@ -68,45 +74,45 @@ module _ (m : ℕ) (words : List ℕ) (room : ℕ) (wide : clock_size * max_flow
     pub few : m ≤ max_flows
     few = p.table.few
 
-    -- and the closure so
-    module _ (old new : List ℕ) {reached : Answer} (closed : reached ≡ reach_answer m words (length old)) (swept : new ≡ sets_after m words old) where
-      pub no_room_lem : (reached.number ≡ 0 → ⊥) → Felt m words old reached new
-      no_room_lem z = elim (dec_lt (length old) m) [ yes l ↦ small l | no l ↦ absurd (z (enough (omega arith))) ]
-        where
-          enough : m ≤ length old → reached.number ≡ 0
-          enough l = ap (λ (a : Answer). a.number) (closed ∙ ap (answer length) (reach_told m words (length old) p.rows p.is_table l))
+    -- and the closure refused
+    pub no_room_lem : (old new : List ℕ) (r : Refused) → parts (Err r) ≡ reach_answer m words (length old) → new ≡ sets_after m words old → Felt m words old (parts (Err r)) new
+    no_room_lem old new r closed swept = elim (dec_lt (length old) m) [ yes l ↦ small l | no l ↦ absurd (enough (omega arith)) ]
+      where
+        enough : m ≤ length old → ⊥
+        enough l = no_zero r.why (ap (λ (a : Answer). a.number) (closed ∙ ap (answer length) (reach_told m words (length old) p.rows p.is_table l)))
 
-          small : length old < m → Felt m words old reached new
-          small l =
-              let r = reach_small m words (length old) ks p l in
-              let f = too_small m words (length old) ks are l in
-              (closed ∙ rw (r, f), swept ∙ rw (r, f))
+        small : length old < m → Felt m words old (parts (Err r)) new
+        small l =
+            let r = reach_small m words (length old) ks p l in
+            let f = too_small m words (length old) ks are l in
+            (closed ∙ rw (r, f), swept ∙ rw (r, f))
 
-      module _ (z : reached.number ≡ 0) where
-        pub room_for : m ≤ length old
-        room_for = (reaches m words old (ap (λ (a : Answer). a.number) (sym closed) ∙ z)).room
+    -- or counted
+    module _ (old new : List ℕ) {k : ℕ} (closed : success k ≡ reach_answer m words (length old)) (swept : new ≡ sets_after m words old) where
+      pub room_for : m ≤ length old
+      room_for = (reaches m words old (ap (λ (a : Answer). a.number) (sym closed))).room
 
-        pub sets_for : m ≤ length new
-        sets_for =
-            let sets : List ℕ = sets_of m words m in
-            let e : new ≡ over sets old = swept ∙ rw (reach_told m words (length old) p.rows p.is_table room_for) in
-            rw e (omega (arith, length-append sets (drop (length sets) old), per_length (λ f. set_of (closure m words f) m) m))
+      pub sets_for : m ≤ length new
+      sets_for =
+          let sets : List ℕ = sets_of m words m in
+          let e : new ≡ over sets old = swept ∙ rw (reach_told m words (length old) p.rows p.is_table room_for) in
+          rw e (omega (arith, length-append sets (drop (length sets) old), per_length (λ f. set_of (closure m words f) m) m))
 
-        -- the input rows of a closure are what the flow feels
-        kept : (inputs f : ℕ) → f < m → inputs ≡ set_of (input_at words) m → bit_and inputs (get_or new f 0) ≡ set_of (feels m words ks f) m
-        unfolding feels
-        kept inputs f l e =
-            ap₂ bit_and e (ap (λ (s : List ℕ). get_or s f 0) swept ∙ sets_at m words old p.rows p.is_table room_for f l)
-            ∙ set_and (input_at words) (closure m words f) m
-            ∙ set_same _ _ m (λ g x. ap (λ (b : Bool). input_at words g && b) (sym (same_closure m words ks p f g l)))
+      -- the input rows of a closure are what the flow feels
+      kept : (inputs f : ℕ) → f < m → inputs ≡ set_of (input_at words) m → bit_and inputs (get_or new f 0) ≡ set_of (feels m words ks f) m
+      unfolding feels
+      kept inputs f l e =
+          ap₂ bit_and e (ap (λ (s : List ℕ). get_or s f 0) swept ∙ sets_at m words old p.rows p.is_table room_for f l)
+          ∙ set_and (input_at words) (closure m words f) m
+          ∙ set_same _ _ m (λ g x. ap (λ (b : Bool). input_at words g && b) (sym (same_closure m words ks p f g l)))
 
-        pub done : (inputs : ℕ) (last : List ℕ) → inputs ≡ set_of (input_at words) m → last ≡ over (per_flow (λ f. bit_and inputs (get_or new f 0)) m) new → Felt m words old reached last
-        done inputs last e x =
-            let sets : List ℕ = felt_sets m words ks m in
-            let r = reach_told m words (length old) p.rows p.is_table room_for in
-            let f = felt_told m words (length old) ks are room_for in
-            let size : length (sets_of m words m) ≡ length sets = per_length _ m ∙ sym (per_length _ m) in
-            let masked : per_flow (λ f. bit_and inputs (get_or new f 0)) m ≡ sets = per_same _ _ m (λ g l. kept inputs g l e) in (
-              closed ∙ ap (answer length) r ∙ ap success size ∙ ap (answer length) (sym f),
-              x ∙ ap (λ (l : List ℕ). over l new) masked ∙ ap (over sets) (swept ∙ rw r) ∙ over_again sets (sets_of m words m) old (sym size) ∙ rw f,
-            )
+      pub done : (inputs : ℕ) (last : List ℕ) → inputs ≡ set_of (input_at words) m → last ≡ over (per_flow (λ f. bit_and inputs (get_or new f 0)) m) new → Felt m words old (success k) last
+      done inputs last e x =
+          let sets : List ℕ = felt_sets m words ks m in
+          let r = reach_told m words (length old) p.rows p.is_table room_for in
+          let f = felt_told m words (length old) ks are room_for in
+          let size : length (sets_of m words m) ≡ length sets = per_length _ m ∙ sym (per_length _ m) in
+          let masked : per_flow (λ f. bit_and inputs (get_or new f 0)) m ≡ sets = per_same _ _ m (λ g l. kept inputs g l e) in (
+            closed ∙ ap (answer length) r ∙ ap success size ∙ ap (answer length) (sym f),
+            x ∙ ap (λ (l : List ℕ). over l new) masked ∙ ap (over sets) (swept ∙ rw r) ∙ over_again sets (sets_of m words m) old (sym size) ∙ rw f,
+          )

@@ -7,7 +7,8 @@ use mathlib.Core.List.{List}
 use lib.Dec.{leb}
 use lib.ListN.{length, get_or}
 use borrow.Author.Tests.{leb-true}
-use Rattle.table.specs.Answers.{no_room, good, unless}
+use Rattle.table.specs.declared.refusal.Refusal.TheVariants.{NoRoom}
+use Rattle.table.specs.Answers.{good, unless}
 use Rattle.table.proofs.Tests.{and_left, and_right, and_both, then_good, unless_good}
 use Rattle.table.proofs.AnswerLaws.{answer_zero}
 use Rattle.table.proofs.PlainRows.{per_over}
@@ -32,8 +33,8 @@ room_for : (m : ℕ) (words sets : List ℕ) → (felt_answer m words (length se
 unfolding feeling
 room_for m words sets e =
     let a = answer_zero length (feeling m words (length sets)) e in
-    let b = then_good (clocks_for m words) (λ ks. unless (leb m (length sets)) no_room 0 (good (felt_sets m words ks m))) a.0 a.1 in
-    leb-true m (length sets) (unless_good (leb m (length sets)) no_room 0 _ a.0 b.2).0
+    let b = then_good (clocks_for m words) (λ ks. unless (leb m (length sets)) NoRoom 0 (good (felt_sets m words ks m))) a.0 a.1 in
+    leb-true m (length sets) (unless_good (leb m (length sets)) NoRoom 0 _ a.0 b.2).0
 
 module _ (m : ℕ) (words sets : List ℕ) (e : (felt_answer m words (length sets)).number ≡ 0) (ks : List Clock) (c : clocks_for m words ≡ good ks) (f : ℕ) (l : f < m) where
   set_is : get_or (felt_after m words sets) f 0 ≡ set_of (feels m words ks f) m

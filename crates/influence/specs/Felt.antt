@@ -2,7 +2,8 @@
 -- answers and leaves.
 use Rattle.std.specs.Prelude.{◌≡◌, ℕ, ◌<◌, true, false, ◌&&◌, ◌||◌, List, [], ◌∷◌, eqb, leb, length}
 use Rattle.table.specs.declared.Answer.{Answer}
-use Rattle.table.specs.Answers.{Result, good, unless, then, answer, leaves, no_room}
+use Rattle.table.specs.declared.refusal.Refusal.TheVariants.{NoRoom}
+use Rattle.table.specs.Answers.{Result, good, unless, then, answer, leaves}
 use Rattle.table.specs.Plain.{row_words, per_flow}
 use Rattle.checker.specs.Clocks.{Condition, Clock}
 use Rattle.checker.specs.Rules.{clock_at}
@@ -40,7 +41,7 @@ felt_sets m words ks = per_flow (λ f. set_of (feels m words ks f) m)
 
 -- what the call comes to where there is room for so many sets
 unfoldable pub feeling : ℕ → List ℕ → ℕ → Result (List ℕ)
-feeling m words room = then (clocks_for m words) λ ks. unless (leb m room) no_room 0 (good (felt_sets m words ks m))
+feeling m words room = then (clocks_for m words) λ ks. unless (leb m room) NoRoom 0 (good (felt_sets m words ks m))
 
 abbrev pub felt_answer : ℕ → List ℕ → ℕ → Answer
 felt_answer m words room = answer length (feeling m words room)

@@ -3,7 +3,7 @@
 
 ghost use Rattle.std.specs.Prelude.{◌≡◌, ◌≤◌, length, get_or};
 ghost use Rattle.std.specs.Int.Bits.{bit_and};
-ghost use Rattle.table.specs.Answers.{over};
+ghost use Rattle.table.specs.Answers.{over, parts};
 ghost use Rattle.table.specs.Rows.{max_flows};
 ghost use Rattle.table.specs.Plain.{per_flow};
 ghost use Rattle.reach.specs.Sets.{set_of};
@@ -11,7 +11,7 @@ ghost use Rattle.influence.specs.Felt.{input_at, felt_answer, felt_after};
 
 use checker::CLOCKS;
 use reach::with_flow;
-use table::{Answer, record_at};
+use table::{Refused, record_at};
 
 // The kind of an input.
 const INPUT: u32 = 0;
@@ -22,11 +22,9 @@ fn inputs(n: u32, words: &[u32]) -> u64
     ensures { result ≡ set_of (input_at words.now) n }
 {
     let mut set: u64 = 0;
-    let mut i: u32 = 0;
-    while i < n {
+    for i in 0..n {
         let row = record_at(words, i);
         set = with_flow(set, row.kind == INPUT, i);
-        i += 1;
     }
     set
 }
@@ -36,28 +34,20 @@ fn keep(n: u32, kept: u64, sets: &mut [u64])
     requires { n ≤ length sets.old }
     ensures { sets.new ≡ over (per_flow (λ f. bit_and kept (get_or sets.old f 0)) n) sets.old }
 {
-    let mut f: u32 = 0;
-    while f < n {
-        sets[f as usize] = kept & sets[f as usize];
-        f += 1;
+    for set in &mut sets[..n as usize] {
+        *set &= kept;
     }
 }
 
 // For each flow the set of the input rows from which it can be reached through operands, beats, sources and conditions: the count of flows, or the
 // first refusal, which leaves the sets. Each condition of a clock is on a flow that the rows lead to, so the closure of the rows serves.
-pub fn felt(count: u32, words: &[u32], sets: &mut [u64]) -> Answer
-    ensures answered { result ≡ felt_answer count words.now (length sets.old) }
+pub fn felt(count: u32, words: &[u32], sets: &mut [u64]) -> Result<u32, Refused>
+    ensures answered { parts result ≡ felt_answer count words.now (length sets.old) }
     ensures stored { sets.new ≡ felt_after count words.now sets.old }
 {
     let mut clocks = [0u32; CLOCKS];
-    let found = checker::check(count, words, &mut clocks);
-    if found.number != 0 {
-        return found;
-    }
-    let reached = reach::reach(count, words, sets);
-    if reached.number != 0 {
-        return reached;
-    }
+    checker::check(count, words, &mut clocks)?;
+    let reached = reach::reach(count, words, sets)?;
     keep(count, inputs(count, words), sets);
-    reached
+    Ok(reached)
 }

@@ -6,7 +6,8 @@ use mathlib.Core.Bool.{Bool, true, false}
 use mathlib.Core.List.{List, [], ◌∷◌, ◌++◌}
 use mathlib.Core.Option.{Option, none, some}
 use lib.ListN.{length}
-use Rattle.table.specs.Answers.{Refusal, good, refused}
+use Rattle.table.specs.declared.refusal.Refusal.{Refusal}
+use Rattle.table.specs.Answers.{good, refused}
 use Rattle.table.specs.Rows.{Row, operand, on_register, bad_register}
 use Rattle.table.specs.Tables.{row_at, RowHas, Linked}
 use Rattle.table.specs.Plain.{row_words}

@@ -5,10 +5,12 @@ use native.Mathlib.Omega.{arith}
 use mathlib.Core.List.{List}
 use lib.ListN.{length}
 use borrow.Author.Tests.{eq-eqb, le-leb}
-use Rattle.table.specs.Answers.{Refusal, Result, good, refused, then, over, answer, leaves, number, success, clocks_differ}
+use Rattle.table.specs.declared.refusal.Refusal.{Refusal}
+use Rattle.table.specs.declared.refusal.Refusal.TheVariants.{ClocksDiffer}
+use Rattle.table.specs.Answers.{Result, good, refused, then, over, answer, leaves, number, success}
 use Rattle.table.specs.Rows.{Row, row_size}
 use Rattle.table.specs.Plain.{table_of, joined}
-use Rattle.table.proofs.AnswerLaws.{is_differing}
+use Rattle.table.proofs.AnswerLaws.{number_inj}
 use Rattle.table.proofs.Tables.{Table, table_made}
 use Rattle.checker.specs.Clocks.{Clock}
 use Rattle.checker.specs.Rules.{clocks_of}
@@ -24,14 +26,14 @@ use Rattle.least.proofs.SamePart.{count_same, rows_same, flows_same}
 use Rattle.least.proofs.LeastParts as LeastParts
 
 -- the plan that the check answers with 21
-pub plan_refused : (m : ℕ) (words : List ℕ) (rows : List Row) → table_of m words ≡ good rows → check_number m words ≡ number clocks_differ → (g : ℕ) × (clocks_of rows ≡ refused clocks_differ g)
+pub plan_refused : (m : ℕ) (words : List ℕ) (rows : List Row) → table_of m words ≡ good rows → check_number m words ≡ number ClocksDiffer → (g : ℕ) × (clocks_of rows ≡ refused ClocksDiffer g)
 plan_refused m words rows e d = go (clocks_of rows) (ap (λ (r : Result (List Row)). (answer length (then r clocks_of)).number) (sym e) ∙ sym (check_number_lem m words) ∙ d)
   where
-    go : (r : Result (List Clock)) → (answer length r).number ≡ number clocks_differ → (g : ℕ) × (r ≡ refused clocks_differ g)
+    go : (r : Result (List Clock)) → (answer length r).number ≡ number ClocksDiffer → (g : ℕ) × (r ≡ refused ClocksDiffer g)
     go (good ks) h = absurd (omega arith)
-    go (refused why g) h = (g, ap (λ (y : Refusal). refused y g) (is_differing why h))
+    go (refused why g) h = (g, ap (λ (y : Refusal). refused y g) (number_inj why ClocksDiffer h))
 
-module _ (m : ℕ) (words : List ℕ) (rows : List Row) (e : table_of m words ≡ good rows) (d : check_number m words ≡ number clocks_differ) where
+module _ (m : ℕ) (words : List ℕ) (rows : List Row) (e : table_of m words ≡ good rows) (d : check_number m words ≡ number ClocksDiffer) where
   t : Table m words rows
   t = table_made m words rows e
 

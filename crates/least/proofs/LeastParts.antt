@@ -6,7 +6,8 @@ use mathlib.Core.Bool.{true, ◌&&◌, false≢true}
 use mathlib.Core.List.{List}
 use lib.Dec.{ltb}
 use borrow.Author.Tests.{ltb-true, ltb-false, eqb-true, eq-eqb}
-use Rattle.table.specs.Answers.{refused, clocks_differ}
+use Rattle.table.specs.declared.refusal.Refusal.TheVariants.{ClocksDiffer}
+use Rattle.table.specs.Answers.{refused}
 use Rattle.table.specs.Rows.{Row, max_flows}
 use Rattle.table.specs.Tables.{row_at}
 use Rattle.table.specs.Plain.{row_words}
@@ -91,23 +92,23 @@ module _ (m : ℕ) (words : List ℕ) (rows : List Row) (t : Table m words rows)
   leads_closure f g l x = (leads_through (named words) m inside f g l x).1
 
   -- a flow's closure inside a set is answered with 21 where the set is refused so at a flow of the closure
-  closure_differs : (s : Flows) (f g : ℕ) → ((h : ℕ) → h < m → closure m words f h ≡ true → s h ≡ true) → closure m words f g ≡ true → Refusing m rows s clocks_differ g
+  closure_differs : (s : Flows) (f g : ℕ) → ((h : ℕ) → h < m → closure m words f h ≡ true → s h ≡ true) → closure m words f g ≡ true → Refusing m rows s ClocksDiffer g
       → Differs m words (closure m words f)
   closure_differs s f g subset x r =
-      refusing_differs m words rows t (closure m words f) (closure_part m words f) g (inner_refusing m rows s (closure m words f) subset clocks_differ g x r)
+      refusing_differs m words rows t (closure m words f) (closure_part m words f) g (inner_refusing m rows s (closure m words f) subset ClocksDiffer g x r)
 
   -- THE CLOSURE OF THE FLOW THAT A 21 NAMES
-  pub named_differs : (g : ℕ) → clocks_of rows ≡ refused clocks_differ g → (g < m) × Differs m words (closure m words g)
+  pub named_differs : (g : ℕ) → clocks_of rows ≡ refused ClocksDiffer g → (g < m) × Differs m words (closure m words g)
   named_differs g e =
-      let r : Refusing m rows every_flow clocks_differ g = whole_refusing m words rows t clocks_differ g e in
-      ((refused_in m rows every_flow clocks_differ g r).0, closure_differs every_flow g g (λ h l x. refl) (through_itself (named words) m g) r)
+      let r : Refusing m rows every_flow ClocksDiffer g = whole_refusing m words rows t ClocksDiffer g e in
+      ((refused_in m rows every_flow ClocksDiffer g r).0, closure_differs every_flow g g (λ h l x. refl) (through_itself (named words) m g) r)
 
   -- so in each part that is answered with 21 there is a flow whose closure is
   part_drawn : (s : Flows) → Part m words s → Differs m words s → (f : ℕ) × (f < m) × (drawn_differs m words f ≡ true) × (drawn_count m words f ≤ part_count m s)
   part_drawn s part d =
       let x = differs_refusing m words rows t s part d in
       let g : ℕ = x.0 in
-      let y : (g < m) × (s g ≡ true) = refused_in m rows s clocks_differ g x.1 in
+      let y : (g < m) × (s g ≡ true) = refused_in m rows s ClocksDiffer g x.1 in
       let sub : (h : ℕ) → h < m → closure m words g h ≡ true → s h ≡ true = λ h l z. closure_in s part g h y.0 y.1 z in
       (g, y.0, eq-eqb _ _ (closure_differs s g g sub (through_itself (named words) m g) x.1), below_subset s (closure m words g) m sub)
 
@@ -115,7 +116,7 @@ module _ (m : ℕ) (words : List ℕ) (rows : List Row) (t : Table m words rows)
   drawn_few f = omega (arith, below_le (closure m words f) m, t.few)
 
   -- WISH 6 of a plan that the check answers with 21
-  module _ (g : ℕ) (refusal : clocks_of rows ≡ refused clocks_differ g) where
+  module _ (g : ℕ) (refusal : clocks_of rows ≡ refused ClocksDiffer g) where
     some_drawn : (g < m) × (drawn_differs m words g ≡ true)
     some_drawn = let x = named_differs g refusal in (x.0, eq-eqb _ _ x.1)
 
@@ -138,7 +139,7 @@ module _ (m : ℕ) (words : List ℕ) (rows : List Row) (t : Table m words rows)
         lower : (s : Flows) (f : ℕ) → Part m words s → Differs m words s → part_count m s ≡ drawn_count m words (least_flow m words) → Drawn m words s f → least_flow m words ≤ f
         lower s f part d n x =
             let y = differs_refusing m words rows t s part d in
-            let z : (y.0 < m) × (s y.0 ≡ true) = refused_in m rows s clocks_differ y.0 y.1 in
+            let z : (y.0 < m) × (s y.0 ≡ true) = refused_in m rows s ClocksDiffer y.0 y.1 in
             let sub : (i : ℕ) → i < m → closure m words f i ≡ true → s i ≡ true = λ i l k. closure_in s part f i x.in_plan x.inside k in
             let sup : (i : ℕ) → i < m → s i ≡ true → closure m words f i ≡ true = λ i l k. leads_closure f i x.in_plan (x.leads i l k) in
             let c : drawn_differs m words f ≡ true = eq-eqb _ _ (closure_differs s f y.0 sub (sup y.0 z.0 z.1) y.1) in

@@ -7,7 +7,9 @@ use mathlib.Core.List.{List, [], ◌∷◌, ◌++◌, map}
 use lib.Dec.{eqb, leb}
 use lib.ListN.{length}
 use borrow.Author.Tests.{eqb-true, eq-eqb}
-use Rattle.table.specs.Answers.{Refusal, Result, good, unless, clocks_differ, beyond_limits, not_plain, bad_view}
+use Rattle.table.specs.declared.refusal.Refusal.{Refusal}
+use Rattle.table.specs.declared.refusal.Refusal.TheVariants.{ClocksDiffer, BeyondLimits, NotPlain, BadView}
+use Rattle.table.specs.Answers.{Result, good, unless}
 use Rattle.table.specs.Rows.{Row, input, constant, combine, register, faster, slower, later, head, tail, sample, merge, unrated, view}
 use Rattle.table.specs.Rows.{Field, operand}
 use Rattle.table.specs.Tables.{RowHas}
@@ -79,7 +81,7 @@ module _ (s : Flows) where
   unless_moved false false why f r r' e h = refl
 
   limited_moved : (f : ℕ) (k : Clock) → limited (ρ f) (move_clock ρ k) ≡ move_result ρ (limited f k)
-  limited_moved f k = unless_moved (within_limits (move_clock ρ k)) (within_limits k) beyond_limits f _ (good k) (limits_moved k) refl
+  limited_moved f k = unless_moved (within_limits (move_clock ρ k)) (within_limits k) BeyondLimits f _ (good k) (limits_moved k) refl
 
   -- the clocks of lower flows of the set have been renumbered, and their conditions are on flows of it
   module _ (f : ℕ) (P : Field → ℕ → Type 0) (clk clk' : ℕ → Clock) (agree : (a : ℕ) → P operand a → clk' (ρ a) ≡ move_clock ρ (clk a))
@@ -92,8 +94,8 @@ module _ (s : Flows) where
 
     -- a rule that asks for a plain clock
     plain_first : (a : ℕ) (r r' : Result Clock) → P operand a → r ≡ move_result ρ r'
-        → unless (plain (clk' (ρ a))) not_plain (ρ f) r ≡ move_result ρ (unless (plain (clk a)) not_plain f r')
-    plain_first a r r' l e = unless_moved (plain (clk' (ρ a))) (plain (clk a)) not_plain f r r' (plain_agrees a l) e
+        → unless (plain (clk' (ρ a))) NotPlain (ρ f) r ≡ move_result ρ (unless (plain (clk a)) NotPlain f r')
+    plain_first a r r' l e = unless_moved (plain (clk' (ρ a))) (plain (clk a)) NotPlain f r r' (plain_agrees a l) e
 
     -- two clocks compared
     both : (a b : ℕ) → P operand a → P operand b → same_clock (clk' (ρ a)) (clk' (ρ b)) ≡ same_clock (clk a) (clk b)
@@ -113,11 +115,11 @@ module _ (s : Flows) where
     clock_moved (input n p) l = refl
     clock_moved (constant v n p) l = refl
     clock_moved (combine op a b) l =
-        unless_moved (same_clock (clk' (ρ a)) (clk' (ρ b))) (same_clock (clk a) (clk b)) clocks_differ f _ (good (clk a)) (both a b l.0 l.1) (ap good (agree a l.0))
+        unless_moved (same_clock (clk' (ρ a)) (clk' (ρ b))) (same_clock (clk a) (clk b)) ClocksDiffer f _ (good (clk a)) (both a b l.0 l.1) (ap good (agree a l.0))
     clock_moved (register v b a) l = ap good (agree b l.0)
     clock_moved (faster a k g) l =
         plain_first a _ _ l.0
-        (unless_moved (eqb (clk' (ρ a)).period (k * g)) (eqb (clk a).period (k * g)) clocks_differ f _ (good (every g (clk a).phase))
+        (unless_moved (eqb (clk' (ρ a)).period (k * g)) (eqb (clk a).period (k * g)) ClocksDiffer f _ (good (every g (clk a).phase))
         (ap (λ (j : Clock). eqb j.period (k * g)) (agree a l.0)) (ap (λ (j : Clock). good (every g j.phase)) (agree a l.0)))
     clock_moved (slower a k) l =
         plain_first a _ _ l.0
@@ -127,22 +129,22 @@ module _ (s : Flows) where
         (ap (λ (j : Clock). limited (ρ f) (every j.period (j.phase + d))) (agree a l.0) ∙ limited_moved f (every (clk a).period ((clk a).phase + d)))
     clock_moved (head a v t) l =
         plain_first a _ _ l.0
-        (unless_moved (eqb (clk' (ρ a)).phase (t + (clk' (ρ a)).period)) (eqb (clk a).phase (t + (clk a).period)) clocks_differ f _ (good (every (clk a).period t))
+        (unless_moved (eqb (clk' (ρ a)).phase (t + (clk' (ρ a)).period)) (eqb (clk a).phase (t + (clk a).period)) ClocksDiffer f _ (good (every (clk a).period t))
         (ap (λ (j : Clock). eqb j.phase (t + j.period)) (agree a l.0)) (ap (λ (j : Clock). good (every j.period t)) (agree a l.0)))
     clock_moved (tail a) l =
         plain_first a _ _ l.0
         (ap (λ (j : Clock). limited (ρ f) (every j.period (j.phase + j.period))) (agree a l.0) ∙ limited_moved f (every (clk a).period ((clk a).phase + (clk a).period)))
     clock_moved (sample u a c) l =
-        unless_moved (same_clock (clk' (ρ a)) (clk' (ρ c))) (same_clock (clk a) (clk c)) clocks_differ f _ (limited f (under (clk a) c u 0)) (both a c l.0 l.1)
+        unless_moved (same_clock (clk' (ρ a)) (clk' (ρ c))) (same_clock (clk a) (clk c)) ClocksDiffer f _ (limited f (under (clk a) c u 0)) (both a c l.0 l.1)
         (ap (limited (ρ f)) (under_agrees a c u 0 l.0) ∙ limited_moved f (under (clk a) c u 0))
     clock_moved (merge c a b) l =
         unless_moved (same_clock (clk' (ρ a)) (under (clk' (ρ c)) (ρ c) true 0) && same_clock (clk' (ρ b)) (under (clk' (ρ c)) (ρ c) false 0))
-        (same_clock (clk a) (under (clk c) c true 0) && same_clock (clk b) (under (clk c) c false 0)) clocks_differ f _ (good (clk c))
+        (same_clock (clk a) (under (clk c) c true 0) && same_clock (clk b) (under (clk c) c false 0)) ClocksDiffer f _ (good (clk c))
         (ap₂ ◌&&◌ (branch a c true l.1 l.0) (branch b c false l.2 l.0)) (ap good (agree c l.0))
     clock_moved unrated l = refl
     clock_moved (view u a c w) l =
-        unless_moved (plain (clk' (ρ a)) && plain (clk' (ρ c))) (plain (clk a) && plain (clk c)) not_plain f _ _ (ap₂ ◌&&◌ (plain_agrees a l.0) (plain_agrees c l.1))
-        (unless_moved (view_fits w (clk' (ρ a)) (clk' (ρ c))) (view_fits w (clk a) (clk c)) bad_view f _ (good (under (clk a) c u w)) (ap₂ (view_fits w) (agree a l.0) (agree c l.1))
+        unless_moved (plain (clk' (ρ a)) && plain (clk' (ρ c))) (plain (clk a) && plain (clk c)) NotPlain f _ _ (ap₂ ◌&&◌ (plain_agrees a l.0) (plain_agrees c l.1))
+        (unless_moved (view_fits w (clk' (ρ a)) (clk' (ρ c))) (view_fits w (clk a) (clk c)) BadView f _ (good (under (clk a) c u w)) (ap₂ (view_fits w) (agree a l.0) (agree c l.1))
         (ap good (under_agrees a c u w l.0)))
 
     -- the row's clock has its conditions on flows of the set too

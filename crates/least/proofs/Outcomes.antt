@@ -7,7 +7,9 @@ use mathlib.Core.Bool.{Bool, true, false, cond, false≢true}
 use mathlib.Core.List.{List}
 use lib.Dec.{eqb}
 use borrow.Author.Tests.{eq-eqb, ne_eqb}
-use Rattle.table.specs.Answers.{Refusal, Result, good, refused, clocks_differ}
+use Rattle.table.specs.declared.refusal.Refusal.{Refusal}
+use Rattle.table.specs.declared.refusal.Refusal.TheVariants.{ClocksDiffer}
+use Rattle.table.specs.Answers.{Result, good, refused}
 use Rattle.table.specs.Rows.{Row, on_register}
 use Rattle.table.specs.Tables.{row_at, Fits}
 use Rattle.table.specs.Plain.{row_words}
@@ -39,7 +41,7 @@ module _ (m : ℕ) (rows : List Row) where
 
   pub data Refusing (s : Flows) : Refusal → ℕ → Type 0 where
     by_rule : (clk : ℕ → Clock) (why : Refusal) (g : ℕ) → g < m → s g ≡ true → Known s clk g → clock_of clk g (row_at rows g) ≡ refused why g → Refusing s why g
-    by_source : (clk : ℕ → Clock) (g : ℕ) → g < m → s g ≡ true → Known s clk m → Passing s clk g → on_register (fits clk) (row_at rows g) ≡ false → Refusing s clocks_differ g
+    by_source : (clk : ℕ → Clock) (g : ℕ) → g < m → s g ≡ true → Known s clk m → Passing s clk g → on_register (fits clk) (row_at rows g) ≡ false → Refusing s ClocksDiffer g
 
   pub data Outcome (s : Flows) : Type 0 where
     accepting : Accepting s → Outcome s
@@ -108,7 +110,7 @@ module _ (m : ℕ) (words : List ℕ) (rows : List Row) (t : Table m words rows)
   module _ (clk : ℕ → Clock) (known : Known m rows s clk m) where
     data Sources (n : ℕ) : Type 0 where
       pass : Passing m rows s clk n → Sources n
-      fails : (g : ℕ) → Refusing m rows s clocks_differ g → Sources n
+      fails : (g : ℕ) → Refusing m rows s ClocksDiffer g → Sources n
 
     sources : (n : ℕ) → n ≤ m → Sources n
     sources zero l = pass (λ f x. absurd (omega arith))
@@ -131,7 +133,7 @@ module _ (m : ℕ) (words : List ℕ) (rows : List Row) (t : Table m words rows)
     where
       end : (clk : ℕ → Clock) (k : Known m rows s clk m) → Sources clk k m → Outcome m rows s
       end clk k (pass p) = accepting (record { clk = clk; known = k; passing = p })
-      end clk k (fails g r) = refusing clocks_differ g r
+      end clk k (fails g r) = refusing ClocksDiffer g r
 
       go : Clocks m → Outcome m rows s
       go (stopped why g r) = refusing why g r

@@ -4,7 +4,8 @@ use Prim.Native.Nat.{ℕ, ◌≤◌, ◌<◌}
 use native.Mathlib.Omega.{arith}
 use mathlib.Core.Bool.{true}
 use mathlib.Core.List.{List}
-use Rattle.table.specs.Answers.{Refusal, good, refused}
+use Rattle.table.specs.declared.refusal.Refusal.{Refusal}
+use Rattle.table.specs.Answers.{good, refused}
 use Rattle.table.specs.Rows.{Row, tail}
 use Rattle.table.specs.Tables.{row_at}
 use Rattle.table.specs.Plain.{table_of, joined}

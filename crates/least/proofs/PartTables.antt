@@ -8,12 +8,14 @@ use lib.Dec.{eqb}
 use lib.ListN.{length}
 use lib.Seq.{take_all}
 use borrow.Author.Tests.{le-leb, eq-eqb}
-use Rattle.table.specs.Answers.{Refusal, Result, good, refused, then, number, answer, clocks_differ, bad_count}
+use Rattle.table.specs.declared.refusal.Refusal.{Refusal}
+use Rattle.table.specs.declared.refusal.Refusal.TheVariants.{ClocksDiffer, BadCount}
+use Rattle.table.specs.Answers.{Result, good, refused, then, number, answer}
 use Rattle.table.specs.Rows.{Row, tail, Words, row_by, row_size, max_flows}
 use Rattle.table.specs.Tables.{row_at}
 use Rattle.table.specs.Plain.{row_words, split, joined, rows_from, count_fits, table_by, table_of}
 use Rattle.table.proofs.Tests.{Tried, passed, failed, try, and_both, good_inj, not_good, then_good}
-use Rattle.table.proofs.AnswerLaws.{is_differing}
+use Rattle.table.proofs.AnswerLaws.{number_inj}
 use Rattle.table.proofs.PlainRows.{split_joined, length_joined}
 use Rattle.table.proofs.Tables.{Table}
 use Rattle.checker.specs.Clocks.{Condition, Clock, every}
@@ -51,7 +53,7 @@ rows_count words s n = chosen_length s (λ f. renumbered_row s (row_words words 
 pub words_count : (words : List ℕ) (s : Flows) (n : ℕ) → length (joined (part_rows n words s)) ≡ row_size * below s n
 words_count words s n = length_joined (part_rows n words s) ∙ ap (λ (i : ℕ). row_size * i) (rows_count words s n)
 
-no_flows : (words : List ℕ) → clocks_for 0 words ≡ refused bad_count 0
+no_flows : (words : List ℕ) → clocks_for 0 words ≡ refused BadCount 0
 unfolding table_by
 no_flows words = refl
 
@@ -98,25 +100,25 @@ module _ (m : ℕ) (words : List ℕ) (rows : List Row) (t : Table m words rows)
     accepting_part l a = part_checked l ∙ part_accepting m words rows t s part a
 
     -- it is answered with 21 exactly when a flow of it is refused so
-    pub refusing_differs : (g : ℕ) → Refusing m rows s clocks_differ g → Differs m words s
+    pub refusing_differs : (g : ℕ) → Refusing m rows s ClocksDiffer g → Differs m words s
     refusing_differs g r =
-        check_number_lem (part_count m s) (joined (part_rows m words s)) ∙ ap (λ (r : Result (List Clock)). (answer length r).number) (refusing_part clocks_differ g r)
+        check_number_lem (part_count m s) (joined (part_rows m words s)) ∙ ap (λ (r : Result (List Clock)). (answer length r).number) (refusing_part ClocksDiffer g r)
 
-    pub differs_refusing : Differs m words s → (g : ℕ) × Refusing m rows s clocks_differ g
+    pub differs_refusing : Differs m words s → (g : ℕ) × Refusing m rows s ClocksDiffer g
     differs_refusing d = counted (part_count m s) refl
       where
-        told : (answer length (checked_part m words s)).number ≡ number clocks_differ
+        told : (answer length (checked_part m words s)).number ≡ number ClocksDiffer
         told = sym (check_number_lem (part_count m s) (joined (part_rows m words s))) ∙ d
 
-        go : 1 ≤ part_count m s → Outcome m rows s → (g : ℕ) × Refusing m rows s clocks_differ g
+        go : 1 ≤ part_count m s → Outcome m rows s → (g : ℕ) × Refusing m rows s ClocksDiffer g
         go l (accepting a) = absurd (omega (arith, sym (ap (λ (r : Result (List Clock)). (answer length r).number) (accepting_part l a)) ∙ told))
         go l (refusing why g r) =
-            let e : number why ≡ number clocks_differ = sym (ap (λ (r : Result (List Clock)). (answer length r).number) (refusing_part why g r)) ∙ told in
-            (g, subst (λ (y : Refusal). Refusing m rows s y g) (is_differing why e) r)
+            let e : number why ≡ number ClocksDiffer = sym (ap (λ (r : Result (List Clock)). (answer length r).number) (refusing_part why g r)) ∙ told in
+            (g, subst (λ (y : Refusal). Refusing m rows s y g) (number_inj why ClocksDiffer e) r)
 
-        counted : (n : ℕ) → part_count m s ≡ n → (g : ℕ) × Refusing m rows s clocks_differ g
+        counted : (n : ℕ) → part_count m s ≡ n → (g : ℕ) × Refusing m rows s ClocksDiffer g
         counted zero z =
-            absurd (let e : checked_part m words s ≡ refused bad_count 0 = ap (λ (i : ℕ). clocks_for i (joined (part_rows m words s))) z ∙ no_flows (joined (part_rows m words s)) in
+            absurd (let e : checked_part m words s ≡ refused BadCount 0 = ap (λ (i : ℕ). clocks_for i (joined (part_rows m words s))) z ∙ no_flows (joined (part_rows m words s)) in
             omega (arith, sym (ap (λ (r : Result (List Clock)). (answer length r).number) e) ∙ told))
         counted (suc n) z = go (omega arith) (outcome m words rows t s)
 

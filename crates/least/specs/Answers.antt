@@ -1,7 +1,8 @@
 -- How the least part is found, and what the calls answer and leave. That it is the least part is proved in proofs/LeastParts.
 use Rattle.std.specs.Prelude.{ℕ, zero, suc, ◌+◌, ◌*◌, Bool, cond, ◌&&◌, List, eqb, leb, ltb, length}
 use Rattle.table.specs.declared.Answer.{Answer}
-use Rattle.table.specs.Answers.{Result, good, unless, then, answer, leaves, number, no_room, clocks_differ, not_differing}
+use Rattle.table.specs.declared.refusal.Refusal.TheVariants.{NoRoom, ClocksDiffer, NotDiffering}
+use Rattle.table.specs.Answers.{Result, good, unless, then, answer, leaves, number}
 use Rattle.table.specs.Rows.{Words, row_size, max_flows}
 use Rattle.table.specs.Plain.{joined, table_of}
 use Rattle.checker.specs.Answers.{check_number}
@@ -11,7 +12,7 @@ use Rattle.least.specs.Parts.{part_count, part_rows, part_flows}
 
 -- the check answers the plan with 21
 abbrev pub differing : ℕ → List ℕ → Bool
-differing m words = eqb (check_number m words) (number clocks_differ)
+differing m words = eqb (check_number m words) (number ClocksDiffer)
 
 -- the closure of flow f: how many flows it has, and whether the check answers it with 21
 abbrev pub drawn_count : ℕ → List ℕ → ℕ → ℕ
@@ -43,11 +44,11 @@ least_set m words = closure m words (least_flow m words)
 
 -- the flows of the least part, or the first refusal
 unfoldable pub seeking : ℕ → List ℕ → Result Flows
-seeking m words = then (table_of m words) λ rows. unless (differing m words) not_differing 0 (good (least_set m words))
+seeking m words = then (table_of m words) λ rows. unless (differing m words) NotDiffering 0 (good (least_set m words))
 
 -- what a call comes to that makes something of the least part, of a size a flow, where there is room for so many words
 unfoldable pub offering : {A : Type 0} → ℕ → (Flows → List A) → ℕ → List ℕ → ℕ → Result (List A)
-offering size make m words room = then (seeking m words) λ s. unless (leb (size * part_count m s) room) no_room 0 (good (make s))
+offering size make m words room = then (seeking m words) λ s. unless (leb (size * part_count m s) room) NoRoom 0 (good (make s))
 
 -- the two calls: the rows of the least part, and the numbers that its flows have in the plan
 abbrev pub leasting : ℕ → List ℕ → ℕ → Result (List Words)

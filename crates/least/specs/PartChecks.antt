@@ -1,7 +1,9 @@
 -- Why a part tells what the plan does: the check of a part gives each of its flows the clock that it has in the plan, or refuses the flow that it
 -- refuses in the plan, for the same cause. Proved in proofs/PartChecks.
 use Rattle.std.specs.Prelude.{◌≡◌, ℕ, ◌≤◌, ◌<◌, true, List, map}
-use Rattle.table.specs.Answers.{Refusal, Result, good, refused, clocks_differ}
+use Rattle.table.specs.declared.refusal.Refusal.{Refusal}
+use Rattle.table.specs.declared.refusal.Refusal.TheVariants.{ClocksDiffer}
+use Rattle.table.specs.Answers.{Result, good, refused}
 use Rattle.table.specs.Rows.{Row}
 use Rattle.table.specs.Tables.{row_at}
 use Rattle.table.specs.Plain.{table_of, joined}
@@ -50,7 +52,7 @@ pub record PartChecks : Type 0 where
       → Part m words s → s g ≡ true → checked_part m words s ≡ refused why (below s g)
   -- So the closure of the flow that a 21 names is answered with 21 itself,
   pub named :
-      (m : ℕ) (words : List ℕ) (rows : List Row) (g : ℕ) → table_of m words ≡ good rows → clocks_of rows ≡ refused clocks_differ g
+      (m : ℕ) (words : List ℕ) (rows : List Row) (g : ℕ) → table_of m words ≡ good rows → clocks_of rows ≡ refused ClocksDiffer g
       → Differs m words (closure m words g)
   -- and the least part is the closure of a single flow.
   pub single :

@@ -1,6 +1,7 @@
 -- A part of a plan, and the least part that the check still answers with 21. A plan is its count of flows and its plain words.
 use Rattle.std.specs.Prelude.{◌≡◌, ℕ, zero, suc, ◌+◌, ◌≤◌, ◌<◌, true, cond, List, [], ◌∷◌, ◌++◌}
-use Rattle.table.specs.Answers.{number, clocks_differ}
+use Rattle.table.specs.declared.refusal.Refusal.TheVariants.{ClocksDiffer}
+use Rattle.table.specs.Answers.{number}
 use Rattle.table.specs.Bits.{bit}
 use Rattle.table.specs.Rows.{Field, Kind, kind_at, Words}
 use Rattle.table.specs.Plain.{row_words, joined}
@@ -43,7 +44,7 @@ part_flows m s = chosen s (λ f. f) m
 
 -- the check answers the part with 21
 abbrev pub Differs : ℕ → List ℕ → Flows → Type 0
-Differs m words s = check_number (part_count m s) (joined (part_rows m words s)) ≡ number clocks_differ
+Differs m words s = check_number (part_count m s) (joined (part_rows m words s)) ≡ number ClocksDiffer
 
 -- a set is drawn from a single flow of it, which leads to all the rest
 pub record Drawn (m : ℕ) (words : List ℕ) (s : Flows) (f : ℕ) : Type 0 where

@@ -1,32 +1,27 @@
 // The least part of a plan that the check still answers with 21.
 #![tactic(auto)]
 
-ghost use Rattle.std.specs.Prelude.{◌≡◌, true, ◌*◌, ◌<◌, ◌≤◌, length, take};
-ghost use Rattle.table.specs.Answers.{good};
+ghost use Rattle.std.specs.Prelude.{◌≡◌, true, ◌*◌, ◌≤◌, MatchResult, length};
+ghost use Rattle.table.specs.Answers.{good, parts};
 ghost use Rattle.table.specs.Rows.{max_flows, row_size};
 ghost use Rattle.table.specs.Plain.{table_of, rows_in};
 ghost use Rattle.reach.specs.Sets.{set_of};
-ghost use Rattle.reach.specs.Reach.{closure};
-ghost use Rattle.least.specs.Answers.{differing, better, least_flow, least_set, least_answer, part_after, flows_answer, flows_after};
-ghost use Rattle.least.specs.Private.Steps.{shown, Closed, Giving, Found};
+ghost use Rattle.reach.specs.Reach.{sets_of};
+ghost use Rattle.least.specs.Answers.{differing, least_set, least_answer, part_after, flows_answer, flows_after};
+ghost use Rattle.least.specs.Private.Steps.{part_differing, Chosen, Giving, Refusing};
 
 use part::{rank, store_flows, store_rows};
-use table::{Answer, CLOCKS_DIFFER, MAX_FLOWS, NO_ROOM, NOT_DIFFERING, ROW_SIZE};
+use table::{MAX_FLOWS, ROW_SIZE, Refusal, Refused};
 
 mod part; // part.rt: the rows and the flows of a part
 
-// A flow, and how many flows its closure has.
+// A plan: the count of its flows and its words, which are a table.
 #[derive(Clone, Copy)]
-struct Choice {
-    flow: u32,
+struct Plan<'a> {
     count: u32,
-}
-
-// The flows of the least part, or a refusal's number and the row that it names.
-#[derive(Clone, Copy)]
-enum Sought {
-    Part(u64),
-    Refused(u32, u32),
+    words: &'a [u32],
+    ghost is_table: { table_of count words.now ≡ good (rows_in (table_of count words.now)) },
+    ghost few: { count ≤ max_flows },
 }
 
 // The words of the most flows.
@@ -36,123 +31,81 @@ const WORDS: usize = ROW_SIZE * (MAX_FLOWS as usize);
 fn differs(count: u32, words: &[u32]) -> bool
     ensures { result ≡ differing count words.now }
 {
-    checker::number(count, words) == CLOCKS_DIFFER
+    checker::number(count, words) == Refusal::ClocksDiffer.number()
 }
 
-// Whether the check answers with 21 the plan in the first rows.
-fn part_differs(count: u32, rows: &[u32]) -> bool
-    requires { row_size * count ≤ length rows.now }
-    ensures { result ≡ differing count (take (row_size * count) rows.now) }
-{
-    let size = ROW_SIZE * (count as usize);
-    differs(count, &rows[0..size])
-}
-
-// Flow f, whose closure is the set, where that has fewer flows and is answered with 21; else the choice before. The rows are for trying it.
-fn better(n: u32, words: &[u32], set: u64, f: u32, before: Choice, rows: &mut [u32]) -> Choice
-    requires { (table_of n words.now ≡ good (rows_in (table_of n words.now))) × (length rows.old ≡ row_size * max_flows)
-        × (set ≡ set_of (closure n words.now f) n) }
-    ensures { shown result ≡ better n words.now f (shown before) }
-{
-    let count = rank(set, n);
-    if before.count <= count {
-        return before;
+impl Plan<'_> {
+    // Whether the check answers the part of these flows with 21. The rows are for laying it down.
+    #[tactic(auto, using(crate::proofs::Numbers::below_le))]
+    fn part_differs(self, set: u64, rows: &mut [u32]) -> bool
+        requires { length rows.old ≡ row_size * max_flows }
+        ensures { result ≡ part_differing self.entry.count self.entry.words.now set }
+    {
+        let count = store_rows(self.count, self.words, set, rows);
+        differs(count, &rows[..ROW_SIZE * (count as usize)])
     }
-    store_rows(n, words, set, rows);
-    if !part_differs(count, rows) {
-        return before;
-    }
-    Choice { flow: f, count }
-}
 
-// The first flow with fewest flows in a closure that is answered with 21.
-fn choose(n: u32, words: &[u32], sets: &[u64]) -> u32
-    requires { (table_of n words.now ≡ good (rows_in (table_of n words.now))) × (n ≤ length sets.now) × Closed words.now n sets.now }
-    ensures { result ≡ least_flow n words.now }
-{
-    let mut rows = [0u32; WORDS];
-    let mut best = Choice {
-        flow: 0,
-        count: MAX_FLOWS + 1,
-    };
-    let mut f: u32 = 0;
-    while f < n {
-        best = better(n, words, sets[f as usize], f, best, &mut rows);
-        f += 1;
+    // The first with fewest flows of the closures that the check answers with 21, where there is one.
+    fn choose(self, sets: &[u64]) -> Option<u64>
+        requires { sets.now ≡ sets_of self.count self.words.now self.count }
+        ensures { Chosen self.entry.count self.entry.words.now self.entry.count result }
+    {
+        let mut rows = [0u32; WORDS];
+        let mut least: Option<u64> = None;
+        for set in sets {
+            let count = rank(*set, self.count);
+            let fewer = least.is_none_or(|x| count < rank(x, self.count));
+            if fewer && self.part_differs(*set, &mut rows) {
+                least = Some(*set);
+            }
+        }
+        least
     }
-    best.flow
-}
 
-// The flows of the least part.
-fn least_set(n: u32, words: &[u32]) -> u64
-    requires { (table_of n words.now ≡ good (rows_in (table_of n words.now))) × (differing n words.now ≡ true) }
-    ensures { result ≡ set_of (least_set n words.now) n }
-{
-    let mut sets = [0u64; MAX_FLOWS as usize];
-    reach::reach(n, words, &mut sets);
-    let flow = choose(n, words, &sets);
-    sets[flow as usize]
+    // The flows of the least part.
+    fn least_set(self) -> u64
+        requires { differing self.count self.words.now ≡ true }
+        ensures { result ≡ set_of (least_set self.entry.count self.entry.words.now) self.entry.count }
+    {
+        let mut sets = [0u64; MAX_FLOWS as usize];
+        reach::reach(self.count, self.words, &mut sets).unwrap();
+        self.choose(&sets[..self.count as usize]).unwrap()
+    }
 }
 
 // The flows of the least part, or why there are none to give.
-fn seek(count: u32, words: &[u32]) -> Sought
-    ensures { Found count words.now result }
+fn seek(count: u32, words: &[u32]) -> Result<u64, Refused>
+    ensures { MatchResult result (Giving count words.now) (Refusing count words.now) }
 {
-    let found = table::examine(count, words);
-    if found.number != 0 {
-        return Sought::Refused(found.number, found.flow);
-    }
+    table::examine(count, words)?;
     if !differs(count, words) {
-        return Sought::Refused(NOT_DIFFERING, 0);
+        return Err(Refusal::NotDiffering.at(0));
     }
-    Sought::Part(least_set(count, words))
-}
-
-// The rows of the least part, where there is room for them.
-fn give_rows(n: u32, words: &[u32], set: u64, part: &mut [u32]) -> Answer
-    requires { Giving n words.now set }
-    ensures answered { result ≡ least_answer n words.now (length part.old) }
-    ensures stored { part.new ≡ part_after n words.now part.old }
-{
-    if part.len() < ROW_SIZE * (rank(set, n) as usize) {
-        return Answer::refusal(NO_ROOM, 0);
-    }
-    Answer::success(store_rows(n, words, set, part))
-}
-
-// The numbers that the flows of the least part have in the plan, where there is room for them.
-fn give_flows(n: u32, words: &[u32], set: u64, flows: &mut [u32]) -> Answer
-    requires { Giving n words.now set }
-    ensures answered { result ≡ flows_answer n words.now (length flows.old) }
-    ensures stored { flows.new ≡ flows_after n words.now flows.old }
-{
-    if flows.len() < rank(set, n) as usize {
-        return Answer::refusal(NO_ROOM, 0);
-    }
-    Answer::success(store_flows(n, set, flows))
+    let plan = Plan { count, words };
+    Ok(plan.least_set())
 }
 
 // The part of a plan with fewest flows that the check still answers with 21, its flows renumbered in order: the count of its flows, and four words
 // a flow; or the first refusal, which leaves the part.
-pub fn least(count: u32, words: &[u32], part: &mut [u32]) -> Answer
-    ensures answered { result ≡ least_answer count words.now (length part.old) }
+pub fn least(count: u32, words: &[u32], part: &mut [u32]) -> Result<u32, Refused>
+    ensures answered { parts result ≡ least_answer count words.now (length part.old) }
     ensures stored { part.new ≡ part_after count words.now part.old }
 {
-    let found = seek(count, words);
-    match found {
-        Sought::Refused(number, row) => Answer::refusal(number, row),
-        Sought::Part(set) => give_rows(count, words, set, part),
+    let set = seek(count, words)?;
+    if part.len() < ROW_SIZE * (rank(set, count) as usize) {
+        return Err(Refusal::NoRoom.at(0));
     }
+    Ok(store_rows(count, words, set, part))
 }
 
 // The numbers that the flows of that part have in the plan, in order: their count, and a word a flow; or the first refusal, which leaves the flows.
-pub fn least_flows(count: u32, words: &[u32], flows: &mut [u32]) -> Answer
-    ensures answered { result ≡ flows_answer count words.now (length flows.old) }
+pub fn least_flows(count: u32, words: &[u32], flows: &mut [u32]) -> Result<u32, Refused>
+    ensures answered { parts result ≡ flows_answer count words.now (length flows.old) }
     ensures stored { flows.new ≡ flows_after count words.now flows.old }
 {
-    let found = seek(count, words);
-    match found {
-        Sought::Refused(number, row) => Answer::refusal(number, row),
-        Sought::Part(set) => give_flows(count, words, set, flows),
+    let set = seek(count, words)?;
+    if flows.len() < rank(set, count) as usize {
+        return Err(Refusal::NoRoom.at(0));
     }
+    Ok(store_flows(count, set, flows))
 }

@@ -3,30 +3,15 @@
 #![tactic(auto)]
 
 use std::io;
-use table::Answer;
-
-// Some text, and a number after it.
-fn part(rt: &impl Print, before: &[u8], n: u32) -> io::Result<()> {
-    rt.write_all(before)?;
-    print!(rt; "{n}")
-}
-
-// Each word, after a space.
-fn listed(rt: &impl Print, words: &[u32]) -> io::Result<()> {
-    for x in words {
-        part(rt, b" ", *x)?;
-    }
-    Ok(())
-}
+use table::Refused;
 
 // A line with the four parts of an answer, and the words of a buffer.
-fn line(rt: &impl Print, a: Answer, words: &[u32]) -> io::Result<()> {
-    part(rt, b"", a.number)?;
-    part(rt, b" ", a.flow)?;
-    part(rt, b" ", a.tick)?;
-    part(rt, b" ", a.count)?;
-    print!(rt; ":")?;
-    listed(rt, words)?;
+fn line(rt: &impl Print, answered: Result<u32, Refused>, words: &[u32]) -> io::Result<()> {
+    let answer = table::parts(answered);
+    print!(rt; "{answer}:")?;
+    for word in words {
+        print!(rt; " {word}")?;
+    }
     println!(rt)
 }
 

@@ -4,7 +4,6 @@
 ghost use Rattle.std.specs.Prelude.{IfOk};
 ghost use Rattle.list.specs.Private.Inputs.{Within};
 
-use lister::Listed;
 use std::io;
 use std::io::Read;
 use std::process::ExitCode;
@@ -30,12 +29,10 @@ fn read_all(input: &mut impl Read, packed: &mut [u8]) -> io::Result<usize>
 // Writes the listing of a packed table.
 fn list(rt: &impl Print, packed: &[u8]) -> io::Result<()> {
     let mut text = [0u8; lister::LONGEST];
-    let listed = lister::listing(packed, &mut text);
-    let Listed::Bytes(size) = listed else {
+    let Ok(size) = lister::listing(packed, &mut text) else {
         return Ok(());
     };
-    let end = size as usize;
-    rt.write_all(&text[..end])
+    rt.write_all(&text[..size as usize])
 }
 
 // Says on standard error in a line what failed, as far as it can be said.

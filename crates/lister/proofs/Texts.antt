@@ -3,7 +3,7 @@ use mathlib.Core.Path.{◌≡◌, refl, sym, ◌∙◌, ap, ap₂}
 use Prim.Native.Nat.{ℕ, zero, suc, ◌+◌, ◌*◌, ◌/◌, ◌%◌, ◌≤◌, ◌<◌}
 use native.Mathlib.Omega.{arith}
 use mathlib.Core.Bool.{Bool, true, false}
-use mathlib.Core.List.{List, [], ◌∷◌, ◌++◌, append_assoc}
+use mathlib.Core.List.{List, [], ◌∷◌, ◌++◌, append-nil, append_assoc}
 use lib.ListN.{length, drop, length-append}
 use lib.Seq.{drop-append_seam}
 use lib.Dec.{eqb, leb, eqb-suc-zero}
@@ -11,22 +11,25 @@ use borrow.Author.Tests.{le-leb, lt-leb}
 use Rattle.text.specs.Text.{line_feed, space, decimal, Wrote}
 use Rattle.text.proofs.Decimal.{digits_fit}
 use Rattle.text.proofs.Writing.{whole_text}
-use Rattle.table.specs.declared.Answer.{Answer}
-use Rattle.table.specs.Answers.{Refusal, good, refused, number, success, over, answer, leaves}
+use Rattle.std.specs.Prelude.{Ok, Err}
+use Rattle.table.specs.declared.refusal.Refused.{Refused}
+use Rattle.table.specs.declared.refusal.Refusal.{Refusal}
+use Rattle.table.specs.declared.refusal.Refusal.TheVariants.{NoRoom}
+use Rattle.table.specs.Answers.{good, refused, number, success, refusal, parts, over, leaves}
 use Rattle.table.specs.Bits.{bit}
 use Rattle.table.specs.Rows.{max_flows, max_field}
-use Rattle.table.proofs.AnswerLaws.{answer_zero, answer_other}
+use Rattle.table.proofs.AnswerLaws.{told_ok, told_err}
 use Rattle.checker.specs.Rules.{max_conditions, Every, Below, Direct, FirstViewed, Within, AllWithin}
 use Rattle.checker.specs.Clocks.{Condition, Clock}
 use Rattle.checker.specs.Answers.{clock_size, condition_word, four_words, clock_words, clocks_words}
 use Rattle.checker.proofs.RuleLaws.{limits}
 use Rattle.checker.proofs.Agree.{few}
 use Rattle.checker.proofs.WordLaws.{view_of, clock_words_lem}
-use Rattle.lister.specs.declared.Listed.TheVariants.{Bytes, NoRoom}
 use Rattle.lister.specs.Listing.{letter_c, sign, view_text, field, okay, condition_text, conditions_from, conditions_text, line_text, lines_from, ok_text, refusal_text}
-use Rattle.lister.specs.Listing.{checked, listing_of, longest_time, longest_view, longest_line, longest, listing, parts, listing_answer, text_after}
+use Rattle.lister.specs.Listing.{checked, listing_of, longest_time, longest_view, longest_line, longest, listing, listing_answer, text_after}
 use Rattle.lister.specs.Private.Words.{word_text, words_text, counted_text, clock_text, clocks_text, table_text}
-use Rattle.lister.proofs.Joined.{checked_clocks}
+use Rattle.packed_check.specs.Checked.{checked_in, packed_answer, packed_after}
+use Rattle.lister.proofs.Joined.{checked_in_all, checked_clocks}
 
 word_condition : (c : Condition) → word_text (condition_word c) c.view ≡ condition_text c
 unfolding word_text condition_text
@@ -47,10 +50,10 @@ counted_text_lem : (cs : List Condition) (rest : List ℕ) → length cs ≤ max
     → counted_text (length cs) ((four_words condition_word cs ++ four_words view_of cs) ++ rest) ≡ conditions_text cs
 unfolding counted_text words_text conditions_from
 counted_text_lem [] rest l = refl
-counted_text_lem (a ∷ []) rest l = rw (word_condition a)
-counted_text_lem (a ∷ b ∷ []) rest l = rw (word_condition a, word_condition b)
-counted_text_lem (a ∷ b ∷ c ∷ []) rest l = rw (word_condition a, word_condition b, word_condition c)
-counted_text_lem (a ∷ b ∷ c ∷ d ∷ []) rest l = rw (word_condition a, word_condition b, word_condition c, word_condition d)
+counted_text_lem (a ∷ []) rest l = rw (word_condition a) (sym (append-nil (condition_text a)))
+counted_text_lem (a ∷ b ∷ []) rest l = rw (word_condition a, word_condition b) (simp append-nil)
+counted_text_lem (a ∷ b ∷ c ∷ []) rest l = rw (word_condition a, word_condition b, word_condition c) (simp (append-nil, append_assoc))
+counted_text_lem (a ∷ b ∷ c ∷ d ∷ []) rest l = rw (word_condition a, word_condition b, word_condition c, word_condition d) (simp (append-nil, append_assoc))
 counted_text_lem (a ∷ b ∷ c ∷ d ∷ e ∷ cs) rest l = absurd (omega arith)
 
 clock_line : (f : ℕ) (k : Clock) (rest : List ℕ) → length k.conditions ≤ max_conditions → clock_text f (clock_words k ++ rest) ≡ line_text f k
@@ -147,31 +150,29 @@ unfolding listing_of
 listing_good bs ks e = rw e
 
 -- what the answer to reading and the check says of the listing
-module _ (bs : List ℕ) (a : Answer) (e : a ≡ answer length (checked bs)) where
-  pub refusal_listed : (a.number ≡ 0 → ⊥) → refusal_text a.number a.flow ≡ listing_of bs
-  refusal_listed h =
-      let x = answer_other length (checked bs) (λ z. h (ap (λ (w : Answer). w.number) e ∙ z)) in
-      let q = e ∙ ap (answer length) x.2 in
-      ap₂ refusal_text (ap (λ (w : Answer). w.number) q) (ap (λ (w : Answer). w.flow) q) ∙ listing_refused bs x.0 x.1 x.2
+module _ (bs : List ℕ) where
+  pub refusal_listed : (x : Refused) → parts (Err x) ≡ packed_answer bs (clock_size * max_flows) → refusal_text (number x.why) x.flow ≡ listing_of bs
+  refusal_listed x told =
+      listing_refused bs x.why x.flow (sym (checked_in_all bs) ∙ (told_err length (checked_in bs (clock_size * max_flows)) x told).0)
 
-  pub table_listed : (zeros clocks : List ℕ) → a.number ≡ 0 → clocks ≡ leaves clocks_words (checked bs) zeros
-      → (a.count ≤ max_flows) × (length (table_text a.count clocks) ≤ longest) × (table_text a.count clocks ≡ listing_of bs)
-  table_listed zeros clocks h l =
-      let z = answer_zero length (checked bs) (sym (ap (λ (w : Answer). w.number) e) ∙ h) in
+  pub table_listed : (n : ℕ) (zeros clocks : List ℕ) → parts (Ok n) ≡ packed_answer bs (clock_size * max_flows) → length zeros ≡ clock_size * max_flows
+      → clocks ≡ packed_after bs zeros → (n ≤ max_flows) × (length (table_text n clocks) ≤ longest) × (table_text n clocks ≡ listing_of bs)
+  table_listed n zeros clocks told r l =
+      let z = told_ok length (checked_in bs (clock_size * max_flows)) n told in
       let ks = z.0 in
-      let n : a.count ≡ length ks = ap (λ (w : Answer). w.count) (e ∙ ap (answer length) z.1) in
-      let b = checked_clocks bs ks z.1 in
-      let w : clocks ≡ over (clocks_words ks) zeros = l ∙ ap (λ r. leaves clocks_words r zeros) z.1 in
-      let t : table_text a.count clocks ≡ ok_text ks = ap₂ table_text n w ∙ table_text_lem ks (drop (length (clocks_words ks)) zeros) b.1 in
-      (omega (arith, b.0), omega (arith, ap length t, ok_length ks b.0 b.1), t ∙ listing_good bs ks z.1)
+      let e : checked bs ≡ good ks = sym (checked_in_all bs) ∙ z.1.0 in
+      let b = checked_clocks bs ks e in
+      let w : clocks ≡ over (clocks_words ks) zeros = l ∙ ap (λ x. leaves clocks_words x zeros) (ap (checked_in bs) r ∙ z.1.0) in
+      let t : table_text n clocks ≡ ok_text ks = ap₂ table_text z.1.1 w ∙ table_text_lem ks (drop (length (clocks_words ks)) zeros) b.1 in
+      (omega (arith, b.0, z.1.1), omega (arith, ap length t, ok_length ks b.0 b.1), t ∙ listing_good bs ks e)
 
-pub no_room_lem : (bs old : List ℕ) → length old < longest → (parts NoRoom ≡ listing_answer bs (length old)) × (old ≡ text_after bs old)
+pub no_room_lem : (bs old : List ℕ) → length old < longest → (refusal NoRoom 0 ≡ listing_answer bs (length old)) × (old ≡ text_after bs old)
 unfolding listing
 no_room_lem bs old h = let e : leb longest (length old) ≡ false = lt-leb longest (length old) h in (rw e, rw e)
 
 -- a listing that was written into a text with room for the longest
 pub all_room : (bs : List ℕ) {old new bytes : List ℕ} {size : ℕ} → longest ≤ length old → length bytes ≤ longest → bytes ≡ listing_of bs → Wrote 0 bytes old size new
-    → (parts (Bytes size) ≡ listing_answer bs (length old)) × (new ≡ text_after bs old)
+    → (success size ≡ listing_answer bs (length old)) × (new ≡ text_after bs old)
 unfolding listing
 all_room bs {old} {new} {bytes} {size} h s e w =
     let l : leb longest (length old) ≡ true = le-leb longest (length old) h in

@@ -2,15 +2,13 @@
 use Rattle.std.specs.Prelude.{ℕ, suc, ◌+◌, ◌*◌, Bool, true, false, cond, List, [], ◌∷◌, ◌++◌, length, eqb, leb}
 use Rattle.text.specs.Text.{line_feed, space, decimal}
 use Rattle.table.specs.declared.Answer.{Answer}
-use Rattle.table.specs.Answers.{Result, good, refused, unless, then, number, no_room, success, refusal, answer, leaves}
+use Rattle.table.specs.declared.refusal.Refusal.TheVariants.{NoRoom}
+use Rattle.table.specs.Answers.{Result, good, refused, unless, number, answer, leaves}
 use Rattle.table.specs.Rows.{max_flows}
-use Rattle.table.specs.Plain.{joined}
-use Rattle.table.specs.Packed.{unpacked}
 use Rattle.checker.specs.Clocks.{Condition, Clock}
 use Rattle.checker.specs.Rules.{max_conditions}
-use Rattle.checker.specs.Answers.{clock_size, checking}
-use Rattle.lister.specs.declared.Listed.{Listed}
-use Rattle.lister.specs.declared.Listed.TheVariants.{Bytes, NoRoom}
+use Rattle.checker.specs.Answers.{clock_size}
+use Rattle.packed_check.specs.Checked.{checked_in}
 
 -- ASCII: plus, minus, at sign, c
 abbrev pub plus : ℕ
@@ -78,7 +76,7 @@ result_text (refused why f) = refusal_text (number why) f
 
 -- what reading and then the check come to, with room for the clocks of any table
 unfoldable pub checked : List ℕ → Result (List Clock)
-checked packed = then (unpacked packed) λ ws. checking (length ws) (joined ws) (clock_size * max_flows)
+checked packed = checked_in packed (clock_size * max_flows)
 
 unfoldable pub listing_of : List ℕ → List ℕ
 listing_of packed = result_text (checked packed)
@@ -99,12 +97,7 @@ longest = 6 + longest_line * max_flows
 
 -- what the listing comes to where there is room for so many bytes
 unfoldable pub listing : List ℕ → ℕ → Result (List ℕ)
-listing packed room = unless (leb longest room) no_room 0 (good (listing_of packed))
-
--- the four parts of each case of what the listing answers
-abbrev pub parts : Listed → Answer
-parts (Bytes n) = success n
-parts NoRoom = refusal no_room 0
+listing packed room = unless (leb longest room) NoRoom 0 (good (listing_of packed))
 
 -- What it answers, and leaves in the lent text.
 abbrev pub listing_answer : List ℕ → ℕ → Answer

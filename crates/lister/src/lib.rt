@@ -1,17 +1,17 @@
 // The listing of a packed table, as text.
 #![tactic(auto)]
 
-ghost use Rattle.std.specs.Prelude.{◌≡◌, [], ◌∷◌, ◌*◌, ◌%◌, ◌≤◌, ◌<◌, length, drop, eqb};
-ghost use Rattle.text.specs.Text.{space, Wrote};
-ghost use Rattle.table.specs.Answers.{answer, leaves};
-ghost use Rattle.table.specs.Rows.{max_flows};
-ghost use Rattle.checker.specs.Answers.{clock_size, clocks_words};
-ghost use Rattle.lister.specs.Listing.{field, sign, view_text, refusal_text, checked, longest, parts, listing_answer, text_after};
+ghost use Rattle.std.specs.Prelude.{◌≡◌, ◌*◌, ◌%◌, ◌≤◌, length, eqb};
+ghost use Rattle.text.specs.Text.{Wrote};
+ghost use Rattle.text.specs.Writers.{Writes};
+ghost use Rattle.table.specs.Answers.{number, parts};
+ghost use Rattle.checker.specs.Answers.{clock_size};
+ghost use Rattle.lister.specs.Listing.{field, sign, view_text, refusal_text, longest, listing_answer, text_after};
 ghost use Rattle.lister.specs.Private.Words.{word_text, words_text, counted_text, clock_text, clocks_text, table_text};
 
 use checker::{CLOCK_SIZE, CLOCKS};
-use table::{Answer, ROW_SIZE, Reading, word_at};
-use text::{put, put_decimal};
+use table::{Refusal, Refused, word_at};
+use text::Writer;
 
 const MAX_FLOWS: usize = table::MAX_FLOWS as usize;
 
@@ -26,28 +26,12 @@ const LONGEST_LINE: usize = 6 + 2 * LONGEST_TIME + 4 * MAX_CONDITIONS + LONGEST_
 
 pub const LONGEST: usize = 6 + LONGEST_LINE * MAX_FLOWS;
 
-// What the listing answers: how many bytes it wrote, or that the text has too little room.
-#[derive(Clone, Copy)]
-pub enum Listed {
-    Bytes(u32),
-    NoRoom,
-}
-
-// Writes two letters and a space.
-fn put_tag(text: &mut [u8], at: usize, first: u8, second: u8) -> usize
-    ensures { Wrote at (first ∷ second ∷ space ∷ []) text.old result text.new }
-{
-    let next = put(text, at, first);
-    let last = put(text, next, second);
-    put(text, last, b' ')
-}
-
 // Writes a number and a space.
-fn put_field(text: &mut [u8], at: usize, n: u32) -> usize
-    ensures { Wrote at (field n) text.old result text.new }
+fn put_field(writer: &mut Writer, n: u32)
+    ensures { Writes (field n) writer.old writer.new }
 {
-    let next = put_decimal(text, at, n);
-    put(text, next, b' ')
+    writer.put_decimal(n);
+    writer.put(b' ');
 }
 
 // The sign of a condition's word.
@@ -58,145 +42,112 @@ fn sign(word: u32) -> u8
 }
 
 // Writes a view period, and nothing where it is 0.
-fn put_view(text: &mut [u8], at: usize, view: u32) -> usize
-    ensures { Wrote at (view_text view) text.old result text.new }
+fn put_view(writer: &mut Writer, view: u32)
+    ensures { Writes (view_text view) writer.old writer.new }
 {
-    if view == 0 {
-        return at;
+    if view != 0 {
+        writer.put(b'@');
+        writer.put_decimal(view);
     }
-    let next = put(text, at, b'@');
-    put_decimal(text, next, view)
 }
 
 // Writes a condition by its word and its view period.
-fn put_condition(text: &mut [u8], at: usize, word: u32, view: u32) -> usize
-    ensures { Wrote at (word_text word view) text.old result text.new }
+fn put_condition(writer: &mut Writer, word: u32, view: u32)
+    ensures { Writes (word_text word view) writer.old writer.new }
 {
-    let next = put(text, at, b'c');
-    let last = put_decimal(text, next, word / 2);
-    let signed = put(text, last, sign(word));
-    put_view(text, signed, view)
+    writer.put(b'c');
+    writer.put_decimal(word / 2);
+    writer.put(sign(word));
+    put_view(writer, view);
 }
 
-// Writes n conditions, of which the words stand from a place on, and the view periods behind the words of the most conditions.
-fn put_words(text: &mut [u8], at: usize, words: &[u32], from: usize, n: u32) -> usize
-    requires { from ≤ clock_size * max_flows }
-    ensures { Wrote at (words_text n (drop from words.now)) text.old result text.new }
+// Writes n conditions by their words, and the view periods behind the words of the most conditions.
+fn put_words(writer: &mut Writer, words: &[u32], n: u32)
+    ensures { Writes (words_text n words.now) writer.old writer.new }
 {
-    let mut next = at;
-    let mut i: u32 = 0;
-    while i < n {
-        let place = from + (i as usize);
+    for i in 0..n {
+        let place = i as usize;
         let word = word_at(words, place);
         let view = word_at(words, place + MAX_CONDITIONS);
-        next = put_condition(text, next, word, view);
-        i += 1;
+        put_condition(writer, word, view);
     }
-    next
 }
 
 // Writes n conditions, or a lone minus where there are none.
-fn put_conditions(text: &mut [u8], at: usize, words: &[u32], from: usize, n: u32) -> usize
-    requires { from ≤ clock_size * max_flows }
-    ensures { Wrote at (counted_text n (drop from words.now)) text.old result text.new }
+#[tactic(auto, unfolding(crate::specs::Private::Words::counted_text))]
+fn put_conditions(writer: &mut Writer, words: &[u32], n: u32)
+    ensures { Writes (counted_text n words.now) writer.old writer.new }
 {
     if n == 0 {
-        return put(text, at, b'-');
+        writer.put(b'-');
+    } else {
+        put_words(writer, words, n);
     }
-    put_words(text, at, words, from, n)
 }
 
-// Writes the line of flow f.
-fn put_line(text: &mut [u8], at: usize, words: &[u32], f: u32) -> usize
-    requires { f < max_flows }
-    ensures { Wrote at (clock_text f (drop (clock_size * f) words.now)) text.old result text.new }
+// Writes the line of flow f by the words of its clock.
+fn put_line(writer: &mut Writer, f: u32, clock: &[u32])
+    requires { 3 ≤ length clock.now }
+    ensures { Writes (clock_text f clock.now) writer.old writer.new }
 {
-    let from = CLOCK_SIZE * (f as usize);
-    let period = word_at(words, from);
-    let phase = word_at(words, from + 1);
-    let n = word_at(words, from + 2);
-    let first = put_field(text, at, f);
-    let second = put_field(text, first, period);
-    let third = put_field(text, second, phase);
-    let last = put_conditions(text, third, words, from + 3, n);
-    put(text, last, b'\n')
+    let period = word_at(clock, 0);
+    let phase = word_at(clock, 1);
+    let n = word_at(clock, 2);
+    put_field(writer, f);
+    put_field(writer, period);
+    put_field(writer, phase);
+    put_conditions(writer, &clock[3..], n);
+    writer.put(b'\n');
 }
 
 // Writes a line for each of n flows.
-fn put_lines(text: &mut [u8], at: usize, words: &[u32], n: u32) -> usize
-    requires { n ≤ max_flows }
-    ensures { Wrote at (clocks_text n 0 words.now) text.old result text.new }
+fn put_lines(writer: &mut Writer, words: &[u32], n: u32)
+    requires { clock_size * n ≤ length words.now }
+    ensures { Writes (clocks_text n 0 words.now) writer.old writer.new }
 {
-    let mut next = at;
-    let mut f: u32 = 0;
-    while f < n {
-        next = put_line(text, next, words, f);
-        f += 1;
+    for f in 0..n {
+        put_line(writer, f, &words[CLOCK_SIZE * (f as usize)..]);
     }
-    next
 }
 
-// Writes the listing of a table that was accepted.
+// Writes the listing of a table that was accepted, and answers its size.
 fn put_table(text: &mut [u8], words: &[u32], n: u32) -> usize
-    requires { n ≤ max_flows }
+    requires { clock_size * n ≤ length words.now }
     ensures { Wrote 0 (table_text n words.now) text.old result text.new }
 {
-    let tagged = put_tag(text, 0, b'o', b'k');
-    let counted = put_decimal(text, tagged, n);
-    let headed = put(text, counted, b'\n');
-    put_lines(text, headed, words, n)
+    let mut writer = Writer::new(text);
+    writer.put_bytes(b"ok ");
+    writer.put_decimal(n);
+    writer.put(b'\n');
+    put_lines(&mut writer, words, n);
+    writer.at
 }
 
-// Writes the one line of a refusal.
-fn put_refusal(text: &mut [u8], number: u32, flow: u32) -> usize
-    ensures wrote { Wrote 0 (refusal_text number flow) text.old result text.new }
-    ensures flow_len_bound { length (refusal_text number flow) ≤ longest }
+// Writes the one line of a refusal, and answers its size.
+fn put_refusal(text: &mut [u8], refused: Refused) -> usize
+    ensures wrote { Wrote 0 (refusal_text (number refused.why) refused.flow) text.old result text.new }
+    ensures len_bound { length (refusal_text (number refused.why) refused.flow) ≤ longest }
 {
-    let tagged = put_tag(text, 0, b'n', b'o');
-    let numbered = put_field(text, tagged, number);
-    let named = put_decimal(text, numbered, flow);
-    put(text, named, b'\n')
+    let mut writer = Writer::new(text);
+    writer.put_bytes(b"no ");
+    put_field(&mut writer, refused.why.number());
+    writer.put_decimal(refused.flow);
+    writer.put(b'\n');
+    writer.at
 }
 
-// Reads a packed table, stops where that fails, and checks the table.
-fn checked(packed: &[u8], clocks: &mut [u32]) -> Answer
-    requires { length clocks.old ≡ clock_size * max_flows }
-    ensures value { result ≡ answer length (checked packed.now) }
-    ensures clocks_after { clocks.new ≡ leaves clocks_words (checked packed.now) clocks.old }
-{
-    let mut words = [0u32; ROW_SIZE * MAX_FLOWS];
-    let reading = table::read(packed, &mut words);
-    let Reading::Table { count } = reading else {
-        return table::parts(reading);
-    };
-    let size = ROW_SIZE * (count as usize);
-    checker::check(count, &words[..size], clocks)
-}
-
-// The listing of a packed table: its clocks, or the one line of a refusal by reading or by the check.
-pub fn listing(packed: &[u8], text: &mut [u8]) -> Listed
+// The listing of a packed table, its clocks or the one line of a refusal by reading or by the check: how many bytes it has. A text that is too
+// short for the longest is left as it was.
+pub fn listing(packed: &[u8], text: &mut [u8]) -> Result<u32, Refused>
     ensures answered { parts result ≡ listing_answer packed.now (length text.old) }
     ensures stored { text.new ≡ text_after packed.now text.old }
 {
     if text.len() < LONGEST {
-        return Listed::NoRoom;
+        return Err(Refusal::NoRoom.at(0));
     }
     let mut clocks = [0u32; CLOCKS];
-    let answer = checked(packed, &mut clocks);
-    if answer.number != 0 {
-        let refused = put_refusal(text, answer.number, answer.flow);
-        return Listed::Bytes(refused as u32);
-    }
-    let accepted = put_table(text, &clocks, answer.count);
-    Listed::Bytes(accepted as u32)
-}
-
-// The four parts of what the listing answers.
-pub fn parts(listed: Listed) -> Answer
-    ensures { result ≡ parts listed }
-{
-    match listed {
-        Listed::Bytes(size) => Answer::success(size),
-        Listed::NoRoom => Answer::refusal(10, 0),
+    match packed_check::check_packed(packed, &mut clocks) {
+        Ok(count) => Ok(put_table(text, &clocks, count) as u32),
+        Err(refused) => Ok(put_refusal(text, refused) as u32),
     }
 }

@@ -2,9 +2,8 @@ pub mod Rounding
 pub mod Lines
 pub mod Keys
 pub mod Orders
-mod Selecting
 mod Sums
-mod Turns
+mod Sorting
 pub mod Widths
 pub mod Pages
 pub mod Shown

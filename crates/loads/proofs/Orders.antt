@@ -8,7 +8,7 @@ use lib.ListN.{length}
 use lib.Dec.{ltb}
 use borrow.Author.Tests.{ltb-true, ltb-false}
 use Rattle.table.specs.Rows.{max_flows}
-use Rattle.loads.specs.Loads.{Line, load, lines_from, Before, key, insert, sorted, Among, here, there, Standing, Ordered, total}
+use Rattle.loads.specs.Loads.{Line, lines_from, Before, key, insert, sorted, Among, here, there, Standing, Ordered}
 use Rattle.loads.proofs.Lines.{Bounded}
 use Rattle.loads.proofs.Keys.{not_both, key_flow, before}
 
@@ -60,15 +60,6 @@ insert_length l (h ∷ ls) = go (ltb (key l) (key h)) (insert_length l ls)
     go true r = refl
     go false r = ap suc r
 
-insert_total : (l : Line) (ls : List Line) → total (insert l ls) ≡ load l + total ls
-unfolding insert total
-insert_total l [] = refl
-insert_total l (h ∷ ls) = go (ltb (key l) (key h)) (insert_total l ls)
-  where
-    go : (b : Bool) → total (insert l ls) ≡ load l + total ls → total (cond b (l ∷ h ∷ ls) (h ∷ insert l ls)) ≡ load l + (load h + total ls)
-    go true r = refl
-    go false r = omega (arith, r)
-
 -- each key is above the one before it, the first at least a number
 abbrev pub Ascending : ℕ → List Line → Type 0
 Ascending from [] = Unit {0}
@@ -96,11 +87,6 @@ insert_ascending from l (g ∷ ls) a h d = go (ltb (key l) (key g)) refl (insert
 abbrev Distinct : List Line → Type 0
 Distinct [] = Unit {0}
 Distinct (l ∷ ls) = Apart l ls × Distinct ls
-
-pub sorted_total : (ls : List Line) → total (sorted ls) ≡ total ls
-unfolding sorted total
-sorted_total [] = refl
-sorted_total (l ∷ ls) = insert_total l (sorted ls) ∙ ap (λ (n : ℕ). load l + n) (sorted_total ls)
 
 pub sorted_size : (ls : List Line) → length (sorted ls) ≡ length ls
 unfolding sorted
@@ -146,16 +132,6 @@ module _ (line : ℕ → Line) where
           → (g : ℕ) × (f ≤ g) × (g < f + suc n) × (l ≡ line g)
       go (here e) r = (f, omega arith, omega arith, e)
       go (there j) r = let x = r j in (x.0, omega (arith, x.1), omega (arith, x.2), x.3)
-
-  pub in_lines : (n f g : ℕ) → f ≤ g → g < f + n → Among (line g) (lines_from line n f)
-  unfolding lines_from
-  in_lines zero f g p q = absurd (omega arith)
-  in_lines (suc n) f g p q = go (ltb f g) refl (in_lines n (suc f) g)
-    where
-      go : (b : Bool) → ltb f g ≡ b → (suc f ≤ g → g < suc f + n → Among (line g) (lines_from line n (suc f)))
-          → Among (line g) (line f ∷ lines_from line n (suc f))
-      go true e r = there (r (ltb-true f g e) (omega arith))
-      go false e r = let x : g ≡ f = omega (arith, ltb-false f g e) in here (ap line x)
 
   -- flows have their own numbers, below the most
   module _ (own : (g : ℕ) → (line g).flow ≡ g) where

@@ -8,7 +8,9 @@ use borrow.Author.Tests.{le-leb, lt-leb, eq-eqb, ne_eqb}
 use Rattle.text.specs.Text.{Wrote}
 use Rattle.text.proofs.Writing.{whole_text}
 use Rattle.table.specs.declared.Answer.{Answer}
-use Rattle.table.specs.Answers.{Refusal, good, refused, refusal, success, wrong_times, short_page}
+use Rattle.table.specs.declared.refusal.Refusal.{Refusal}
+use Rattle.table.specs.declared.refusal.Refusal.TheVariants.{WrongTimes, ShortPage}
+use Rattle.table.specs.Answers.{good, refused, refusal, success}
 use Rattle.table.proofs.AnswerLaws.{refused_leaves}
 use Rattle.table.specs.Rows.{max_flows}
 use Rattle.table.specs.Plain.{table_of}
@@ -18,14 +20,19 @@ use Rattle.checker.specs.Rules.{clock_at, clocks_of}
 use Rattle.checker.specs.Answers.{clock_size, clocks_for, check_answer}
 use Rattle.checker.proofs.CheckLaws.{AllSane}
 use Rattle.checker.proofs.Bounds.{accepted_sane, told_refusal, Told, told, told_word, told_period}
-use Rattle.loads.specs.Loads.{load, max_load, Line, line_of, lines_from, sorted, Among, Ordered, line_text, total, total_text, page_text, page_of, line_size, paging, page_answer, page_after}
-use Rattle.loads.specs.Private.Words.{line_in, lines_in, Loaded}
+use Rattle.loads.specs.Loads.{max_time, load, max_load, Line, line_of, lines_from, sorted, Among, Ordered, line_text, total, total_text, page_text, page_of, line_size, paging, page_answer, page_after}
+use Rattle.loads.specs.Private.Words.{line_in, lines_in}
+use Rattle.loads.proofs.Rounding.{rounded_bound}
 use Rattle.loads.proofs.Lines.{Bounded, bounded}
 use Rattle.loads.proofs.Orders.{sorted_size, sorted_same, sorted_only, lines_length, of_lines, lines_ascending, standing}
 use Rattle.loads.proofs.Sums.{lines_same, total_bound}
 use Rattle.loads.proofs.Widths.{line_length, total_length, page_length}
 
 -- ---- the page of an accepted plan
+
+-- times of 16 bits make loads that are bounded
+pub bounded_loads : (times : List ℕ) (ks : List Clock) (m : ℕ) → ((f : ℕ) → get_or times f 0 ≤ max_time) → (f : ℕ) → f < m → load (line_of ks times f) ≤ max_load
+bounded_loads times ks m t f l = omega (arith, rounded_bound (1000 * get_or times f 0) (clock_at ks f).period, t f)
 
 module _ (m : ℕ) (words times : List ℕ) (ks : List Clock) (e : clocks_for m words ≡ good ks) where
   pub accepted : (length ks ≡ m) × (m ≤ max_flows) × AllSane (clock_at ks) m
@@ -78,11 +85,11 @@ module _ (m : ℕ) (words times : List ℕ) (ks : List Clock) (e : clocks_for m 
   -- ---- each case
 
   module _ (room : ℕ) where
-    paging_times : (length times ≡ m → ⊥) → paging m words times room ≡ refused wrong_times 0
+    paging_times : (length times ≡ m → ⊥) → paging m words times room ≡ refused WrongTimes 0
     unfolding paging
     paging_times h = rw (e, ne_eqb (length times) m h)
 
-    paging_short : length times ≡ m → room < line_size * (m + 1) → paging m words times room ≡ refused short_page 0
+    paging_short : length times ≡ m → room < line_size * (m + 1) → paging m words times room ≡ refused ShortPage 0
     unfolding paging
     paging_short t h = rw (e, eq-eqb (length times) m t, lt-leb (line_size * (m + 1)) room h)
 
@@ -118,12 +125,12 @@ module _ {m : ℕ} {words zeros clocks : List ℕ} {found : Answer} (T : Told m 
     pub few : m ≤ max_flows
     few = (accepted m words times ks clocked).1
 
-    pub wrong_times_lem : (length times ≡ m → ⊥) → (old : List ℕ) → (refusal wrong_times 0 ≡ page_answer m words times (length old)) × (old ≡ page_after m words times old)
-    wrong_times_lem h old = refused_leaves length (λ (page : List ℕ). page) (paging m words times (length old)) old wrong_times 0 (paging_times m words times ks clocked (length old) h)
+    pub wrong_times_lem : (length times ≡ m → ⊥) → (old : List ℕ) → (refusal WrongTimes 0 ≡ page_answer m words times (length old)) × (old ≡ page_after m words times old)
+    wrong_times_lem h old = refused_leaves length (λ (page : List ℕ). page) (paging m words times (length old)) old WrongTimes 0 (paging_times m words times ks clocked (length old) h)
 
     pub short : length times ≡ m → (old : List ℕ) → length old < line_size * (m + 1)
-        → (refusal short_page 0 ≡ page_answer m words times (length old)) × (old ≡ page_after m words times old)
-    short t old h = refused_leaves length (λ (page : List ℕ). page) (paging m words times (length old)) old short_page 0 (paging_short m words times ks clocked (length old) t h)
+        → (refusal ShortPage 0 ≡ page_answer m words times (length old)) × (old ≡ page_after m words times old)
+    short t old h = refused_leaves length (λ (page : List ℕ). page) (paging m words times (length old)) old ShortPage 0 (paging_short m words times ks clocked (length old) t h)
 
     -- the lines by the words that the check left are those by the clocks
     line : (f : ℕ) → f < m → line_in clocks times f ≡ line_of ks times f
@@ -138,11 +145,11 @@ module _ {m : ℕ} {words zeros clocks : List ℕ} {found : Answer} (T : Told m 
         lines_same (line_in clocks times) (line_of ks times) m 0 (λ (f : ℕ). λ (l : f < 0 + m). line f (omega arith))
         ∙ ap (λ (n : ℕ). lines_from (line_of ks times) n 0) (sym (accepted m words times ks clocked).0)
 
-    pub done : {old new : List ℕ} {size : ℕ} → length times ≡ m → line_size * (m + 1) ≤ length old → Loaded clocks times m
+    pub done : {old new : List ℕ} {size : ℕ} → length times ≡ m → line_size * (m + 1) ≤ length old → ((f : ℕ) → get_or times f 0 ≤ max_time)
         → Wrote 0 (page_text (sorted (lines_in clocks times m))) old size new
         → (size ≡ line_size * (m + 1)) × (success size ≡ page_answer m words times (length old)) × (new ≡ page_after m words times old)
     done {old} {new} {size} t h b w =
-        let loads : (f : ℕ) → f < m → load (line_of ks times f) ≤ max_load = λ (f : ℕ). λ (l : f < m). subst (λ (y : Line). load y ≤ max_load) (line f l) (b.each f l) in
+        let loads = bounded_loads times ks m b in
         let bytes : List ℕ = page_of ks times in
         let n : length bytes ≡ line_size * (m + 1) = page_size m words times ks clocked loads in
         let same : page_text (sorted (lines_in clocks times m)) ≡ bytes = ap (λ (ls : List Line). page_text (sorted ls)) same_lines in

@@ -1,24 +1,23 @@
 -- What a caller finds on a page. Assumes nothing.
 use mathlib.Core.Path.{◌≡◌, refl, sym, ◌∙◌, ap}
 use Prim.Native.Nat.{ℕ, ◌+◌, ◌*◌, ◌≤◌, ◌<◌}
-use native.Mathlib.Omega.{arith}
 use mathlib.Core.List.{List}
 use lib.ListN.{length, get_or}
 use lib.Dec.{leb, eqb}
 use borrow.Author.Tests.{eqb-true}
 use Rattle.table.specs.declared.Answer.{Answer}
-use Rattle.table.specs.Answers.{Result, good, unless, over, answer, leaves, wrong_times, short_page}
+use Rattle.table.specs.declared.refusal.Refusal.TheVariants.{WrongTimes, ShortPage}
+use Rattle.table.specs.Answers.{Result, good, unless, over, answer, leaves}
 use Rattle.table.proofs.AnswerLaws.{answer_zero}
 use Rattle.table.proofs.Tests.{good_inj, then_good, unless_good}
 use Rattle.checker.specs.Clocks.{Clock}
-use Rattle.checker.specs.Rules.{clock_at}
 use Rattle.checker.specs.Answers.{clocks_for, check_answer}
 use Rattle.checker.proofs.Bounds.{check_whole}
 use Rattle.loads.specs.Loads.{rounded, max_time, max_load, load, line_of, page_of, line_size, paging}
 use Rattle.loads.specs.Shown.{Shown, LoadPage}
-use Rattle.loads.proofs.Rounding.{rounded_nearest, nearest_rounded, rounded_bound}
+use Rattle.loads.proofs.Rounding.{rounded_nearest, nearest_rounded}
 use Rattle.loads.proofs.Orders.{one_order}
-use Rattle.loads.proofs.Pages.{accepted, checked_refusal, lines, ordered, bounds, load_bounds, widths, total_bounds, last, page_size}
+use Rattle.loads.proofs.Pages.{bounded_loads, accepted, checked_refusal, lines, ordered, bounds, load_bounds, widths, total_bounds, last, page_size}
 
 -- a page that was made is that of the clocks that the check gives, with one time a flow
 page_made : (m : ℕ) (words times : List ℕ) (room : ℕ) (page : List ℕ) → paging m words times room ≡ good page
@@ -27,9 +26,9 @@ unfolding paging
 page_made m words times room page e =
     let x =
     then_good (clocks_for m words)
-    (λ ks. unless (eqb (length times) m) wrong_times 0 (unless (leb (line_size * (m + 1)) room) short_page 0 (good (page_of ks times)))) page e in
-    let y = unless_good (eqb (length times) m) wrong_times 0 (unless (leb (line_size * (m + 1)) room) short_page 0 (good (page_of x.0 times))) page x.2 in
-    let z = unless_good (leb (line_size * (m + 1)) room) short_page 0 (good (page_of x.0 times)) page y.1 in
+    (λ ks. unless (eqb (length times) m) WrongTimes 0 (unless (leb (line_size * (m + 1)) room) ShortPage 0 (good (page_of ks times)))) page e in
+    let y = unless_good (eqb (length times) m) WrongTimes 0 (unless (leb (line_size * (m + 1)) room) ShortPage 0 (good (page_of x.0 times))) page x.2 in
+    let z = unless_good (leb (line_size * (m + 1)) room) ShortPage 0 (good (page_of x.0 times)) page y.1 in
     (x.0, x.1, eqb-true (length times) m y.0, good_inj z.1)
 
 -- what a call shows that left the page of these clocks
@@ -54,7 +53,7 @@ page_shown m words times old new r ks e n t left count =
     }
   where
     loads : (f : ℕ) → f < m → load (line_of ks times f) ≤ max_load
-    loads f l = omega (arith, rounded_bound (1000 * get_or times f 0) (clock_at ks f).period, t f)
+    loads = bounded_loads times ks m t
 
 pub load_page : LoadPage
 load_page =

@@ -1,41 +1,43 @@
--- Lines and their loads, flow by flow. Assumes nothing.
-use mathlib.Core.Path.{◌≡◌, refl, ap₂}
-use Prim.Native.Nat.{ℕ, zero, suc, ◌+◌, ◌*◌, ◌-◌, ◌≤◌, ◌<◌}
-use native.Mathlib.Numerals.{add-one}
+-- Lines, flow by flow: their text and the sum of their loads. Assumes nothing.
+use mathlib.Core.Path.{◌≡◌, refl, sym, ◌∙◌, ap, ap₂}
+use Prim.Native.Nat.{ℕ, zero, suc, ◌+◌, ◌*◌, ◌≤◌, ◌<◌}
+use native.Mathlib.Nat.{add-zero, zero-add, suc-add}
 use native.Mathlib.Omega.{arith}
-use mathlib.Core.List.{List, [], ◌∷◌}
+use mathlib.Core.List.{List, [], ◌∷◌, ◌++◌, append-nil, append_assoc}
 use lib.ListN.{length}
-use Rattle.table.proofs.Lists.{below_suc}
-use Rattle.loads.specs.Loads.{max_load, Line, load, lines_from, Among, here, there, total}
-use Rattle.loads.specs.Private.Words.{line_in, Loaded}
+use Rattle.loads.specs.Loads.{max_load, Line, load, lines_from, Among, here, there, line_text, lines_text, total}
 
+-- a line more at the end
+total_push : (ls : List Line) (l : Line) → total (ls ++ (l ∷ [])) ≡ total ls + load l
+unfolding total
+total_push [] l = omega arith
+total_push (h ∷ ls) l = omega (arith, total_push ls l)
+
+pub text_push : (ls : List Line) (l : Line) → lines_text (ls ++ (l ∷ [])) ≡ lines_text ls ++ line_text l
+unfolding lines_text
+text_push [] l = append-nil (line_text l)
+text_push (h ∷ ls) l = ap (λ (w : List ℕ). line_text h ++ w) (text_push ls l) ∙ sym (append_assoc (line_text h) (lines_text ls) (line_text l))
+
+-- the lines of one flow more
 module _ (line : ℕ → Line) where
-  total_suc : (k n f : ℕ) → k ≡ suc n → total (lines_from line k f) ≡ load (line f) + total (lines_from line n (suc f))
-  unfolding lines_from total
-  total_suc k n f e = rw e
+  from_more : (n f : ℕ) → lines_from line (n + 1) f ≡ lines_from line n f ++ (line (f + n) ∷ [])
+  unfolding lines_from
+  from_more zero f = rw (add-zero f)
+  from_more (suc n) f =
+      let g : suc f + n ≡ f + suc n = omega arith in
+      rw (suc-add n 1, ← g) (ap (λ (ls : List Line). line f ∷ ls) (from_more n (suc f)))
 
-  total_none : (k f : ℕ) → k ≡ 0 → total (lines_from line k f) ≡ 0
-  unfolding lines_from total
-  total_none k f e = rw e
+  pub lines_more : (n : ℕ) → lines_from line (n + 1) 0 ≡ lines_from line n 0 ++ (line n ∷ [])
+  lines_more n = from_more n 0 ∙ ap (λ (g : ℕ). lines_from line n 0 ++ (line g ∷ [])) (zero-add n)
 
-  -- the load of flow f, and those after it
-  pub total_step : (n f : ℕ) → f < n → total (lines_from line (n - f) f) ≡ load (line f) + total (lines_from line (n - (f + 1)) (f + 1))
-  total_step n f h = rw (add-one f) (total_suc (n - f) (n - suc f) f (omega arith))
-
-  pub total_end : (n f : ℕ) → n ≤ f → total (lines_from line (n - f) f) ≡ 0
-  total_end n f h = total_none (n - f) f (omega arith)
+  pub total_more : (n : ℕ) → total (lines_from line (n + 1) 0) ≡ total (lines_from line n 0) + load (line n)
+  total_more n = ap total (lines_more n) ∙ total_push (lines_from line n 0) (line n)
 
   -- the same lines by another function
   pub lines_same : (line' : ℕ → Line) (n f : ℕ) → ((g : ℕ) → g < f + n → line g ≡ line' g) → lines_from line n f ≡ lines_from line' n f
   unfolding lines_from
   lines_same line' zero f h = refl
   lines_same line' (suc n) f h = ap₂ ◌∷◌ (h f (omega arith)) (lines_same line' n (suc f) (λ (g : ℕ). λ (l : g < suc f + n). h g (omega arith)))
-
-pub loaded_none : (ws times : List ℕ) → Loaded ws times 0
-loaded_none ws times = record { each = λ (f : ℕ). λ (l : f < 0). absurd (omega arith) }
-
-pub loaded_more : {ws times : List ℕ} {f : ℕ} → load (line_in ws times f) ≤ max_load → Loaded ws times f → Loaded ws times (f + 1)
-loaded_more {ws} {times} {f} h o = rw (add-one f) (record { each = below_suc (λ (g : ℕ). load (line_in ws times g) ≤ max_load) f o.each h })
 
 -- loads that are bounded have a bounded total
 pub total_bound : (ls : List Line) → ((l : Line) → Among l ls → load l ≤ max_load) → total ls ≤ max_load * length ls

@@ -2,7 +2,8 @@
 use Rattle.std.specs.Prelude.{◌≡◌, ℕ, zero, suc, ◌+◌, ◌*◌, ◌-◌, ◌/◌, ◌%◌, ◌≤◌, ◌<◌, cond, List, [], ◌∷◌, ◌++◌, length, get_or, ltb, leb, eqb}
 use Rattle.text.specs.Text.{line_feed, space, right}
 use Rattle.table.specs.declared.Answer.{Answer}
-use Rattle.table.specs.Answers.{Result, good, unless, then, answer, leaves, wrong_times, short_page}
+use Rattle.table.specs.declared.refusal.Refusal.TheVariants.{WrongTimes, ShortPage}
+use Rattle.table.specs.Answers.{Result, good, unless, then, answer, leaves}
 use Rattle.table.specs.Rows.{max_flows}
 use Rattle.checker.specs.Clocks.{Clock}
 use Rattle.checker.specs.Rules.{max_derived, clock_at}
@@ -145,8 +146,8 @@ line_size = 26
 unfoldable pub paging : ℕ → List ℕ → List ℕ → ℕ → Result (List ℕ)
 paging m words times room =
     then (clocks_for m words) λ ks.
-    unless (eqb (length times) m) wrong_times 0
-    (unless (leb (line_size * (m + 1)) room) short_page 0 (good (page_of ks times)))
+    unless (eqb (length times) m) WrongTimes 0
+    (unless (leb (line_size * (m + 1)) room) ShortPage 0 (good (page_of ks times)))
 
 -- What it answers, and leaves in the lent page.
 abbrev pub page_answer : ℕ → List ℕ → List ℕ → ℕ → Answer

@@ -1,15 +1,16 @@
 // The load page of a plan, as text: what each flow costs, and the total.
 #![tactic(auto)]
 
-ghost use Rattle.std.specs.Prelude.{◌≡◌, ◌*◌, ◌≤◌, ◌<◌, length, get_or};
+ghost use Rattle.std.specs.Prelude.{◌≡◌, ◌*◌, ◌%◌, ◌≤◌, ◌<◌, length, map};
 ghost use Rattle.text.specs.Text.{Wrote};
+ghost use Rattle.text.specs.Writers.{Writes};
+ghost use Rattle.table.specs.Answers.{parts};
 ghost use Rattle.table.specs.Rows.{max_flows};
-ghost use Rattle.loads.specs.Loads.{rounded, max_load, load, sorted, field, line_text, lines_text, total, total_text, page_text, page_answer, page_after};
-ghost use Rattle.loads.specs.Private.Words.{line_in, lines_in, Loaded, key_in, no_key, Keyed, lesser, Least};
+ghost use Rattle.loads.specs.Loads.{rounded, max_load, load, key, sorted, field, line_text, lines_text, total, total_text, page_text, page_answer, page_after};
 
 use checker::{CLOCK_SIZE, CLOCKS};
-use table::{Answer, word_at};
-use text::{put, put_right};
+use table::{Refusal, Refused, word_at};
+use text::Writer;
 
 const MAX_FLOWS: u64 = table::MAX_FLOWS as u64;
 
@@ -19,8 +20,14 @@ const PHASES: u64 = checker::MAX_DERIVED + 1;
 // The bytes of a line.
 pub const LINE_SIZE: usize = 26;
 
-// No flow's key is as large.
-const NO_KEY: u64 = 9223372036854775808;
+// The flows of a plan that was accepted: how many, the words of their clocks, and their worst times.
+#[derive(Clone, Copy)]
+struct Flows<'a> {
+    count: u32,
+    clocks: &'a [u32],
+    times: &'a [u16],
+    ghost few: { count ≤ max_flows },
+}
 
 // 1000 times the worst time divided by the period, to the nearest whole, the half going to the even one; 0 over a period of 0, which no clock has.
 #[tactic(auto, using(crate::proofs::Rounding::load_down, crate::proofs::Rounding::load_up, crate::proofs::Rounding::load_bound))]
@@ -31,7 +38,7 @@ fn load(worst: u16, period: u32) -> u32
     if period == 0 {
         return 0;
     }
-    let x = 1000 * (worst as u32);
+    let x = 1000 * u32::from(worst);
     let whole = x / period;
     let rest = x % period;
     // One more where more than half of the period is left, or half and the whole is odd.
@@ -43,173 +50,125 @@ fn load(worst: u16, period: u32) -> u32
     }
 }
 
-// The worst time of flow f, 0 past the end.
-fn time_at(times: &[u16], f: u32) -> u16
-    ensures { result ≡ get_or times.now f 0 }
-{
-    let i = f as usize;
-    if i < times.len() { times[i] } else { 0 }
-}
-
-// The load of flow f.
-fn load_of(clocks: &[u32], times: &[u16], f: u32) -> u32
-    requires { f < max_flows }
-    ensures value { result ≡ load (line_in clocks.now times.now f) }
-    ensures upper_bound { result ≤ max_load }
-{
-    let period = word_at(clocks, CLOCK_SIZE * (f as usize));
-    load(time_at(times, f), period)
-}
-
-// The sum of the loads of n flows.
-fn sum(clocks: &[u32], times: &[u16], n: u32) -> u32
-    requires { n ≤ max_flows }
-    ensures value { result ≡ total (lines_in clocks.now times.now n) }
-    ensures loaded { Loaded clocks.now times.now n }
-{
-    let mut sum: u32 = 0;
-    let mut f: u32 = 0;
-    while f < n {
-        sum += load_of(clocks, times, f);
-        f += 1;
-    }
-    sum
-}
-
-// The key of flow f, by which lines stand: by period, equal periods by phase, and then by flow. Its remainder by MAX_FLOWS is the flow.
-fn key(clocks: &[u32], f: u32) -> u64
-    requires { f < max_flows }
-    ensures value { result ≡ key_in clocks.now f }
-    ensures upper_bound { result < no_key }
-{
-    let from = CLOCK_SIZE * (f as usize);
-    let period = word_at(clocks, from);
-    let phase = word_at(clocks, from + 1);
-    MAX_FLOWS * (PHASES * (period as u64) + (phase as u64)) + (f as u64)
-}
-
-// Keeps the keys of n flows, flow after flow.
-fn keep_keys(clocks: &[u32], n: u32, keys: &mut [u64])
-    requires { (n ≤ max_flows) × (n ≤ length keys.old) }
-    ensures { Keyed clocks.now n keys.new }
-{
-    let mut f: u32 = 0;
-    while f < n {
-        keys[f as usize] = key(clocks, f);
-        f += 1;
-    }
-}
-
-// The lesser of the best key so far and a key that is not below from.
-fn lesser(from: u64, k: u64, best: u64) -> u64
-    ensures { result ≡ lesser from k best }
-{
-    if k < from {
-        return best;
-    }
-    if k < best { k } else { best }
-}
-
-// The least of n keys that is not below from, NO_KEY where there is none.
-fn least(keys: &[u64], n: u32, from: u64) -> u64
-    requires { n ≤ length keys.now }
-    ensures { Least keys.now n from result }
-{
-    let mut best = NO_KEY;
-    let mut f: u32 = 0;
-    while f < n {
-        best = lesser(from, keys[f as usize], best);
-        f += 1;
-    }
-    best
-}
-
 // Writes a number, right-aligned in a width, and a space.
-fn put_field(text: &mut [u8], at: usize, width: usize, n: u32) -> usize
-    ensures { Wrote at (field width n) text.old result text.new }
+fn put_field(writer: &mut Writer, width: usize, n: u32)
+    ensures { Writes (field width n) writer.old writer.new }
 {
-    let next = put_right(text, at, width, n);
-    put(text, next, b' ')
-}
-
-// Writes the line of flow f.
-fn put_line(text: &mut [u8], at: usize, clocks: &[u32], times: &[u16], f: u32) -> usize
-    requires { f < max_flows }
-    ensures { Wrote at (line_text (line_in clocks.now times.now f)) text.old result text.new }
-{
-    let from = CLOCK_SIZE * (f as usize);
-    let period = word_at(clocks, from);
-    let phase = word_at(clocks, from + 1);
-    let conditions = word_at(clocks, from + 2);
-    let cost = load_of(clocks, times, f);
-    let first = put_field(text, at, 2, f);
-    let second = put_field(text, first, 5, period);
-    let third = put_field(text, second, 5, phase);
-    let fourth = put_field(text, third, 1, conditions);
-    let last = put_right(text, fourth, 8, cost);
-    put(text, last, b'\n')
-}
-
-// Writes the lines of n flows in order, which their keys give.
-fn put_lines(text: &mut [u8], clocks: &[u32], times: &[u16], keys: &[u64], n: u32) -> usize
-    requires { (n ≤ max_flows) × (n ≤ length keys.now) × Keyed clocks.now n keys.now }
-    ensures { Wrote 0 (lines_text (sorted (lines_in clocks.now times.now n))) text.old result text.new }
-{
-    let mut next: usize = 0;
-    let mut from: u64 = 0;
-    let mut i: u32 = 0;
-    while i < n {
-        let k = least(keys, n, from);
-        next = put_line(text, next, clocks, times, (k % MAX_FLOWS) as u32);
-        from = k + 1;
-        i += 1;
-    }
-    next
+    writer.put_right(width, n);
+    writer.put(b' ');
 }
 
 // Writes the last line.
-fn put_total(text: &mut [u8], at: usize, sum: u32) -> usize
-    ensures { Wrote at (total_text sum) text.old result text.new }
+fn put_total(writer: &mut Writer, sum: u32)
+    ensures { Writes (total_text sum) writer.old writer.new }
 {
-    let one = put(text, at, b't');
-    let two = put(text, one, b'o');
-    let three = put(text, two, b't');
-    let four = put(text, three, b'a');
-    let five = put(text, four, b'l');
-    let last = put_right(text, five, 20, sum);
-    put(text, last, b'\n')
+    writer.put_bytes(b"total");
+    writer.put_right(20, sum);
+    writer.put(b'\n');
 }
 
-// Writes the page of n flows.
-fn put_page(text: &mut [u8], clocks: &[u32], times: &[u16], n: u32) -> usize
-    requires { n ≤ max_flows }
-    ensures wrote { Wrote 0 (page_text (sorted (lines_in clocks.now times.now n))) text.old result text.new }
-    ensures loaded { Loaded clocks.now times.now n }
-{
-    let mut keys = [0u64; MAX_FLOWS as usize];
-    keep_keys(clocks, n, &mut keys);
-    let next = put_lines(text, clocks, times, &keys, n);
-    put_total(text, next, sum(clocks, times, n))
+impl Flows<'_> {
+    ghost use Rattle.loads.specs.Private.Words.{line_at, lines_of, line_by};
+
+    // The load of flow f.
+    fn load_of(&self, f: u32) -> u32
+        requires { f < max_flows }
+        ensures value { result ≡ load (line_at self.now f) }
+        ensures upper_bound { result ≤ max_load }
+    {
+        let worst = self.times.get(f as usize).copied().unwrap_or(0);
+        load(worst, word_at(self.clocks, CLOCK_SIZE * (f as usize)))
+    }
+
+    // The sum of the loads.
+    fn sum(&self) -> u32
+        ensures { result ≡ total (lines_of self.now) }
+    {
+        let mut sum: u32 = 0;
+        for f in 0..self.count {
+            sum += self.load_of(f);
+        }
+        sum
+    }
+
+    // The key of flow f, by which lines stand: by period, equal periods by phase, and then by flow. Its remainder by MAX_FLOWS is the flow.
+    fn key(&self, f: u32) -> u64
+        requires { f < max_flows }
+        ensures { result ≡ key (line_at self.now f) }
+    {
+        let from = CLOCK_SIZE * (f as usize);
+        let period = u64::from(word_at(self.clocks, from));
+        let phase = u64::from(word_at(self.clocks, from + 1));
+        MAX_FLOWS * (PHASES * period + phase) + u64::from(f)
+    }
+
+    // Puts the keys of all flows into a part that has a place for each, the least first.
+    fn sort_keys(&self, keys: &mut [u64])
+        requires { length keys.old ≡ self.now.count }
+        ensures { keys.new ≡ map key (sorted (lines_of self.now)) }
+    {
+        for f in 0..self.count {
+            keys[f as usize] = self.key(f);
+        }
+        keys.sort_unstable();
+    }
+
+    // Writes the line of flow f.
+    fn put_line(&self, writer: &mut Writer, f: u32)
+        requires { f < max_flows }
+        ensures { Writes (line_text (line_at self.now f)) writer.old writer.new }
+    {
+        let from = CLOCK_SIZE * (f as usize);
+        put_field(writer, 2, f);
+        put_field(writer, 5, word_at(self.clocks, from));
+        put_field(writer, 5, word_at(self.clocks, from + 1));
+        put_field(writer, 1, word_at(self.clocks, from + 2));
+        writer.put_right(8, self.load_of(f));
+        writer.put(b'\n');
+    }
+
+    // Writes the lines of the flows that keys give.
+    fn put_lines(&self, writer: &mut Writer, keys: &[u64])
+        ensures { Writes (lines_text (map (line_by self.now) keys.now)) writer.old writer.new }
+    {
+        for key in keys {
+            self.put_line(writer, (*key % MAX_FLOWS) as u32);
+        }
+    }
+
+    // Writes the page, and answers its size.
+    fn put_page(&self, text: &mut [u8]) -> usize
+        ensures { Wrote 0 (page_text (sorted (lines_of self.now))) text.old result text.new }
+    {
+        let mut all = [0u64; MAX_FLOWS as usize];
+        let keys = &mut all[..self.count as usize];
+        self.sort_keys(keys);
+        let mut writer = Writer::new(text);
+        self.put_lines(&mut writer, keys);
+        put_total(&mut writer, self.sum());
+        writer.at
+    }
 }
 
 // The load page of a table of `count` rows, from one worst time a flow, after the check: the count of bytes, or the first refusal, which
 // leaves the page as it was.
-pub fn page(count: u32, words: &[u32], times: &[u16], page: &mut [u8]) -> Answer
-    ensures answered { result ≡ page_answer count words.now times.now (length page.old) }
+pub fn page(count: u32, words: &[u32], times: &[u16], page: &mut [u8]) -> Result<u32, Refused>
+    ensures answered { parts result ≡ page_answer count words.now times.now (length page.old) }
     ensures stored { page.new ≡ page_after count words.now times.now page.old }
 {
     let mut clocks = [0u32; CLOCKS];
-    let found = checker::check(count, words, &mut clocks);
-    if found.number != 0 {
-        return found;
-    }
+    checker::check(count, words, &mut clocks)?;
     let n = count as usize;
     if times.len() != n {
-        return Answer::refusal(table::WRONG_TIMES, 0);
+        return Err(Refusal::WrongTimes.at(0));
     }
     if page.len() < LINE_SIZE * (n + 1) {
-        return Answer::refusal(table::SHORT_PAGE, 0);
+        return Err(Refusal::ShortPage.at(0));
     }
-    let size = put_page(page, &clocks, times, count);
-    Answer::success(size as u32)
+    let flows = Flows {
+        count,
+        clocks: &clocks,
+        times,
+    };
+    Ok(flows.put_page(page) as u32)
 }

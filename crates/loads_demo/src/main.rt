@@ -3,24 +3,8 @@
 #![tactic(auto)]
 
 use std::io;
-use table::Answer;
 
 const LINE: usize = loads::LINE_SIZE;
-
-// Some text, and a number after it.
-fn part(rt: &impl Print, before: &[u8], n: u32) -> io::Result<()> {
-    rt.write_all(before)?;
-    print!(rt; "{n}")
-}
-
-// The four parts of an answer.
-fn answer(rt: &impl Print, a: Answer) -> io::Result<()> {
-    part(rt, b"", a.number)?;
-    part(rt, b" ", a.flow)?;
-    part(rt, b" ", a.tick)?;
-    part(rt, b" ", a.count)?;
-    println!(rt)
-}
 
 // A page in a buffer.
 fn shown(
@@ -31,9 +15,9 @@ fn shown(
     times: &[u16],
     page: &mut [u8],
 ) -> io::Result<()> {
-    let a = loads::page(count, words, times, page);
+    let answer = table::parts(loads::page(count, words, times, page));
     rt.write_all(title)?;
-    answer(rt, a)?;
+    println!(rt; "{answer}")?;
     rt.write_all(page)?;
     println!(rt)
 }

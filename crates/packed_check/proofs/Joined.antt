@@ -7,13 +7,16 @@ use lib.ListN.{length, take, drop}
 use lib.Seq.{take_at}
 use lib.Dec.{leb}
 use borrow.Author.Tests.{le-leb}
-use Rattle.table.specs.declared.Answer.{Answer}
-use Rattle.table.specs.Answers.{Refusal, Result, good, refused, unless, then, answer, leaves, success, numbered, refusal, no_room}
+use Rattle.std.specs.Prelude.{Ok, Err}
+use Rattle.table.specs.declared.refusal.Refused.{Refused}
+use Rattle.table.specs.declared.refusal.Refusal.{Refusal}
+use Rattle.table.specs.declared.refusal.Refusal.TheVariants.{NoRoom}
+use Rattle.table.specs.Answers.{Result, good, refused, unless, then, leaves, parts}
 use Rattle.table.specs.Rows.{Words, max_flows, row_size}
 use Rattle.table.specs.Plain.{joined}
 use Rattle.table.specs.Packed.{unpacked, reading, read_answer, words_after}
 use Rattle.table.proofs.Tests.{unless_good, then_good}
-use Rattle.table.proofs.AnswerLaws.{answer_zero}
+use Rattle.table.proofs.AnswerLaws.{told_ok, told_err}
 use Rattle.table.proofs.ReadLaws.{opened}
 use Rattle.table.proofs.PlainRows.{length_joined}
 use Rattle.checker.specs.Clocks.{Clock}
@@ -28,19 +31,18 @@ pub record ReadInto (bs : List ℕ) (n : ℕ) (new : List ℕ) : Type 0 where
   pub count : n ≡ length rows
   pub words : take (row_size * n) new ≡ joined rows
 
-pub read_into : (bs old : List ℕ) {new : List ℕ} (n : ℕ) → read_answer bs (length old) ≡ success n → new ≡ words_after bs old → ReadInto bs n new
+pub read_into : (bs old : List ℕ) {new : List ℕ} (n : ℕ) → parts (Ok n) ≡ read_answer bs (length old) → new ≡ words_after bs old → ReadInto bs n new
 unfolding reading
 read_into bs old {new} n e h =
-    let a = answer_zero length (reading bs (length old)) (ap (λ (w : Answer). w.number) e) in
+    let a = told_ok length (reading bs (length old)) n e in
     let ws : List Words = a.0 in
-    let u = then_good (unpacked bs) (λ rows. unless (leb (row_size * length rows) (length old)) no_room 0 (good rows)) ws a.1 in
-    let c : n ≡ length ws = ap (λ (w : Answer). w.count) (sym e ∙ ap (answer length) a.1) in
-    let w : new ≡ joined ws ++ drop (length (joined ws)) old = h ∙ ap (λ (x : Result (List Words)). leaves joined x old) a.1 in
+    let u = then_good (unpacked bs) (λ rows. unless (leb (row_size * length rows) (length old)) NoRoom 0 (good rows)) ws a.1.0 in
+    let w : new ≡ joined ws ++ drop (length (joined ws)) old = h ∙ ap (λ (x : Result (List Words)). leaves joined x old) a.1.0 in
     record {
       rows = ws;
-      unpacks = u.1 ∙ (unless_good (leb (row_size * length u.0) (length old)) no_room 0 (good u.0) ws u.2).1;
-      count = c;
-      words = ap (take (row_size * n)) w ∙ take_at (joined ws) (drop (length (joined ws)) old) (row_size * n) (length_joined ws ∙ ap (λ (i : ℕ). row_size * i) (sym c));
+      unpacks = u.1 ∙ (unless_good (leb (row_size * length u.0) (length old)) NoRoom 0 (good u.0) ws u.2).1;
+      count = a.1.1;
+      words = ap (take (row_size * n)) w ∙ take_at (joined ws) (drop (length (joined ws)) old) (row_size * n) (length_joined ws ∙ ap (λ (i : ℕ). row_size * i) (sym a.1.1));
     }
 
 pub read_few : (bs : List ℕ) (n : ℕ) {new : List ℕ} → ReadInto bs n new → n ≤ max_flows
@@ -51,18 +53,12 @@ reading_whole : (bs : List ℕ) → reading bs (row_size * max_flows) ≡ unpack
 unfolding reading
 reading_whole bs = go (unpacked bs) refl
   where
-    go : (r : Result (List Words)) → unpacked bs ≡ r → then r (λ ws. unless (leb (row_size * length ws) (row_size * max_flows)) no_room 0 (good ws)) ≡ r
+    go : (r : Result (List Words)) → unpacked bs ≡ r → then r (λ ws. unless (leb (row_size * length ws) (row_size * max_flows)) NoRoom 0 (good ws)) ≡ r
     go (good ws) e = let h : row_size * length ws ≤ row_size * max_flows = omega (arith, (opened bs ws e).few) in rw (le-leb (row_size * length ws) (row_size * max_flows) h)
     go (refused why f) e = refl
 
-pub read_refused : (bs : List ℕ) (k row : ℕ) → numbered k row ≡ read_answer bs (row_size * max_flows)
-    → (why : Refusal) × (f : ℕ) × (unpacked bs ≡ refused why f) × (numbered k row ≡ refusal why f)
-read_refused bs k row e = go (unpacked bs) refl (e ∙ ap (answer length) (reading_whole bs))
-  where
-    go : (r : Result (List Words)) → unpacked bs ≡ r → numbered k row ≡ answer length r
-        → (why : Refusal) × (f : ℕ) × (unpacked bs ≡ refused why f) × (numbered k row ≡ refusal why f)
-    go (good ws) u x = absurd (omega (arith, ap (λ (w : Answer). w.count) x, (opened bs ws u).some_flow))
-    go (refused why f) u x = (why, f, u, x)
+pub read_refused : (bs : List ℕ) (x : Refused) → parts (Err x) ≡ read_answer bs (row_size * max_flows) → unpacked bs ≡ refused x.why x.flow
+read_refused bs x e = sym (reading_whole bs) ∙ (told_err length (reading bs (row_size * max_flows)) x e).0
 
 -- BOTH TOGETHER
 pub checked_refused : (bs : List ℕ) (room : ℕ) (why : Refusal) (f : ℕ) → unpacked bs ≡ refused why f → checked_in bs room ≡ refused why f

@@ -6,7 +6,9 @@ use native.Mathlib.Decide.{dec_lt}
 use mathlib.Core.List.{List}
 use lib.ListN.{length}
 use Rattle.table.specs.declared.Answer.{Answer}
-use Rattle.table.specs.Answers.{Refusal, clocks_differ, no_room, unjoined, Result, good, refused, answer, leaves, refusal, success, over}
+use Rattle.table.specs.declared.refusal.Refusal.{Refusal}
+use Rattle.table.specs.declared.refusal.Refusal.TheVariants.{ClocksDiffer, NoRoom, Unjoined}
+use Rattle.table.specs.Answers.{Result, good, refused, answer, leaves, refusal, success, over}
 use Rattle.table.specs.Rows.{Row, Words, row_size}
 use Rattle.table.specs.Plain.{row_words, joined, draft_of}
 use Rattle.table.proofs.Tests.{not_good}
@@ -37,8 +39,8 @@ module _ (m : ℕ) (words : List ℕ) (room : ℕ) where
 
   -- the cases of two outcomes for which each flow is on a chain
   data Full : Result (List Words) → Type 0 where
-    none : ((rates : ℕ → Rate) → Accepted m words rates → ⊥) → Full (refused clocks_differ 0)
-    short : (rates : ℕ → Rate) → Accepted m words rates → room < row_size * m → Full (refused no_room 0)
+    none : ((rates : ℕ → Rate) → Accepted m words rates → ⊥) → Full (refused ClocksDiffer 0)
+    short : (rates : ℕ → Rate) → Accepted m words rates → room < row_size * m → Full (refused NoRoom 0)
     whole : (rates : ℕ → Rate) → Accepted m words rates → row_size * m ≤ room → Full (good (filled m words rates))
 
   full : (r : Result (List Words)) → Joined m words → Filling m words room r → Full r
@@ -67,7 +69,7 @@ module _ (m : ℕ) (words : List ℕ) (room : ℕ) where
   outcome_same r s (bad_draft why f e) (accepted q t a l) = not_draft e t.draft
   outcome_same r s (no_chain rows f t l h k) (bad_draft why f' e) = not_draft e t
   outcome_same r s (no_chain rows f t l h k) (no_chain rows' f' t' l' h' k') =
-      ap (refused unjoined) (let x : f' ≤ f = lowest f f' h k' in let y : f ≤ f' = lowest f' f h' k in omega arith)
+      ap (refused Unjoined) (let x : f' ≤ f = lowest f f' h k' in let y : f ≤ f' = lowest f' f h' k in omega arith)
   outcome_same r s (no_chain rows f t l h k) (none_accepted u h') = off_chain f l h u
   outcome_same r s (no_chain rows f t l h k) (without_room q u a l') = off_chain f l h u
   outcome_same r s (no_chain rows f t l h k) (accepted q u a l') = off_chain f l h u
@@ -89,14 +91,14 @@ returned m words old said left rates d t a l =
     (x.0 ∙ ap success (filled_count m words rates), x.1)
 
 none_said : (m : ℕ) (words old : List ℕ) (said : Answer) (left : List ℕ) → Filled m words old said left → Joined m words
-    → ((rates : ℕ → Rate) → Accepted m words rates → ⊥) → said ≡ refusal clocks_differ 0
-none_said m words old said left d t h = (as_outcome m words old said left d (refused clocks_differ 0) (none_accepted t h)).0
+    → ((rates : ℕ → Rate) → Accepted m words rates → ⊥) → said ≡ refusal ClocksDiffer 0
+none_said m words old said left d t h = (as_outcome m words old said left d (refused ClocksDiffer 0) (none_accepted t h)).0
 
 only_then : (m : ℕ) (words old : List ℕ) (said : Answer) (left : List ℕ) → Filled m words old said left → Joined m words
-    → said ≡ refusal clocks_differ 0 → (rates : ℕ → Rate) → Accepted m words rates → ⊥
+    → said ≡ refusal ClocksDiffer 0 → (rates : ℕ → Rate) → Accepted m words rates → ⊥
 only_then m words old said left d t e = go d.outcome (full m words (length old) d.outcome t d.comes) (sym d.answered ∙ e)
   where
-    go : (r : Result (List Words)) → Full m words (length old) r → answer length r ≡ refusal clocks_differ 0 → (rates : ℕ → Rate) → Accepted m words rates → ⊥
+    go : (r : Result (List Words)) → Full m words (length old) r → answer length r ≡ refusal ClocksDiffer 0 → (rates : ℕ → Rate) → Accepted m words rates → ⊥
     go r (none h) e = h
     go r (short q a l) e = let z : ◌≡◌ {A = ℕ} 10 21 = ap (λ (x : Answer). x.number) e in absurd (omega arith)
     go r (whole q a l) e = let z : ◌≡◌ {A = ℕ} 0 21 = ap (λ (x : Answer). x.number) e in absurd (omega arith)

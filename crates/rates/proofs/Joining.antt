@@ -6,7 +6,7 @@ use mathlib.Core.Bool.{Bool, true, false, cond, false≢true}
 use lib.Dec.{leb}
 use borrow.Author.Tests.{eqb-true, eq-eqb}
 use Rattle.table.specs.declared.FlowFields.{FlowFields}
-use Rattle.table.specs.Rows.{Row, input, constant, combine, register, faster, slower, later, head, tail, sample, merge, unrated, view, Kind, kinds, kind_at, Words, first_view}
+use Rattle.table.specs.Rows.{Row, view, Kind, kinds, kind_at, Words, first_view}
 use Rattle.table.specs.Tables.{RowHas, Named}
 use Rattle.table.specs.Links.{is_flow, flow_fields, field_names, names}
 use Rattle.table.proofs.Tests.{and_left, and_right, and_both, or_left}
@@ -58,19 +58,8 @@ module _ (w : Words) where
 
 -- what holds of the operands, beat and source of a row, of a view's first operand alone
 abbrev pub JoinsHave : (ℕ → Type 0) → Row → Type 0
-JoinsHave Q (input n p) = RowHas (Named Q) (input n p)
-JoinsHave Q (constant v n p) = RowHas (Named Q) (constant v n p)
-JoinsHave Q (combine op a b) = RowHas (Named Q) (combine op a b)
-JoinsHave Q (register v b a) = RowHas (Named Q) (register v b a)
-JoinsHave Q (faster a k g) = RowHas (Named Q) (faster a k g)
-JoinsHave Q (slower a k) = RowHas (Named Q) (slower a k)
-JoinsHave Q (later a d) = RowHas (Named Q) (later a d)
-JoinsHave Q (head a v s) = RowHas (Named Q) (head a v s)
-JoinsHave Q (tail a) = RowHas (Named Q) (tail a)
-JoinsHave Q (sample u a c) = RowHas (Named Q) (sample u a c)
-JoinsHave Q (merge c a b) = RowHas (Named Q) (merge c a b)
-JoinsHave Q unrated = Unit {0}
 JoinsHave Q (view u a c w) = Q a
+JoinsHave Q r = RowHas (Named Q) r
 
 -- of the row that a kind makes: of the flow in its first field, where the kind is a view's
 KindJoins : (ℕ → Type 0) → ℕ → ℕ → ℕ → ℕ → Kind → Type 0

@@ -31,7 +31,7 @@ use Rattle.checker.proofs.CheckLaws.{Checked, fine, bad_row, bad_source, checked
 use Rattle.reach.specs.Reach.{named}
 use Rattle.rates.specs.Joins.{joined_by, rated}
 use Rattle.rates.specs.Fillings.{Rate, filled_row, filled, Accepted}
-use Rattle.rates.specs.Private.Spread.{given, rise, fall, row_made, written}
+use Rattle.rates.specs.Private.Spread.{rate_of, given, rise, fall, row_made, written}
 use Rattle.rates.proofs.Joining.{joins_named, joins_have}
 use Rattle.rates.proofs.Rising.{rate, Sourced, by_test, rises, falls}
 
@@ -172,11 +172,11 @@ module _ (m : ℕ) (words : List ℕ) (rates : ℕ → Rate) (j : Judged m words
         joins_have (λ (i : ℕ). rate (j.clk i) ≡ fall row (rate (j.clk f))) m f (row_words words f) row made
         (falls j.clk m f row (j.clk f) ruled sourced (row_fits m f (row_words words f) row made) (λ g x. j.sane g (omega arith))) d h
 
-  pub at_unrated : (f : ℕ) → f < m → (row_words words f).kind ≡ unrated_kind → rate (j.clk f) ≡ rates f
+  pub at_unrated : (f : ℕ) → f < m → (row_words words f).kind ≡ unrated_kind → rate_of (rate (j.clk f)) ≡ rates f
   unfolding kinds
   at_unrated f l e = go (j.clk f) (rw e at (j.ruled f l))
     where
-      go : (k : Clock) → Rule j.clk (input (rates f).period (rates f).phase) k → rate k ≡ rates f
+      go : (k : Clock) → Rule j.clk (input (rates f).period (rates f).phase) k → rate_of (rate k) ≡ rates f
       go k by_input = refl
 
   pub at_rated : (f : ℕ) → f < m → rated (row_words words f) ≡ true → rate (j.clk f) ≡ written (row_words words f)

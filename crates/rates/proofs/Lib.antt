@@ -4,7 +4,6 @@ pub mod Judging
 pub mod Unique
 pub mod Spreading
 pub mod Given
-mod States
-mod Passing
 mod Stepping
+mod Passing
 mod Answering

@@ -13,14 +13,14 @@ use Rattle.checker.specs.Rules.{max_derived}
 use Rattle.checker.proofs.ClockLaws.{same_clock_lem}
 use Rattle.checker.proofs.RuleLaws.{Rule, by_combine, by_register, by_faster, by_slower, by_later, by_head, by_tail, by_sample, by_merge, by_view}
 use Rattle.checker.proofs.CheckLaws.{Sane, AllSane}
-use Rattle.rates.specs.Fillings.{Rate}
+use Rattle.rates.specs.declared.steps.Rate.{Rate}
 use Rattle.rates.specs.Private.Spread.{given, rise, fall}
 use Rattle.rates.proofs.Joining.{JoinsHave}
 
 abbrev pub rate : Clock → Rate
 rate k = record { period = k.period; phase = k.phase }
 
-pub rate_path : {n p n' p' : ℕ} → n ≡ n' → p ≡ p' → ◌≡◌ {A = Rate} (record { period = n; phase = p }) (record { period = n'; phase = p' })
+rate_path : {n p n' p' : ℕ} → n ≡ n' → p ≡ p' → ◌≡◌ {A = Rate} (record { period = n; phase = p }) (record { period = n'; phase = p' })
 rate_path x y = λ i. record { period = x i; phase = y i }
 
 -- a register's source has its beat's clock
@@ -28,7 +28,7 @@ abbrev pub Sourced : (ℕ → Clock) → Row → Type 0
 Sourced clk r = on_register (λ b a. same_clock (clk a) (clk b)) r ≡ true
 
 -- a rate that is given
-pub given_is : (t : Bool) (n p : ℕ) → t ≡ true → 1 ≤ n → n ≤ max_derived → p ≤ max_derived → given t n p ≡ record { period = n; phase = p }
+given_is : (t : Bool) (n p : ℕ) → t ≡ true → 1 ≤ n → n ≤ max_derived → p ≤ max_derived → given t n p ≡ record { period = n; phase = p }
 given_is t n p e l u v = rw (e, le-leb 1 n l, le-leb n max_derived u, le-leb p max_derived v)
 
 -- the rate of a sane clock, by a test that is passed

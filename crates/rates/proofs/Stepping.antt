@@ -1,6 +1,6 @@
 -- Rows along which a rate stays as it is. Assumes nothing.
-use mathlib.Core.Path.{◌≡◌, refl, sym, ◌∙◌, ap, subst}
-use Prim.Native.Nat.{ℕ, ◌<◌}
+use mathlib.Core.Path.{◌≡◌, refl, sym, subst}
+use Prim.Native.Nat.{ℕ, ◌≤◌, ◌<◌}
 use native.Mathlib.Omega.{arith}
 use mathlib.Core.Bool.{true, ◌&&◌}
 use lib.Dec.{leb}
@@ -9,13 +9,12 @@ use Rattle.table.specs.Rows.{Kind, kinds, kind_count, kind_at, Words}
 use Rattle.table.proofs.Tests.{and_left, and_right}
 use Rattle.table.proofs.Lists.{Each, each_entry}
 use Rattle.table.proofs.Entries.{kind_there}
-use Rattle.rates.specs.Fillings.{Rate}
-use Rattle.rates.specs.Private.Spread.{rise, fall, row_made, word, rate_of}
-use Rattle.rates.proofs.Rising.{rate_path}
+use Rattle.rates.specs.declared.steps.Rate.{Rate}
+use Rattle.rates.specs.Private.Spread.{rise, fall, row_made}
 
--- none of kinds 8 to 12, as a match over those tells it of what is left
+-- none of kinds 8 to 12
 abbrev pub Other : ℕ → Type 0
-Other i = ((((Unit {0} × (i ≡ 8 → ⊥)) × (i ≡ 9 → ⊥)) × (i ≡ 10 → ⊥)) × (i ≡ 11 → ⊥)) × (i ≡ 12 → ⊥)
+Other i = 8 ≤ i → 12 < i
 
 -- along the row of such a kind the rate stays as it is, up and down
 Stays : Rate → ℕ → ℕ → ℕ → ℕ → Kind → Type 0
@@ -30,15 +29,12 @@ kinds_stay q x y z =
     same h = (refl, refl)
 
     no : {A : Type 0} (i : ℕ) → leb 8 i && leb i 12 ≡ true → Other i → A
-    no i e h = absurd (omega (arith, leb-true 8 i (and_left (leb 8 i) _ e), leb-true i 12 (and_right (leb 8 i) _ e), h))
+    no i e h =
+        let l : 12 < i = h (leb-true 8 i (and_left (leb 8 i) _ e)) in absurd (omega (arith, leb-true i 12 (and_right (leb 8 i) _ e)))
 
--- so the word of a rate's period and phase is that of the step, up and down
-pub stays : (w : Words) (x n p y : ℕ) → w.kind < kind_count → Other w.kind → n ≡ (rate_of x).period → p ≡ (rate_of x).phase → y ≡ word (record { period = n; phase = p })
-    → (y ≡ word (rise (row_made w) (rate_of x))) × (y ≡ word (fall (row_made w) (rate_of x)))
+pub stays : (w : Words) (q : Rate) → w.kind < kind_count → Other w.kind → (q ≡ rise (row_made w) q) × (q ≡ fall (row_made w) q)
 unfolding Stays
-stays w x n p y known other en ep e =
-    let q : Rate = rate_of x in
+stays w q known other =
     let s = each_entry (Stays q w.one w.two w.three) 0 kinds w.kind (kind_at w.kind) (kinds_stay q w.one w.two w.three) (kind_there w.kind known)
     (subst Other (omega arith) other) in
-    let f : y ≡ word q = e ∙ ap word (rate_path en ep) in
-    (f ∙ ap word (sym s.0), f ∙ ap word (sym s.1))
+    (sym s.0, sym s.1)

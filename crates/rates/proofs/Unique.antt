@@ -13,7 +13,7 @@ use Rattle.table.proofs.PlainRows.{per_same}
 use Rattle.reach.specs.Reach.{Leads, itself, onward}
 use Rattle.rates.specs.Joins.{joined_by, joins, Chained, Joined}
 use Rattle.rates.specs.Fillings.{Rate, filled_row, filled, Accepted}
-use Rattle.rates.specs.Private.Spread.{rise, fall, row_made}
+use Rattle.rates.specs.Private.Spread.{rate_of, rise, fall, row_made}
 use Rattle.rates.proofs.Rising.{rate}
 use Rattle.rates.proofs.Judging.{joins_inside, Judged, judged, up, down, at_rated, at_unrated}
 
@@ -44,8 +44,8 @@ unique m words q r t a b =
     let i : Judged m words r = judged m words r b in
     same_filled m words q r (λ f l e.
     sym (at_unrated m words q j f l e)
-    ∙ on_chain m words t.rows t.draft (λ g. rate (j.clk g) ≡ rate (i.clk g))
+    ∙ ap rate_of (on_chain m words t.rows t.draft (λ g. rate (j.clk g) ≡ rate (i.clk g))
     (λ f d l h x. up m words q j f d l h ∙ ap (rise (row_made (row_words words f))) x ∙ sym (up m words r i f d l h))
     (λ f d l h x. down m words q j f d l h ∙ ap (fall (row_made (row_words words f))) x ∙ sym (down m words r i f d l h))
-    (λ f l c. at_rated m words q j c.from c.in_plan c.is_rated ∙ sym (at_rated m words r i c.from c.in_plan c.is_rated)) f l (t.chains f l)
+    (λ f l c. at_rated m words q j c.from c.in_plan c.is_rated ∙ sym (at_rated m words r i c.from c.in_plan c.is_rated)) f l (t.chains f l))
     ∙ at_unrated m words r i f l e)

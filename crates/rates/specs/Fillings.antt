@@ -1,7 +1,9 @@
 -- Fillings of a draft, and what the call that fills in rates comes to.
 use Rattle.std.specs.Prelude.{◌≡◌, ℕ, ◌*◌, ◌<◌, ◌≤◌, cond, List, eqb, length}
 use Rattle.table.specs.declared.Answer.{Answer}
-use Rattle.table.specs.Answers.{Refusal, clocks_differ, no_room, unjoined, Result, good, refused, answer, leaves}
+use Rattle.table.specs.declared.refusal.Refusal.{Refusal}
+use Rattle.table.specs.declared.refusal.Refusal.TheVariants.{ClocksDiffer, NoRoom, Unjoined}
+use Rattle.table.specs.Answers.{Result, good, refused, answer, leaves}
 use Rattle.table.specs.Rows.{Row, Words, row_size, unrated_kind}
 use Rattle.table.specs.Plain.{row_words, joined, per_flow, draft_of}
 use Rattle.checker.specs.Answers.{check_number}
@@ -29,9 +31,9 @@ pub data Filling (m : ℕ) (words : List ℕ) (room : ℕ) : Result (List Words)
   bad_draft : (why : Refusal) (f : ℕ) → draft_of m words ≡ refused why f → Filling m words room (refused why f)
   no_chain :
       (rows : List Row) (f : ℕ) → draft_of m words ≡ good rows → f < m → (Chained m words f → ⊥) → ((g : ℕ) → g < f → Chained m words g)
-      → Filling m words room (refused unjoined f)
-  none_accepted : Joined m words → ((rates : ℕ → Rate) → Accepted m words rates → ⊥) → Filling m words room (refused clocks_differ 0)
-  without_room : (rates : ℕ → Rate) → Joined m words → Accepted m words rates → room < row_size * m → Filling m words room (refused no_room 0)
+      → Filling m words room (refused Unjoined f)
+  none_accepted : Joined m words → ((rates : ℕ → Rate) → Accepted m words rates → ⊥) → Filling m words room (refused ClocksDiffer 0)
+  without_room : (rates : ℕ → Rate) → Joined m words → Accepted m words rates → room < row_size * m → Filling m words room (refused NoRoom 0)
   accepted : (rates : ℕ → Rate) → Joined m words → Accepted m words rates → row_size * m ≤ room → Filling m words room (good (filled m words rates))
 
 -- what the call answers, and leaves in the lent buffer

@@ -1,7 +1,8 @@
 -- Wish 7, over what a caller sees: the answer, and the words that the call leaves. Proved in proofs/Given.
 use Rattle.std.specs.Prelude.{◌≡◌, ℕ, ◌*◌, ◌≤◌, List, length}
 use Rattle.table.specs.declared.Answer.{Answer}
-use Rattle.table.specs.Answers.{refusal, success, over, clocks_differ}
+use Rattle.table.specs.declared.refusal.Refusal.TheVariants.{ClocksDiffer}
+use Rattle.table.specs.Answers.{refusal, success, over}
 use Rattle.table.specs.Rows.{row_size}
 use Rattle.table.specs.Plain.{joined}
 use Rattle.rates.specs.Joins.{Joined}
@@ -18,10 +19,10 @@ pub record Given : Type 0 where
   -- and gives 21 with flow 0 exactly when no filling is accepted.
   pub none :
       (m : ℕ) (words old : List ℕ) (said : Answer) (left : List ℕ) → Filled m words old said left → Joined m words
-      → ((rates : ℕ → Rate) → Accepted m words rates → ⊥) → said ≡ refusal clocks_differ 0
+      → ((rates : ℕ → Rate) → Accepted m words rates → ⊥) → said ≡ refusal ClocksDiffer 0
   pub only_then :
       (m : ℕ) (words old : List ℕ) (said : Answer) (left : List ℕ) → Filled m words old said left → Joined m words
-      → said ≡ refusal clocks_differ 0 → (rates : ℕ → Rate) → Accepted m words rates → ⊥
+      → said ≡ refusal ClocksDiffer 0 → (rates : ℕ → Rate) → Accepted m words rates → ⊥
   -- Answer and words are determined: what is said of them leaves nothing free.
   pub determined :
       (m : ℕ) (words old : List ℕ) (said said' : Answer) (left left' : List ℕ) → Filled m words old said left → Filled m words old said' left'

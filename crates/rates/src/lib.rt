@@ -3,46 +3,46 @@
 
 mod steps; // steps.rt: how a rate spreads along a row
 
-ghost use Rattle.std.specs.Prelude.{◌≡◌, true, ◌+◌, ◌*◌, ◌<◌, ◌≤◌, eqb, length, take};
-ghost use Rattle.table.specs.Answers.{good, over};
+ghost use Rattle.std.specs.Prelude.{◌≡◌, ℕ, true, ◌+◌, ◌*◌, ◌<◌, ◌≤◌, eqb, length, take, MatchOption};
+ghost use Rattle.table.specs.Answers.{good, over, parts};
 ghost use Rattle.table.specs.Rows.{kind_count, max_flows, row_size};
 ghost use Rattle.table.specs.Plain.{words_of, joined, draft_of, rows_in};
 ghost use Rattle.checker.specs.Answers.{check_number};
 ghost use Rattle.rates.specs.Fillings.{filled, Filled};
-ghost use Rattle.rates.specs.Private.Spread.{row_made, join_fields, stepped, added, rates_in, RowPassed, Passed, Starting, Settled, Lowest};
+ghost use Rattle.rates.specs.Private.Spread.{row_made, join_fields, rates_in, Stepped, Passed, Closed, ClosedAt, Starting, Settled, Known, LowestUnknown};
 
-use steps::{begin, fall, fill_row, rise};
+use steps::{NO_RATE, Rate, begin, fall, fill_row, rise};
 use table::{
-    Answer, CLOCKS_DIFFER, FIRST_VIEW, FlowFields, MAX_FLOWS, NO_ROOM, ROW_SIZE, Record, UNJOINED,
-    put_record, record_at,
+    FIRST_VIEW, FlowFields, MAX_FLOWS, ROW_SIZE, Record, Refusal, Refused, put_record, record_at,
 };
 
-// The words of the most flows.
-const WORDS: usize = ROW_SIZE * (MAX_FLOWS as usize);
+// The flows of the longest plan, and their words.
+const FLOWS: usize = MAX_FLOWS as usize;
 
-// One step between the result of row f and flow a, where the test is passed: how many words it adds.
-fn join(rates: &mut [u64], r: Record, f: u32, on: bool, a: u32) -> u32
-    requires { (r.kind < kind_count) × (f < length rates.old) × (on ≡ true → a < length rates.old) }
-    ensures value { (result ≡ added on f a rates.old) × (result ≤ 1) }
-    ensures rates_after { rates.new ≡ stepped on (row_made (words_of r)) f a rates.old }
+const WORDS: usize = ROW_SIZE * FLOWS;
+
+// What is known of the rates of the flows.
+type Rates = [Option<Rate>; FLOWS];
+
+// One step between the result of row f and flow a, where the test is passed: whether it adds a rate.
+fn join(rates: &mut Rates, r: Record, f: u32, on: bool, a: u32) -> bool
+    requires { (r.kind < kind_count) × (f < max_flows) × (on ≡ true → a < max_flows) }
+    ensures { Stepped on (row_made (words_of r)) f a rates.old result rates.new }
 {
     if !on {
-        return 0;
+        return false;
     }
-    let x = rates[f as usize];
-    let y = rates[a as usize];
-    if x == 0 {
-        if y == 0 {
-            return 0;
+    match (rates[f as usize], rates[a as usize]) {
+        (None, Some(rate)) => {
+            rates[f as usize] = Some(rise(r, rate));
+            true
         }
-        rates[f as usize] = rise(r, y);
-        return 1;
+        (Some(rate), None) => {
+            rates[a as usize] = Some(fall(r, rate));
+            true
+        }
+        _ => false,
     }
-    if y == 0 {
-        rates[a as usize] = fall(r, x);
-        return 1;
-    }
-    0
 }
 
 // The fields of a kind that hold the flows with which a row joins its result: of a view the first only.
@@ -54,87 +54,9 @@ fn join_fields(kind: u32) -> FlowFields
         return flows;
     }
     FlowFields {
-        one: flows.one,
         two: false,
         three: false,
-    }
-}
-
-// The steps between the result of row f and each flow with which the row joins it.
-fn link(n: u32, words: &[u32], f: u32, rates: &mut [u64]) -> u32
-    requires { (draft_of n words.now ≡ good (rows_in (draft_of n words.now))) × (length rates.old ≡ max_flows) × (f < n) }
-    ensures { RowPassed n words.now f rates.old rates.new result × (result ≤ 3) }
-{
-    let r = record_at(words, f);
-    let flows = join_fields(r.kind);
-    let a = join(rates, r, f, flows.one, r.one);
-    let b = join(rates, r, f, flows.two, r.two);
-    let c = join(rates, r, f, flows.three, r.three);
-    a + b + c
-}
-
-// A pass over the rows: how many words it adds.
-fn pass(n: u32, words: &[u32], rates: &mut [u64]) -> u32
-    requires { (draft_of n words.now ≡ good (rows_in (draft_of n words.now))) × (length rates.old ≡ max_flows) }
-    ensures { Passed n words.now rates.old rates.new result }
-{
-    let mut total: u32 = 0;
-    let mut f: u32 = 0;
-    while f < n {
-        total += link(n, words, f, rates);
-        f += 1;
-    }
-    total
-}
-
-// The words of the rated rows.
-fn start(n: u32, words: &[u32], rates: &mut [u64])
-    requires { (draft_of n words.now ≡ good (rows_in (draft_of n words.now))) × (length rates.old ≡ max_flows) × Starting n words.now 0 rates.old }
-    ensures { (length rates.new ≡ max_flows) × Starting n words.now n rates.new }
-{
-    let mut f: u32 = 0;
-    while f < n {
-        rates[f as usize] = begin(record_at(words, f));
-        f += 1;
-    }
-}
-
-// Spreads the words of the rated rows until nothing is left to spread.
-fn spread(n: u32, words: &[u32], rates: &mut [u64])
-    requires { (draft_of n words.now ≡ good (rows_in (draft_of n words.now))) × (length rates.old ≡ max_flows) × Starting n words.now 0 rates.old }
-    ensures { (length rates.new ≡ max_flows) × Settled n words.now rates.new }
-{
-    start(n, words, rates);
-    let mut news: u32 = 1;
-    while news != 0 {
-        news = pass(n, words, rates);
-    }
-}
-
-// The lowest of n flows that has no word, n where each has one.
-fn lowest(n: u32, rates: &[u64]) -> u32
-    requires { n ≤ length rates.now }
-    ensures { Lowest n rates.now result }
-{
-    let mut f: u32 = 0;
-    while f < n {
-        if rates[f as usize] == 0 {
-            return f;
-        }
-        f += 1;
-    }
-    n
-}
-
-// The filled rows, from the first word on.
-fn store(n: u32, words: &[u32], rates: &[u64], rows: &mut [u32])
-    requires { (n ≤ max_flows) × (length rates.now ≡ max_flows) × (length rows.old ≡ row_size * max_flows) × Lowest n rates.now n }
-    ensures { rows.new ≡ over (joined (filled n words.now (rates_in rates.now))) rows.old }
-{
-    let mut f: u32 = 0;
-    while f < n {
-        put_record(rows, f, fill_row(record_at(words, f), rates[f as usize]));
-        f += 1;
+        ..flows
     }
 }
 
@@ -144,32 +66,106 @@ fn accepted(count: u32, rows: &[u32]) -> bool
     ensures { result ≡ eqb (check_number count (take (row_size * count) rows.now)) 0 }
 {
     let size = ROW_SIZE * (count as usize);
-    checker::number(count, &rows[0..size]) == 0
+    checker::number(count, &rows[..size]) == 0
+}
+
+// A draft that was examined and not refused: the count of its flows and its words.
+#[derive(Clone, Copy)]
+struct Draft<'a> {
+    count: u32,
+    words: &'a [u32],
+    ghost is_draft: { draft_of count words.now ≡ good (rows_in (draft_of count words.now)) },
+    ghost few: { count ≤ max_flows },
+}
+
+impl Draft<'_> {
+    // The steps between the result of row f and each flow with which the row joins it.
+    fn link(self, f: u32, rates: &mut Rates) -> bool
+        requires { f < self.count }
+        ensures { Passed self.entry.count self.entry.words.now (ClosedAt self.entry.words.now rates.old f) rates.old rates.new result }
+    {
+        let r = record_at(self.words, f);
+        let flows = join_fields(r.kind);
+        let a = join(rates, r, f, flows.one, r.one);
+        let b = join(rates, r, f, flows.two, r.two);
+        let c = join(rates, r, f, flows.three, r.three);
+        a | b | c
+    }
+
+    // A pass over the rows: whether it adds a rate.
+    fn pass(self, rates: &mut Rates) -> bool
+        ensures { Passed self.entry.count self.entry.words.now (Closed self.entry.count self.entry.words.now rates.old) rates.old rates.new result }
+    {
+        let mut news = false;
+        for f in 0..self.count {
+            news |= self.link(f, rates);
+        }
+        news
+    }
+
+    // The rates of the rated rows.
+    fn start(self) -> Rates
+        ensures { Starting self.entry.count self.entry.words.now self.entry.count result }
+    {
+        let mut rates = [None; FLOWS];
+        for f in 0..self.count {
+            rates[f as usize] = begin(record_at(self.words, f));
+        }
+        rates
+    }
+
+    // Spreads the rates of the rated rows until nothing is left to spread.
+    fn spread(self) -> Rates
+        ensures { Settled self.entry.count self.entry.words.now result }
+    {
+        let mut rates = self.start();
+        while self.pass(&mut rates) {}
+        rates
+    }
+
+    // The lowest flow whose rate is not known.
+    fn lowest(self, rates: &Rates) -> Option<u32>
+        ensures { MatchOption result ((g : ℕ) → g < self.entry.count → Known rates.now g) (LowestUnknown self.entry.count rates.now) }
+    {
+        (0..self.count).find(|f| rates[*f as usize].is_none())
+    }
+
+    // The filled rows, from the first word on.
+    fn store(self, rates: &Rates, rows: &mut [u32; WORDS])
+        ensures { rows.new ≡ over (joined (filled self.entry.count self.entry.words.now (rates_in rates.now))) rows.old }
+    {
+        for f in 0..self.count {
+            let rate = rates[f as usize].unwrap_or(NO_RATE);
+            put_record(rows, f, fill_row(record_at(self.words, f), rate));
+        }
+    }
+
+    // Fills the draft in: the count of flows, or why there is no filling to give.
+    fn fill(self, filled: &mut [u32]) -> Result<u32, Refused>
+        ensures { Filled self.entry.count self.entry.words.now filled.old (parts result) filled.new }
+    {
+        let rates = self.spread();
+        if let Some(f) = self.lowest(&rates) {
+            return Err(Refusal::Unjoined.at(f));
+        }
+        let mut rows = [0u32; WORDS];
+        self.store(&rates, &mut rows);
+        if !accepted(self.count, &rows) {
+            return Err(Refusal::ClocksDiffer.at(0));
+        }
+        let size = ROW_SIZE * (self.count as usize);
+        if filled.len() < size {
+            return Err(Refusal::NoRoom.at(0));
+        }
+        table::copy(size, &rows, filled);
+        Ok(self.count)
+    }
 }
 
 // Fills in period and phase of each unrated input: the count of flows, and four words a flow; or the first refusal, which leaves the buffer as it was.
-pub fn fill(count: u32, words: &[u32], filled: &mut [u32]) -> Answer
-    ensures { Filled count words.now filled.old result filled.new }
+pub fn fill(count: u32, words: &[u32], filled: &mut [u32]) -> Result<u32, Refused>
+    ensures { Filled count words.now filled.old (parts result) filled.new }
 {
-    let found = table::examine_draft(count, words);
-    if found.number != 0 {
-        return found;
-    }
-    let mut rates = [0u64; MAX_FLOWS as usize];
-    spread(count, words, &mut rates);
-    let f = lowest(count, &rates);
-    if f < count {
-        return Answer::refusal(UNJOINED, f);
-    }
-    let mut rows = [0u32; WORDS];
-    store(count, words, &rates, &mut rows);
-    if !accepted(count, &rows) {
-        return Answer::refusal(CLOCKS_DIFFER, 0);
-    }
-    let size = ROW_SIZE * (count as usize);
-    if filled.len() < size {
-        return Answer::refusal(NO_ROOM, 0);
-    }
-    table::copy(size, &rows, filled);
-    Answer::success(count)
+    table::examine_draft(count, words)?;
+    Draft { count, words }.fill(filled)
 }

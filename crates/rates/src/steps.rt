@@ -1,150 +1,106 @@
-// How a rate spreads along a row. A rate is one word, not 0: 0 stands for a rate that is not known yet.
-ghost use Rattle.std.specs.Prelude.{◌≡◌, true, ◌+◌, ◌-◌, ◌*◌, ◌/◌, ◌<◌, eqb};
+// How a rate spreads along a row.
+ghost use Rattle.std.specs.Prelude.{◌≡◌, ◌<◌};
 ghost use Rattle.table.specs.Rows.{kind_count};
 ghost use Rattle.table.specs.Plain.{words_of};
 ghost use Rattle.rates.specs.Fillings.{filled_row};
-ghost use Rattle.rates.specs.Private.Spread.{given, rise, fall, row_made, span, word, rate_of, begun};
+ghost use Rattle.rates.specs.Private.Spread.{given, rise, fall, row_made, rate_of, begun};
 
 use checker::MAX_DERIVED;
 use table::{Record, UNRATED};
 
-// Periods and phases are below this.
-const SPAN: u64 = MAX_DERIVED + 1;
-
-// The period of a rate.
-fn period_of(x: u64) -> u64
-    requires { 0 < x }
-    ensures { (result ≡ (rate_of x).period) × (result < span) }
-{
-    (x - 1) / SPAN % SPAN
+// The period and phase of a flow.
+#[derive(Clone, Copy)]
+pub(crate) struct Rate {
+    pub(crate) period: u32,
+    pub(crate) phase: u32,
 }
 
-// Its phase.
-fn phase_of(x: u64) -> u64
-    requires { 0 < x }
-    ensures { (result ≡ (rate_of x).phase) × (result < span) }
-{
-    (x - 1) % SPAN
-}
+// The rate that no flow has.
+pub(crate) const NO_RATE: Rate = Rate {
+    period: 0,
+    phase: 0,
+};
 
-// The word of a period and a phase.
-fn word(period: u64, phase: u64) -> u64
-    requires { (period < span) × (phase < span) }
-    ensures { result ≡ word (record { period = period; phase = phase }) }
+// A period and a phase where the test is passed and an accepted clock may have them; else the rate that no flow has.
+fn given(test: bool, period: u64, phase: u64) -> Rate
+    ensures { result ≡ given test period phase }
 {
-    1 + (SPAN * period + phase)
-}
-
-// The word of a period and a phase where the test is passed and an accepted clock may have them; else the word of no rate.
-fn given(test: bool, period: u64, phase: u64) -> u64
-    ensures { result ≡ word (given test period phase) }
-{
-    if !test {
-        return 1;
+    if test && 1 <= period && period <= MAX_DERIVED && phase <= MAX_DERIVED {
+        return Rate {
+            period: period as u32,
+            phase: phase as u32,
+        };
     }
-    if period < 1 {
-        return 1;
-    }
-    if MAX_DERIVED < period {
-        return 1;
-    }
-    if MAX_DERIVED < phase {
-        return 1;
-    }
-    word(period, phase)
+    NO_RATE
 }
 
-// The quotient, 0 by 0.
-fn quotient(a: u64, b: u64) -> u64
-    ensures { result ≡ a / b }
+// From the rate of a flow with which a row joins its result to that of the result. A flow gets its rate once, so this stands out of the loop of a pass.
+#[tactic(auto, unfolding(table::specs::Rows::kinds))]
+#[inline(never)]
+pub(crate) fn rise(r: Record, rate: Rate) -> Rate
+    requires { r.kind < kind_count }
+    ensures { result ≡ rise (row_made (words_of r)) rate }
 {
-    if b == 0 { 0 } else { a / b }
-}
-
-// The difference, 0 where it is below 0.
-fn difference(a: u64, b: u64) -> u64
-    ensures { result ≡ a - b }
-{
-    if a < b { 0 } else { a - b }
-}
-
-// Whether k divides a period.
-fn divides(k: u64, n: u64) -> bool
-    requires { (k < 4294967296) × (n < span) }
-    ensures { result ≡ eqb (k * (n / k)) n }
-{
-    k * quotient(n, k) == n
-}
-
-// From the rate of a flow with which a row joins its result to that of the result.
-pub(crate) fn rise(r: Record, x: u64) -> u64
-    requires { (r.kind < kind_count) × (0 < x) }
-    ensures { result ≡ word (rise (row_made (words_of r)) (rate_of x)) }
-{
-    let n = period_of(x);
-    let p = phase_of(x);
-    let two = r.two as u64;
-    let three = r.three as u64;
-    let kind = r.kind;
-    match kind {
+    let n = u64::from(rate.period);
+    let p = u64::from(rate.phase);
+    let two = u64::from(r.two);
+    let three = u64::from(r.three);
+    match r.kind {
         8 => given(n == two * three, three, p),
         9 => given(true, two * n, p),
         10 => given(true, n, p + two),
         11 => given(p == three + n, n, three),
         12 => given(true, n, p + n),
-        0..=7 => word(n, p),
-        13..=4294967295 => word(n, p),
+        _ => rate,
     }
 }
 
 // And back.
-pub(crate) fn fall(r: Record, x: u64) -> u64
-    requires { (r.kind < kind_count) × (0 < x) }
-    ensures { result ≡ word (fall (row_made (words_of r)) (rate_of x)) }
+#[tactic(auto, unfolding(table::specs::Rows::kinds))]
+#[inline(never)]
+pub(crate) fn fall(r: Record, rate: Rate) -> Rate
+    requires { r.kind < kind_count }
+    ensures { result ≡ fall (row_made (words_of r)) rate }
 {
-    let n = period_of(x);
-    let p = phase_of(x);
-    let two = r.two as u64;
-    let three = r.three as u64;
-    let kind = r.kind;
-    match kind {
+    let n = u64::from(rate.period);
+    let p = u64::from(rate.phase);
+    let two = u64::from(r.two);
+    let three = u64::from(r.three);
+    match r.kind {
         8 => given(n == three, two * three, p),
-        9 => given(divides(two, n), quotient(n, two), p),
-        10 => given(two <= p, n, difference(p, two)),
+        9 => {
+            let part = n.checked_div(two).unwrap_or(0);
+            given(two * part == n, part, p)
+        }
+        10 => given(two <= p, n, p.saturating_sub(two)),
         11 => given(p == three, n, three + n),
-        12 => given(n <= p, n, difference(p, n)),
-        0..=7 => word(n, p),
-        13..=4294967295 => word(n, p),
+        12 => given(n <= p, n, p.saturating_sub(n)),
+        _ => rate,
     }
 }
 
-// The word of a rated row, 0 for every other.
-pub(crate) fn begin(r: Record) -> u64
+// The rate of a rated row.
+pub(crate) fn begin(r: Record) -> Option<Rate>
     ensures { result ≡ begun (words_of r) }
 {
-    if r.kind == 0 {
-        return given(true, r.one as u64, r.two as u64);
+    match r.kind {
+        0 => Some(given(true, u64::from(r.one), u64::from(r.two))),
+        1 => Some(given(true, u64::from(r.two), u64::from(r.three))),
+        _ => None,
     }
-    if r.kind == 1 {
-        return given(true, r.two as u64, r.three as u64);
-    }
-    0
 }
 
 // A row with a rate filled in, where it is unrated.
-pub(crate) fn fill_row(r: Record, x: u64) -> Record
-    requires { 0 < x }
-    ensures { words_of result ≡ filled_row (rate_of x) (words_of r) }
+pub(crate) fn fill_row(r: Record, rate: Rate) -> Record
+    ensures { words_of result ≡ filled_row (rate_of rate) (words_of r) }
 {
-    let n = period_of(x);
-    let p = phase_of(x);
     if r.kind != UNRATED {
         return r;
     }
     Record {
         kind: 0,
-        one: n as u32,
-        two: p as u32,
+        one: rate.period,
+        two: rate.phase,
         three: 0,
     }
 }

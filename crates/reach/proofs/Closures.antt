@@ -6,7 +6,8 @@ use mathlib.Core.List.{List}
 use lib.Dec.{leb}
 use lib.ListN.{length, get_or}
 use borrow.Author.Tests.{leb-true, le-leb}
-use Rattle.table.specs.Answers.{no_room, good, unless}
+use Rattle.table.specs.declared.refusal.Refusal.TheVariants.{NoRoom}
+use Rattle.table.specs.Answers.{good, unless}
 use Rattle.table.specs.Rows.{Row}
 use Rattle.table.specs.Plain.{table_of}
 use Rattle.table.proofs.AnswerLaws.{answer_zero}
@@ -35,8 +36,8 @@ pub reaches : (m : ℕ) (words old : List ℕ) → (reach_answer m words (length
 unfolding reaching
 reaches m words old e =
     let a = answer_zero length (reaching m words (length old)) e in
-    let b = then_good (table_of m words) (λ rows. unless (leb m (length old)) no_room 0 (good (sets_of m words m))) a.0 a.1 in
-    let c = unless_good (leb m (length old)) no_room 0 (good (sets_of m words m)) a.0 b.2 in
+    let b = then_good (table_of m words) (λ rows. unless (leb m (length old)) NoRoom 0 (good (sets_of m words m))) a.0 a.1 in
+    let c = unless_good (leb m (length old)) NoRoom 0 (good (sets_of m words m)) a.0 b.2 in
     record { rows = b.0; table = b.1; room = leb-true m (length old) c.0 }
 
 pub sets_at : (m : ℕ) (words old : List ℕ) (rows : List Row) → table_of m words ≡ good rows → m ≤ length old

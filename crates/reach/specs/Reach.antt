@@ -1,7 +1,8 @@
 -- The flows to which a flow leads, through operands, beats and sources: reachability. And what the call answers and leaves.
 use Rattle.std.specs.Prelude.{◌≡◌, ℕ, zero, suc, true, ◌&&◌, ◌||◌, List, eqb, leb, length}
 use Rattle.table.specs.declared.Answer.{Answer}
-use Rattle.table.specs.Answers.{Result, good, unless, then, answer, leaves, no_room}
+use Rattle.table.specs.declared.refusal.Refusal.TheVariants.{NoRoom}
+use Rattle.table.specs.Answers.{Result, good, unless, then, answer, leaves}
 use Rattle.table.specs.Plain.{row_words, table_of, per_flow}
 use Rattle.table.specs.Links.{names}
 use Rattle.reach.specs.Sets.{Flows, set_of}
@@ -30,7 +31,7 @@ sets_of m words = per_flow (λ f. set_of (closure m words f) m)
 
 -- what the call comes to where there is room for so many sets
 unfoldable pub reaching : ℕ → List ℕ → ℕ → Result (List ℕ)
-reaching m words room = then (table_of m words) λ rows. unless (leb m room) no_room 0 (good (sets_of m words m))
+reaching m words room = then (table_of m words) λ rows. unless (leb m room) NoRoom 0 (good (sets_of m words m))
 
 abbrev pub reach_answer : ℕ → List ℕ → ℕ → Answer
 reach_answer m words room = answer length (reaching m words room)

@@ -1,16 +1,17 @@
 // The flows to which each flow of a plan leads, as sets: bit g of a set is flow g.
 #![tactic(auto)]
 
-ghost use Rattle.std.specs.Prelude.{◌≡◌, true, ◌<◌, ◌≤◌, length};
-ghost use Rattle.table.specs.Answers.{good, over};
-ghost use Rattle.table.specs.Plain.{words_of, table_of, rows_in};
+ghost use Rattle.std.specs.Prelude.{◌≡◌, ◌<◌, length};
+ghost use Rattle.table.specs.Answers.{parts};
+ghost use Rattle.table.specs.Plain.{words_of};
 ghost use Rattle.reach.specs.Sets.{has, with_flow};
 ghost use Rattle.reach.specs.Reach.{sets_of, reach_answer, sets_after};
-ghost use Rattle.reach.specs.Private.Steps.{named_set, absorbed, Reached, Swept, Left};
+ghost use Rattle.reach.specs.Private.Steps.{IsTable, named_set, absorbed, Reached, Swept};
 
-use table::{Answer, MAX_FLOWS, Record, record_at};
+use table::{MAX_FLOWS, Record, Refusal, Refused, record_at};
 
 // Whether a flow is in a set.
+#[tactic(auto, unfolding(crate::specs::Sets::has))]
 pub fn has(set: u64, flow: u32) -> bool
     ensures { result ≡ has set flow }
 {
@@ -24,16 +25,15 @@ pub fn has(set: u64, flow: u32) -> bool
 pub fn with_flow(set: u64, on: bool, x: u32) -> u64
     ensures { result ≡ with_flow set on x }
 {
-    if !on {
-        return set;
+    if on && x < MAX_FLOWS {
+        set | (1u64 << x)
+    } else {
+        set
     }
-    if MAX_FLOWS <= x {
-        return set;
-    }
-    set | (1u64 << x)
 }
 
 // Flow f, and the flows that its row names.
+#[tactic(auto, unfolding(crate::specs::Private::Steps::named_set))]
 fn named(f: u32, row: Record) -> u64
     ensures { result ≡ named_set f (words_of row) }
 {
@@ -48,63 +48,54 @@ fn named(f: u32, row: Record) -> u64
 fn absorb(x: u64, y: u64, k: u32) -> u64
     ensures { result ≡ absorbed x y k }
 {
-    if !has(x, k) {
-        return x;
-    }
-    x | y
+    if has(x, k) { x | y } else { x }
 }
 
-// For each flow the set of itself and the flows that its row names.
+// For each of n flows the set of itself and the flows that its row names.
 fn start(n: u32, words: &[u32], sets: &mut [u64])
-    requires { (table_of n words.now ≡ good (rows_in (table_of n words.now))) × (n ≤ length sets.old) }
-    ensures { Reached words.now n 0 sets.new × Left n sets.old sets.new }
+    requires table { IsTable n words.now }
+    requires size { length sets.old ≡ n }
+    ensures { Reached words.now n 0 sets.new }
 {
-    let mut f: u32 = 0;
-    while f < n {
+    for f in 0..n {
         sets[f as usize] = named(f, record_at(words, f));
-        f += 1;
     }
 }
 
 // Each set joined with that of flow k, where it has k.
-fn sweep(n: u32, k: u32, sets: &mut [u64])
-    requires { (n ≤ length sets.old) × (k < n) }
-    ensures { Swept n k sets.old sets.new × Left n sets.old sets.new }
+fn sweep(k: u32, sets: &mut [u64])
+    requires { k < length sets.old }
+    ensures { Swept k sets.old sets.new }
 {
     let through = sets[k as usize];
-    let mut f: u32 = 0;
-    while f < n {
-        sets[f as usize] = absorb(sets[f as usize], through, k);
-        f += 1;
+    for set in sets.iter_mut() {
+        *set = absorb(*set, through, k);
     }
 }
 
-// For each flow of a table the set of the flows to which it leads.
+// For each of n flows the set of the flows to which it leads.
 fn close(n: u32, words: &[u32], sets: &mut [u64])
-    requires { (table_of n words.now ≡ good (rows_in (table_of n words.now))) × (n ≤ length sets.old) }
-    ensures { sets.new ≡ over (sets_of n words.now n) sets.old }
+    requires table { IsTable n words.now }
+    requires size { length sets.old ≡ n }
+    ensures { sets.new ≡ sets_of n words.now n }
 {
     start(n, words, sets);
-    let mut k: u32 = 0;
-    while k < n {
-        sweep(n, k, sets);
-        k += 1;
+    for k in 0..n {
+        sweep(k, sets);
     }
 }
 
 // For each flow the set of the flows to which it leads, itself among them, through operands, beats and sources: the count of flows, or the first
 // refusal, which leaves the sets.
-pub fn reach(count: u32, words: &[u32], sets: &mut [u64]) -> Answer
-    ensures answered { result ≡ reach_answer count words.now (length sets.old) }
+pub fn reach(count: u32, words: &[u32], sets: &mut [u64]) -> Result<u32, Refused>
+    ensures answered { parts result ≡ reach_answer count words.now (length sets.old) }
     ensures stored { sets.new ≡ sets_after count words.now sets.old }
 {
-    let found = table::examine(count, words);
-    if found.number != 0 {
-        return found;
+    table::examine(count, words)?;
+    let n = count as usize;
+    if sets.len() < n {
+        return Err(Refusal::NoRoom.at(0));
     }
-    if sets.len() < count as usize {
-        return Answer::refusal(table::NO_ROOM, 0);
-    }
-    close(count, words, sets);
-    found
+    close(count, words, &mut sets[..n]);
+    Ok(count)
 }

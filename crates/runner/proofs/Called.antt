@@ -1,7 +1,10 @@
 -- What a run promises, refusal by refusal. Assumes nothing.
-use Rattle.std.proofs.Common.{◌≡◌, ℕ, ◌*◌, ◌<◌, ◌≤◌, List, map, length, sym, refl, ap, ◌∙◌, ap₂, arith}
+use Rattle.std.proofs.Common.{Ok, Err, ◌≡◌, ℕ, ◌*◌, ◌<◌, ◌≤◌, List, map, length, sym, refl, ap, ◌∙◌, arith}
 use Rattle.table.specs.declared.Answer.{Answer}
-use Rattle.table.specs.Answers.{Refusal, number, clash, short_trace, Result, good, refused, then, success, answer, over, leaves}
+use Rattle.table.specs.declared.refusal.Refusal.{Refusal}
+use Rattle.table.specs.declared.refusal.Refused.{Refused}
+use Rattle.table.specs.declared.refusal.Refusal.TheVariants.{Clash, ShortTrace}
+use Rattle.table.specs.Answers.{number, parts, Result, good, refused, then, success, answer, over, leaves}
 use Rattle.table.specs.Rows.{Row}
 use Rattle.table.specs.Plain.{table_of, rows_in as goodRows, plain_answer}
 use Rattle.table.proofs.AnswerLaws.{no_zero}
@@ -9,17 +12,18 @@ use Rattle.semantics.specs.Cells.{Cell, value}
 use Rattle.semantics.specs.Runs.{Ticks, inputs, Ran, done, clashed, run, cells, trace}
 use Rattle.semantics.specs.Answers.{max_ticks, running, ran_answer, mark_byte}
 use Rattle.runner.specs.Called.{Called}
-use Rattle.runner.specs.declared.Reached.{Reached}
-use Rattle.runner.specs.declared.Reached.TheVariants as reached
-use Rattle.runner.specs.Private.Ready.{rows_in, Plain}
-use Rattle.runner.specs.Private.Placed.{placed, TicksEnd, limits}
+use Rattle.runner.specs.declared.Clashed.{Clashed}
+use Rattle.runner.specs.declared.carried.Held.{Held}
+use Rattle.runner.specs.Private.Ready.{rows_in, Plain, Reached, clash_at}
+use Rattle.runner.specs.Private.Placed.{placed, TicksEnd, limits, given}
+use Rattle.runner.proofs.Tabled.{plain}
 use Rattle.runner.proofs.Placing.{placed_trace, placed_clash}
-use Rattle.runner.proofs.Running.{end_or_clash, same_clash}
+use Rattle.runner.proofs.Ticking.{end_or_clash, same_clash}
 use Rattle.runner.proofs.Limiting.{limits_then, not_kept, kept_all}
 
 -- what a clash is answered with
 abbrev pub clash_answer : ℕ → ℕ → Answer
-clash_answer f t = record { number = number clash; flow = f; tick = t; count = 0 }
+clash_answer f t = record { number = number Clash; flow = f; tick = t; count = 0 }
 
 -- what a call leaves, by what its run comes to
 called :
@@ -36,35 +40,35 @@ called m words log ticks ms vs ms' vs' r x e a p q =
 -- the run of a table that is not refused, behind its limits
 module _ (m : ℕ) (words log : List ℕ) (ticks : ℕ) (ms vs : List ℕ) (P : Plain m words) where
   abbrev pub limited : Result (Unit {0})
-  limited = limits ticks max_ticks (length log) (inputs (rows_in m words)) (ticks * m) short_trace (length ms) (length vs)
+  limited = limits ticks max_ticks (length log) (inputs (rows_in m words)) (ticks * m) ShortTrace (length ms) (length vs)
 
   tests : running m words log ticks (length ms) (length vs) ≡ then limited (λ u. good (run (rows_in m words) log ticks))
-  unfolding running Plain
+  unfolding running
   tests =
-      rw P
-      (sym (limits_then ticks max_ticks (length log) (inputs (rows_in m words)) (ticks * m) short_trace (length ms) (length vs) (good (run (rows_in m words) log ticks))))
+      rw P.rows
+      (sym (limits_then ticks max_ticks (length log) (inputs (rows_in m words)) (ticks * m) ShortTrace (length ms) (length vs) (good (run (rows_in m words) log ticks))))
 
-  pub turned_down : (r : Answer) → r ≡ answer (λ (u : Unit {0}). 0) limited → (r.number ≡ 0 → ⊥) → Called m words log ticks ms vs ms vs r
-  turned_down r a z =
+  pub turned_down : (e : Refused) → Err e ≡ given limited → Called m words log ticks ms vs ms vs (parts (Err e))
+  turned_down e a =
       let x =
-      not_kept ticks max_ticks (length log) (inputs (rows_in m words)) (ticks * m) short_trace (length ms) (length vs) (running m words log ticks (length ms) (length vs))
-      (good (run (rows_in m words) log ticks)) tests r a z in
-      called m words log ticks ms vs ms vs r (refused x.0 x.1) x.2 x.3 refl refl
+      not_kept ticks max_ticks (length log) (inputs (rows_in m words)) (ticks * m) ShortTrace (length ms) (length vs) (running m words log ticks (length ms) (length vs))
+      (good (run (rows_in m words) log ticks)) tests e a in
+      called m words log ticks ms vs ms vs (parts (Err e)) (refused e.why e.flow) x.0 (ap (λ (d : Refused). parts (Err d)) x.1) refl refl
 
   -- behind limits that are kept
-  module _ (r : Answer) (a : r ≡ answer (λ (u : Unit {0}). 0) limited) (z : r.number ≡ 0) where
+  module _ (u : Unit {0}) (a : Ok u ≡ given limited) where
     pub within : (running m words log ticks (length ms) (length vs) ≡ good (run (rows_in m words) log ticks)) × (ticks ≤ max_ticks)
         × (length log ≡ ticks * inputs (rows_in m words)) × (ticks * m ≤ length ms) × (ticks * m ≤ length vs)
     within =
-        kept_all ticks max_ticks (length log) (inputs (rows_in m words)) (ticks * m) short_trace (length ms) (length vs) (running m words log ticks (length ms) (length vs))
-        (good (run (rows_in m words) log ticks)) tests r a z
+        kept_all ticks max_ticks (length log) (inputs (rows_in m words)) (ticks * m) ShortTrace (length ms) (length vs) (running m words log ticks (length ms) (length vs))
+        (good (run (rows_in m words) log ticks)) tests u a
 
     ran : (x : Ran) → run (rows_in m words) log ticks ≡ x → running m words log ticks (length ms) (length vs) ≡ good x
     ran x e = within.0 ∙ ap good e
 
-    module _ (room : ℕ) (w : ticks ≤ room) (s ms' vs' : List ℕ) (end : Reached)
+    module _ (room : ℕ) (w : ticks ≤ room) (s : List Held) (ms' vs' : List ℕ) (end : Reached)
         (D : TicksEnd m room ticks (rows_in m words) log (run (rows_in m words) log ticks) ms vs s ms' vs' end) where
-      pub ended : end ≡ reached.End → Called m words log ticks ms vs ms' vs' (success ticks)
+      pub ended : end ≡ Ok tt → Called m words log ticks ms vs ms' vs' (success ticks)
       ended q = go (run (rows_in m words) log ticks) refl D
         where
           go : (x : Ran) → run (rows_in m words) log ticks ≡ x → TicksEnd m room ticks (rows_in m words) log x ms vs s ms' vs' end
@@ -78,7 +82,7 @@ module _ (m : ℕ) (words log : List ℕ) (ticks : ℕ) (ms vs : List ℕ) (P : 
               (all mark_byte ms ms' R.marks) (all value vs vs' R.values)
           go (clashed t f now past) e d = end_or_clash (sym q ∙ d.0)
 
-      pub stopped : (t f : ℕ) → end ≡ reached.Clash t f → Called m words log ticks ms vs ms' vs' (clash_answer f t) × (f < m)
+      pub stopped : (t f : ℕ) → end ≡ Err (clash_at t f) → Called m words log ticks ms vs ms' vs' (clash_answer f t) × (f < m)
       stopped t f q = go (run (rows_in m words) log ticks) refl D
         where
           go : (x : Ran) → run (rows_in m words) log ticks ≡ x → TicksEnd m room ticks (rows_in m words) log x ms vs s ms' vs' end
@@ -88,14 +92,14 @@ module _ (m : ℕ) (words log : List ℕ) (ticks : ℕ) (ms vs : List ℕ) (P : 
               let same = same_clash (sym q ∙ d.0) in
               let C = d.1 in (
                 called m words log ticks ms vs ms' vs' (clash_answer f t) (good (clashed u g now past)) (ran (clashed u g now past) e)
-                    (ap₂ clash_answer same.1 same.0) (C.marks ∙ placed_clash room m mark_byte ms now past C.regular (omega (arith, C.few)))
+                    (ap (λ (x : Clashed). clash_answer x.flow x.tick) same) (C.marks ∙ placed_clash room m mark_byte ms now past C.regular (omega (arith, C.few)))
                     (C.values ∙ placed_clash room m value vs now past C.regular (omega (arith, C.few))),
-                omega (arith, C.flow, same.1),
+                omega (arith, C.flow, ap (λ (x : Clashed). x.flow) same),
               )
 
 pub accepted : (m : ℕ) (words : List ℕ) (r : Answer) → r ≡ plain_answer m words → r.number ≡ 0 → Plain m words
-unfolding Plain rows_in
-accepted m words r e z = go (table_of m words) refl (ap (λ (a : Answer). a.number) (sym e) ∙ z)
+unfolding rows_in
+accepted m words r e z = plain m words (go (table_of m words) refl (ap (λ (a : Answer). a.number) (sym e) ∙ z))
   where
     go : (x : Result (List Row)) → table_of m words ≡ x → (answer length x).number ≡ 0 → table_of m words ≡ good (goodRows (table_of m words))
     go (good rows) q n = q ∙ ap good (sym (ap goodRows q))

@@ -6,7 +6,8 @@ use borrow.Author.Tests.{eqb-false}
 use Rattle.table.proofs.Tests.{Tried, passed, failed, try, same_test}
 use Rattle.semantics.specs.Cells.{Cell, absent, present, History, back, latest}
 use Rattle.semantics.specs.Operators.{Step, is, clashes, clash_unless, copied, faster_of}
-use Rattle.runner.specs.Private.Carried.{Held, held, faster_step, faster_next, begun}
+use Rattle.runner.specs.declared.carried.Held.{Held}
+use Rattle.runner.specs.Private.Carried.{faster_step, faster_next, begun}
 use Rattle.runner.specs.Private.Ready.{Copying, Copies, unseen, copying}
 
 copied_none : (k g j : ℕ) (h : History) → ((i : ℕ) → i < k → back h (j + i * g) ≡ absent) → copied k g j h ≡ absent
@@ -108,7 +109,7 @@ module _ (k g : ℕ) (h : History) (w : Held) (p : 1 ≤ g) (s : Copying k g h w
       }
 
   -- and where one was
-  advances : length h ≡ w.y → w.y < w.z → Copying k g (absent ∷ h) (held w.x (length h + g) w.z)
+  advances : length h ≡ w.y → w.y < w.z → Copying k g (absent ∷ h) (record w { y = length h + g })
   unfolding latest
   advances e b =
       let f : suc s.c < k = lt_of_mul-lt-mul_right g (omega arith) in
@@ -135,9 +136,9 @@ module _ (k g : ℕ) (h : History) (w : Held) (p : 1 ≤ g) (s : Copying k g h w
       (λ e. eq-eqb (length h) w.z (omega (arith, eqb-true (length h - s.tick) (k * g) e)))
 
 -- the words after a presence
-begins : (k g v : ℕ) (h : History) → 1 ≤ k → 1 ≤ g → ((j : ℕ) → suc j < k * g → back h j ≡ absent) → Copying k g (present v ∷ h) (begun (length h) v k g)
+begins : (k g v : ℕ) (h : History) (w : Held) → 1 ≤ k → 1 ≤ g → ((j : ℕ) → suc j < k * g → back h j ≡ absent) → Copying k g (present v ∷ h) (begun (length h) v k g w)
 unfolding latest
-begins k g v h p q n =
+begins k g v h w p q n =
     record {
       tick = length h;
       d = 0;
@@ -208,7 +209,7 @@ module _ (k g : ℕ) (p : 1 ≤ k) (q : 1 ≤ g) (h : History) (w : Held) where
       → Copying k g (present v ∷ h) (faster_next (length h) (present v) k g w)
   follows v c s (failed e) y = never_is (rw (e) at y)
   follows v c s (passed e) y =
-      rw (not_zero s, e) (begins k g v h p q
+      rw (not_zero s, e) (begins k g v h w p q
       (λ j l. s.quiet j (omega (arith, eqb-true (length h) w.z e, s.at, s.due)) (λ z. omega (arith, eqb-true (length h) w.z e, s.at, s.due))))
 
   pub faster_follows : (a c : Cell) → Copies k g h w → faster_step (length h) a w ≡ is c → Copies k g (a ∷ h) (faster_next (length h) a k g w)
@@ -223,5 +224,5 @@ module _ (k g : ℕ) (p : 1 ≤ k) (q : 1 ≤ g) (h : History) (w : Held) where
       same true = unseen empty l z
       same false = unseen empty l z
   faster_follows absent c (copying s) y = copying (moves s (try (eqb (length h) w.y)) (try (ltb w.y w.z)))
-  faster_follows (present v) c (unseen n l z) y = rw (eq-eqb w.z 0 z) (copying (begins k g v h p q (λ j b. n j)))
+  faster_follows (present v) c (unseen n l z) y = rw (eq-eqb w.z 0 z) (copying (begins k g v h w p q (λ j b. n j)))
   faster_follows (present v) c (copying s) y = copying (follows v c s (try (eqb (length h) w.z)) (rw (not_zero s) at y))

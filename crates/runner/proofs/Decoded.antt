@@ -1,6 +1,8 @@
 -- What a kind's number says of the row that it makes: one computed test each, over the whole list of kinds. Assumes nothing.
 use Rattle.std.proofs.Common.{◌≡◌, ℕ, ◌<◌, ◌≤◌, Bool, true, false, ◌||◌, eqb, ◌⊎◌, sym, refl, ap, ◌∙◌, inl, inr, arith, eq-eqb, ne_eqb, eqb-true, leb-true}
 use mathlib.Core.Bool.{beq, false≢true}
+use mir.Val.{bool_byte as from_bool}
+use Rattle.table.specs.Bits.{bit}
 use Rattle.table.specs.Rows.{Row, Op, input, constant, combine, register, faster, slower, later, head, tail, sample, merge, unrated, view, kinds, kind_count, decode}
 use Rattle.table.proofs.Tests.{Tried, passed, failed, try, beq_true}
 use Rattle.table.proofs.Entries.{every, kind_test}
@@ -64,15 +66,11 @@ no_later n x y z a d l m e = false≢true (sym m ∙ sym (looks_by n x y z l) �
 pub no_view : (n x y z : ℕ) (u : Bool) (a c w : ℕ) → n < kind_count → looks_back n ≡ false → decode n x y z ≡ view u a c w → ⊥
 no_view n x y z u a c w l m e = false≢true (sym m ∙ sym (looks_by n x y z l) ∙ ap looks e)
 
+-- a test as a number
+pub bit_is : (b : Bool) → from_bool b ≡ bit b
+bit_is true = refl
+bit_is false = refl
+
 -- kinds 2 to 6 have an operator each
 pub op_is : (k n : ℕ) (op op' : Op) → k ≡ n → Combines n op → Combines k op' → op ≡ op'
 op_is k n op op' q e e' = let z : combine op 0 0 ≡ combine op' 0 0 = sym (e 0 0 0) ∙ ap (λ (i : ℕ). decode i 0 0 0) (sym q) ∙ e' 0 0 0 in cc
-
-pub six : (k : ℕ) → 2 ≤ k → k ≤ 6 → (k ≡ 2 → ⊥) → (k ≡ 3 → ⊥) → (k ≡ 4 → ⊥) → (k ≡ 5 → ⊥) → k ≡ 6
-six k l m a b c d = omega arith
-
-pub two_or_more : (k : ℕ) → (k ≡ 0 → ⊥) → (k ≡ 1 → ⊥) → 2 ≤ k
-two_or_more k a b = omega arith
-
-pub seven : (k : ℕ) → 2 ≤ k → (k ≡ 2 → ⊥) → (k ≡ 3 → ⊥) → (k ≡ 4 → ⊥) → (k ≡ 5 → ⊥) → (k ≡ 6 → ⊥) → 7 ≤ k
-seven k l a b c d e = omega arith

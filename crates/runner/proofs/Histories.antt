@@ -6,7 +6,8 @@ use borrow.Author.Tests.{lt-leb, eqb-false}
 use Rattle.table.proofs.Tests.{Tried, passed, failed, try, same_test, and_left, and_right, and_both}
 use Rattle.semantics.specs.Cells.{Cell, absent, present, History, count, latest, on_grid}
 use Rattle.semantics.specs.Operators.{is, clashes, clash_unless, timed, slower_of, tail_of, evenly, head_fits, head_of}
-use Rattle.runner.specs.Private.Carried.{Held, held, timed_step, timed_next, slower_step, slower_next, head_step, head_next, after_step, after_next, tail_step, tail_next}
+use Rattle.runner.specs.declared.carried.Held.{Held}
+use Rattle.runner.specs.Private.Carried.{timed_step, timed_next, slower_step, slower_next, head_step, head_next, after_step, after_next, tail_step, tail_next}
 use Rattle.runner.specs.Private.Ready.{Due, Heads, never, once, often}
 use Rattle.runner.proofs.Copies.{never_is}
 
@@ -63,7 +64,7 @@ module _ (n p t : ℕ) (w : Held) (d : Due n p t w.x) where
 pub timed_keeps : (t n : ℕ) (w : Held) → (timed_next t n w).y ≡ w.y
 timed_keeps t n w = go (eqb t w.x)
   where
-    go : (b : Bool) → (cond b (held (t + n) w.y w.z) w).y ≡ w.y
+    go : (b : Bool) → (cond b (record w { x = t + n }) w).y ≡ w.y
     go true = refl
     go false = refl
 

@@ -1,11 +1,10 @@
-pub mod Words
 pub mod Decoded
 pub mod Copies
 pub mod Histories
 pub mod Views
 pub mod Steps
 pub mod Tabled
-pub mod Cells
+pub mod Written
 pub mod Flowing
 pub mod Latching
 pub mod Ticking
@@ -14,7 +13,6 @@ pub mod Starting
 pub mod Placing
 pub mod Recalling
 pub mod Collecting
-pub mod Lent
 pub mod Tallying
 pub mod Running
 pub mod Limiting
@@ -22,3 +20,4 @@ pub mod Underway
 pub mod Called
 pub mod LongCalled
 pub mod LongRuns
+pub mod Plans

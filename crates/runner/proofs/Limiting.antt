@@ -1,11 +1,12 @@
 -- The limits of either run, test by test. Assumes nothing.
-use Rattle.std.proofs.Common.{◌≡◌, ℕ, ◌*◌, ◌<◌, ◌≤◌, Bool, true, false, ◌&&◌, eqb, leb, sym, refl, ap, ◌∙◌, eq-eqb, ne_eqb, eqb-true, le-leb, leb-true}
-use borrow.Author.Tests.{lt-leb}
-use Rattle.table.specs.declared.Answer.{Answer}
-use Rattle.table.specs.Answers.{Refusal, number, too_many_ticks, wrong_log, Result, good, refused, unless, then, numbered, refusal, success, answer}
-use Rattle.table.proofs.AnswerLaws.{answer_zero, answer_other}
+use Rattle.std.proofs.Common.{Ok, Err, ◌≡◌, ℕ, ◌*◌, ◌≤◌, Bool, true, false, ◌&&◌, eqb, leb, sym, refl, ap, ◌∙◌, eqb-true, leb-true}
+use Rattle.table.specs.declared.refusal.Refused.{Refused}
+use Rattle.table.specs.declared.refusal.Refusal.{Refusal}
+use Rattle.table.specs.declared.refusal.Refusal.TheVariants.{TooManyTicks, WrongLog}
+use Rattle.table.specs.Answers.{Result, good, refused, unless, then, named}
 use Rattle.table.proofs.Tests.{and_left, and_right, unless_good}
-use Rattle.runner.specs.Private.Placed.{limits}
+use Rattle.runner.specs.Private.Placed.{limits, given}
+use Rattle.runner.proofs.Ticking.{end_or_clash, same_clash}
 
 -- a guard beside another for the same cause is a guard behind it
 pub unless_both : {A : Type 0} (a b : Bool) (why : Refusal) (f : ℕ) (r : Result A) → unless (a && b) why f r ≡ unless a why f (unless b why f r)
@@ -16,12 +17,12 @@ module _ (ticks most logged inputs cells : ℕ) (short : Refusal) (marks values 
   -- what goes on behind the limits
   pub limits_then : {A : Type 0} (x : Result A)
       → then (limits ticks most logged inputs cells short marks values) (λ u. x)
-      ≡ unless (leb ticks most) too_many_ticks 0 (unless (eqb logged (ticks * inputs)) wrong_log 0 (unless (leb cells marks && leb cells values) short 0 x))
+      ≡ unless (leb ticks most) TooManyTicks 0 (unless (eqb logged (ticks * inputs)) WrongLog 0 (unless (leb cells marks && leb cells values) short 0 x))
   limits_then {A} x = go (leb ticks most) (eqb logged (ticks * inputs)) (leb cells marks && leb cells values)
     where
       go : (a b c : Bool)
-          → then (unless a too_many_ticks 0 (unless b wrong_log 0 (unless c short 0 (good tt)))) (λ (u : Unit {0}). x)
-          ≡ unless a too_many_ticks 0 (unless b wrong_log 0 (unless c short 0 x))
+          → then (unless a TooManyTicks 0 (unless b WrongLog 0 (unless c short 0 (good tt)))) (λ (u : Unit {0}). x)
+          ≡ unless a TooManyTicks 0 (unless b WrongLog 0 (unless c short 0 x))
       go true true true = refl
       go true true false = refl
       go true false c = refl
@@ -31,8 +32,8 @@ module _ (ticks most logged inputs cells : ℕ) (short : Refusal) (marks values 
   kept : (u : Unit {0}) → limits ticks most logged inputs cells short marks values ≡ good u
       → (ticks ≤ most) × (logged ≡ ticks * inputs) × (cells ≤ marks) × (cells ≤ values)
   kept u e =
-      let few = unless_good (leb ticks most) too_many_ticks 0 _ u e in
-      let exact = unless_good (eqb logged (ticks * inputs)) wrong_log 0 _ u few.1 in
+      let few = unless_good (leb ticks most) TooManyTicks 0 _ u e in
+      let exact = unless_good (eqb logged (ticks * inputs)) WrongLog 0 _ u few.1 in
       let room = unless_good (leb cells marks && leb cells values) short 0 _ u exact.1 in (
         leb-true ticks most few.0,
         eqb-true logged (ticks * inputs) exact.0,
@@ -40,43 +41,25 @@ module _ (ticks most logged inputs cells : ℕ) (short : Refusal) (marks values 
         leb-true cells values (and_right (leb cells marks) (leb cells values) room.0),
       )
 
-  -- what the tests answer
-  abbrev pub Tested : Answer → Type 0
-  Tested r = r ≡ answer (λ (u : Unit {0}). 0) (limits ticks most logged inputs cells short marks values)
+  -- what the tests tell of a run behind the limits: their refusal, or that the limits are kept
+  module _ {A : Type 0} (whole x : Result A) (tests : whole ≡ then (limits ticks most logged inputs cells short marks values) (λ u. x)) where
+    behind : (y : Result (Unit {0})) → limits ticks most logged inputs cells short marks values ≡ y → whole ≡ then y (λ u. x)
+    behind y q = tests ∙ ap (λ (v : Result (Unit {0})). then v (λ u. x)) q
 
-  -- what the answer tells of a run behind the limits: its refusal, or that the limits are kept
-  module _ {A : Type 0} (whole x : Result A) (tests : whole ≡ then (limits ticks most logged inputs cells short marks values) (λ u. x)) (r : Answer) (a : Tested r) where
-    pub not_kept : (r.number ≡ 0 → ⊥) → (why : Refusal) × (f : ℕ) × (whole ≡ refused why f) × (r ≡ refusal why f)
-    not_kept z =
-        let y = answer_other (λ (u : Unit {0}). 0) (limits ticks most logged inputs cells short marks values) (λ q. z (ap (λ (b : Answer). b.number) a ∙ q)) in (
-          y.0,
-          y.1,
-          tests ∙ ap (λ (v : Result (Unit {0})). then v (λ u. x)) y.2,
-          a ∙ ap (answer (λ (u : Unit {0}). 0)) y.2,
-        )
+    pub not_kept : (e : Refused) → Err e ≡ given (limits ticks most logged inputs cells short marks values) → whole ≡ refused e.why e.flow × (e ≡ named e.why e.flow)
+    not_kept e a = go (limits ticks most logged inputs cells short marks values) refl a
+      where
+        go : (y : Result (Unit {0})) → limits ticks most logged inputs cells short marks values ≡ y → Err e ≡ given y → whole ≡ refused e.why e.flow × (e ≡ named e.why e.flow)
+        go (good u) q a = end_or_clash (sym a)
+        go (refused why f) q a =
+            let z : e ≡ named why f = same_clash a in
+            (behind (refused why f) q ∙ sym (ap (λ (d : Refused). refused d.why d.flow) z), z ∙ sym (ap (λ (d : Refused). named d.why d.flow) z))
 
-    pub kept_all : r.number ≡ 0 → (whole ≡ x) × (ticks ≤ most) × (logged ≡ ticks * inputs) × (cells ≤ marks) × (cells ≤ values)
-    kept_all z =
-        let y = answer_zero (λ (u : Unit {0}). 0) (limits ticks most logged inputs cells short marks values) (ap (λ (b : Answer). b.number) (sym a) ∙ z) in
-        let k = kept y.0 y.1 in
-        (tests ∙ ap (λ (v : Result (Unit {0})). then v (λ u. x)) y.1, k.0, k.1, k.2, k.3)
-
-  pub too_many : (r : Answer) → r ≡ refusal too_many_ticks 0 → most < ticks → Tested r
-  too_many r a l = rw (lt-leb ticks most l) a
-
-  module _ (few : ticks ≤ most) where
-    pub wrong_log_lem : (r : Answer) → r ≡ refusal wrong_log 0 → (logged ≡ ticks * inputs → ⊥) → Tested r
-    wrong_log_lem r a l = rw (le-leb ticks most few, ne_eqb logged (ticks * inputs) l) a
-
-    module _ (exact : logged ≡ ticks * inputs) where
-      pub short_marks : (r : Answer) (w : ℕ) → r ≡ numbered w 0 → number short ≡ w → marks < cells → Tested r
-      short_marks r w a q h =
-          rw (le-leb ticks most few, eq-eqb logged (ticks * inputs) exact, lt-leb cells marks h) (a ∙ ap (λ (i : ℕ). numbered i 0) (sym q))
-
-      pub short_values : (r : Answer) (w : ℕ) → r ≡ numbered w 0 → number short ≡ w → cells ≤ marks → values < cells → Tested r
-      short_values r w a q l h =
-          rw (le-leb ticks most few, eq-eqb logged (ticks * inputs) exact, le-leb cells marks l, lt-leb cells values h)
-          (a ∙ ap (λ (i : ℕ). numbered i 0) (sym q))
-
-      pub all_kept : (r : Answer) → r ≡ success 0 → cells ≤ marks → cells ≤ values → Tested r
-      all_kept r a l h = rw (le-leb ticks most few, eq-eqb logged (ticks * inputs) exact, le-leb cells marks l, le-leb cells values h) a
+    pub kept_all : (u : Unit {0}) → Ok u ≡ given (limits ticks most logged inputs cells short marks values)
+        → (whole ≡ x) × (ticks ≤ most) × (logged ≡ ticks * inputs) × (cells ≤ marks) × (cells ≤ values)
+    kept_all u a = go (limits ticks most logged inputs cells short marks values) refl a
+      where
+        go : (y : Result (Unit {0})) → limits ticks most logged inputs cells short marks values ≡ y → Ok u ≡ given y
+            → (whole ≡ x) × (ticks ≤ most) × (logged ≡ ticks * inputs) × (cells ≤ marks) × (cells ≤ values)
+        go (good v) q a = let k = kept v q in (behind (good v) q, k.0, k.1, k.2, k.3)
+        go (refused why f) q a = end_or_clash a

@@ -1,6 +1,7 @@
 -- The long run never clashes, and its contract leaves nothing free. Assumes nothing.
 use Rattle.std.proofs.Common.{◌≡◌, ℕ, ◌*◌, eqb, leb, List, length, sym, refl, ap, ◌∙◌, subst, arith}
-use Rattle.table.specs.Answers.{number, clash, Result, good, refused, unless, then, answer, too_many_ticks, wrong_log, short_window}
+use Rattle.table.specs.declared.refusal.Refusal.TheVariants.{Clash, TooManyTicks, WrongLog, ShortWindow}
+use Rattle.table.specs.Answers.{number, Result, good, refused, unless, then, answer}
 use Rattle.table.specs.Rows.{Row}
 use Rattle.table.specs.Plain.{table_of, rows_in}
 use Rattle.checker.specs.Rules.{clocks_of}
@@ -29,9 +30,9 @@ ends m words clocks a log ticks =
 module _ (m : ℕ) (words log : List ℕ) (ticks a b c : ℕ) where
   behind_other : (rows : List Row) → OtherCause (behind m log ticks a b c rows)
   behind_other rows =
-      unless_other (leb ticks max_long_ticks) too_many_ticks 0 (logged m log ticks a b c rows) (λ e. omega arith)
-      (unless_other (eqb (length log) (ticks * inputs rows)) wrong_log 0 (unless (roomy m log ticks a b c) short_window 0 (good rows)) (λ e. omega arith)
-      (unless_other (roomy m log ticks a b c) short_window 0 (good rows) (λ e. omega arith) (is_good rows)))
+      unless_other (leb ticks max_long_ticks) TooManyTicks 0 (logged m log ticks a b c rows) (λ e. omega arith)
+      (unless_other (eqb (length log) (ticks * inputs rows)) WrongLog 0 (unless (roomy m log ticks a b c) ShortWindow 0 (good rows)) (λ e. omega arith)
+      (unless_other (roomy m log ticks a b c) ShortWindow 0 (good rows) (λ e. omega arith) (is_good rows)))
 
   long_other : OtherCause (long_rows m words log ticks a b c)
   unfolding long_rows
@@ -39,10 +40,10 @@ module _ (m : ℕ) (words log : List ℕ) (ticks a b c : ℕ) where
       then_other (table_of m words) (λ rows. then (clocks_of rows) λ clocks. behind m log ticks a b c rows) (table_other m words)
       (λ rows. then_other (clocks_of rows) (λ clocks. behind m log ticks a b c rows) (clocks_other rows) (λ clocks. behind_other rows))
 
-  never : (long_answer m words log ticks a b c).number ≡ number clash → ⊥
+  never : (long_answer m words log ticks a b c).number ≡ number Clash → ⊥
   never z = go (long_rows m words log ticks a b c) refl z
     where
-      go : (x : Result (List Row)) → long_rows m words log ticks a b c ≡ x → (answer (λ (rows : List Row). ticks) x).number ≡ number clash → ⊥
+      go : (x : Result (List Row)) → long_rows m words log ticks a b c ≡ x → (answer (λ (rows : List Row). ticks) x).number ≡ number Clash → ⊥
       go (refused why f) e q = long_other.other why f e q
       go (good rows) e q = omega arith
 

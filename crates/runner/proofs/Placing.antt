@@ -1,6 +1,6 @@
 -- Marks and values that take each tick's cells at its own place: what each place then holds. Assumes nothing.
 use Rattle.std.proofs.Common.{◌≡◌, ℕ, zero, suc, ◌+◌, ◌-◌, ◌*◌, ◌%◌, ◌^◌, ◌<◌, ◌≤◌, ltb, ◌⊎◌, List, [], ◌∷◌, ◌++◌, map, length, get_or, take, drop}
-use Rattle.std.proofs.Common.{sym, refl, ap, ◌∙◌, subst, inl, inr, append_assoc, mul-le-mul_right, mod-lt, mod-eq_of_lt, suc-mul, arith}
+use Rattle.std.proofs.Common.{sym, refl, ap, ◌∙◌, subst, inl, inr, append_assoc, mul-le-mul, mul-le-mul_right, mod-lt, mod-eq_of_lt, suc-mul, arith}
 use Rattle.std.proofs.Common.{length-append, length-drop, length-take-le, get_or-drop, get_or-take, drop-drop, get_or-append-add, ltb-false, ltb-true}
 use native.Mathlib.Nat.{mod-le, mod-eq-sub-mod, mod-add-mod}
 use mathlib.Core.List.{map-append}
@@ -15,7 +15,10 @@ use Rattle.semantics.specs.Runs.{Tick, Ticks, cell_in, history, cells, Regular}
 use Rattle.semantics.specs.Windows.{Windowed}
 use Rattle.semantics.proofs.Traces.{cells_length, history_length, tick_back}
 use Rattle.runner.specs.Private.Placed.{Mask, first_cell, Fitting, splice, placed}
-use Rattle.runner.proofs.Words.{place_small}
+
+-- a product with a count of flows is low
+pub place_small : (t n w : ℕ) → t ≤ w → n ≤ max_flows → t * n ≤ w * max_flows
+place_small t n w l k = mul-le-mul {n₁ = t} {m₁ = n} {n₂ = w} {m₂ = max_flows} l k
 
 -- a mask leaves the remainder
 pub masked : (t mask : ℕ) → Mask mask → bit_and t mask ≡ t % (mask + 1)

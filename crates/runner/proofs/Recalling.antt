@@ -8,7 +8,7 @@ use Rattle.semantics.specs.Answers.{mark_byte}
 use Rattle.runner.specs.Private.Carried.{cell_at}
 use Rattle.runner.specs.Private.Placed.{first_cell, Fitting, placed, Recalls, Nearby}
 use Rattle.runner.proofs.Placing.{fewer, placed_last}
-use Rattle.runner.proofs.Cells.{cell_back}
+use Rattle.runner.proofs.Written.{cell_back}
 use Rattle.runner.proofs.Views.{first_low}
 
 module _ (room n t : ℕ) (past : Ticks) (z : length past ≡ t) (r : Regular n past) where

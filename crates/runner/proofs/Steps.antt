@@ -6,7 +6,8 @@ use Rattle.semantics.specs.Cells.{Cell, absent, present, mark, History, back, co
 use Rattle.semantics.specs.Operators.{is, timed, registered, faster_of, later_of, head_of, value_or, viewed}
 use Rattle.semantics.specs.Runs.{Tick, Ticks, cell_in, history, inputs, cell_of}
 use Rattle.semantics.proofs.Traces.{history_length}
-use Rattle.runner.specs.Private.Carried.{Held, cell_at, register_step, faster_step, faster_next, later_step, head_step, head_next, status, view_step, view_next, step_of, next_of}
+use Rattle.runner.specs.declared.carried.Held.{Held}
+use Rattle.runner.specs.Private.Carried.{cell_at, register_step, faster_step, faster_next, later_step, head_step, head_next, status, view_step, view_next, step_of, next_of}
 use Rattle.runner.specs.Private.Ready.{Copies, Heads, Views, Carries, Collected, Follows}
 use Rattle.runner.proofs.Copies.{faster_steps, faster_follows}
 use Rattle.runner.proofs.Views.{view_steps, view_follows}

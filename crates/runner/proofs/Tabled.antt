@@ -1,14 +1,16 @@
 -- What the words of a table that is not refused make. Assumes nothing.
-use Rattle.std.proofs.Common.{◌≡◌, ℕ, ◌+◌, ◌*◌, ◌<◌, ◌≤◌, Bool, true, false, eqb, List, length, get_or, sym, ap, ◌∙◌, subst, ne_eqb}
+use Rattle.std.proofs.Common.{◌≡◌, ℕ, ◌+◌, ◌*◌, ◌<◌, Bool, true, false, eqb, List, get_or, sym, ap, ◌∙◌, subst, ne_eqb}
 use Rattle.table.specs.Rows.{Row, kind_count, kind_at, decode, max_flows, row_size, Words, on_register}
+use Rattle.table.specs.Answers.{good}
+use Rattle.table.specs.Plain.{table_of}
 use Rattle.table.specs.Tables.{row_at, FieldsFit, Fits}
 use Rattle.table.proofs.Tables.{Made, fields_fit, fit_more, row_fits, Table, table_made, four_read}
 use Rattle.table.proofs.Registers.{register_by}
 use Rattle.semantics.specs.Cells.{History}
 use Rattle.semantics.specs.Runs.{is_input}
 use Rattle.semantics.proofs.Inputs.{input_kind}
-use Rattle.runner.specs.Private.Carried.{Held}
-use Rattle.runner.specs.Private.Ready.{rows_in, Plain, Collected, Listed, looks_back}
+use Rattle.runner.specs.declared.carried.Held.{Held}
+use Rattle.runner.specs.Private.Ready.{rows_in, Plain, Collected, looks_back}
 use Rattle.runner.proofs.Decoded as decoded
 
 -- Row f's words as the code reads them, and the row that they make.
@@ -25,13 +27,10 @@ abbrev pub made_of : Words → Row
 made_of w = decode w.kind w.one w.two w.three
 
 pub plain_table : (m : ℕ) (words : List ℕ) → Plain m words → Table m words (rows_in m words)
-unfolding Plain
-plain_table m words e = table_made m words (rows_in m words) e
+plain_table m words P = table_made m words (rows_in m words) P.rows
 
--- the next row of a list of rows: the list has room for it, and its number is low
-pub listed_low : {test : ℕ → Bool} {n count j : ℕ} {words list : List ℕ} → Listed test n words list count → j < count → Plain n words
-    → (get_or list j 0 < n) × (n ≤ max_flows) × (length words ≡ row_size * n) × (count ≤ length list) × (j < count)
-listed_low {n = n} {j = j} {words = words} I h p = let T = plain_table n words p in (I.within j h, T.few, T.words_size, I.room, h)
+pub plain : (m : ℕ) (words : List ℕ) → table_of m words ≡ good (rows_in m words) → Plain m words
+plain m words e = let T = table_made m words (rows_in m words) e in record { rows = e; few = T.few; size = T.words_size }
 
 -- row f by its four words
 pub record RowAt (m : ℕ) (words : List ℕ) (row : Row) (f : ℕ) : Type 0 where

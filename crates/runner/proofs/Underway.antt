@@ -6,24 +6,24 @@ use Rattle.semantics.specs.Runs.{Ticks, run}
 use Rattle.semantics.specs.Answers.{mark_byte}
 use Rattle.semantics.specs.Windows.{Windowed, Tallied}
 use Rattle.semantics.proofs.Traces.{run_earlier}
-use Rattle.runner.specs.declared.Reached.{Reached}
 use Rattle.runner.specs.Long.{window_ticks, LongRan}
-use Rattle.runner.specs.Private.Ready.{AllCarry}
+use Rattle.runner.specs.declared.carried.Held.{Held}
+use Rattle.runner.specs.Private.Ready.{AllCarry, Reached}
 use Rattle.runner.specs.Private.Placed.{placed, Recalls, Running, TicksEnd, Unclashed, stretch_ticks}
 use Rattle.runner.proofs.Placing.{windowed, window_fits}
 use Rattle.runner.proofs.Running.{starts, recall, filled_up}
 
-pub record Underway (n t : ℕ) (rows : List Row) (log ms₀ vs₀ ts₀ s ms vs ts : List ℕ) : Type 0 where
+pub record Underway (n t : ℕ) (rows : List Row) (log ms₀ vs₀ ts₀ : List ℕ) (s : List Held) (ms vs ts : List ℕ) : Type 0 where
   pub running : Running n window_ticks t rows log ms₀ vs₀ s ms vs
   pub tallied : Tallied n running.past ts₀ ts
 
-pub begun : (n : ℕ) (rows : List Row) (log ms vs ts s : List ℕ) → AllCarry rows 0 [] s → Tallied n [] ts ts → Underway n 0 rows log ms vs ts s ms vs ts
+pub begun : (n : ℕ) (rows : List Row) (log ms vs ts : List ℕ) (s : List Held) → AllCarry rows 0 [] s → Tallied n [] ts ts → Underway n 0 rows log ms vs ts s ms vs ts
 unfolding starts
 begun n rows log ms vs ts s C T = record { running = starts C; tallied = T }
 
 -- a stretch more: its ticks are filled, since none clashes, and then tallied
 pub stretched :
-    (n t next : ℕ) (rows : List Row) (log ms₀ vs₀ ts₀ s ms vs ts s' ms' vs' ts' : List ℕ) (r : Reached) → Underway n t rows log ms₀ vs₀ ts₀ s ms vs ts
+    (n t next : ℕ) (rows : List Row) (log ms₀ vs₀ ts₀ : List ℕ) (s : List Held) (ms vs ts : List ℕ) (s' : List Held) (ms' vs' ts' : List ℕ) (r : Reached) → Underway n t rows log ms₀ vs₀ ts₀ s ms vs ts
     → Unclashed rows log → t < next → next ≤ t + stretch_ticks → window_ticks * n ≤ length ms' → window_ticks * n ≤ length vs'
     → TicksEnd n window_ticks next rows log (run rows log next) ms₀ vs₀ s' ms' vs' r
     → ((past : Ticks) (old : List ℕ) → length past ≡ next → next ≤ t + window_ticks → Recalls window_ticks n next past ms' vs'
@@ -43,7 +43,7 @@ stretched n t next rows log ms₀ vs₀ ts₀ s ms vs ts s' ms' vs' ts' r U N lo
 
 -- the end
 pub all_ticks :
-    (n t ticks : ℕ) (rows : List Row) (log ms₀ vs₀ ts₀ s ms vs ts : List ℕ) → Underway n t rows log ms₀ vs₀ ts₀ s ms vs ts → ticks ≤ t → t ≤ ticks
+    (n t ticks : ℕ) (rows : List Row) (log ms₀ vs₀ ts₀ : List ℕ) (s : List Held) (ms vs ts : List ℕ) → Underway n t rows log ms₀ vs₀ ts₀ s ms vs ts → ticks ≤ t → t ≤ ticks
     → window_ticks * n ≤ length ms₀ → window_ticks * n ≤ length vs₀ → LongRan n log ticks rows ms₀ vs₀ ts₀ ms vs ts
 all_ticks n t ticks rows log ms₀ vs₀ ts₀ s ms vs ts U l h hm hv =
     record {

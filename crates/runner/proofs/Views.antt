@@ -9,7 +9,8 @@ use Rattle.table.proofs.Tests.{Tried, passed, failed, try}
 use Rattle.semantics.specs.Cells.{Cell, absent, present, mark, History, back, cell_on, first_or, first}
 use Rattle.semantics.specs.Operators.{is, clashes, truth_of, looked_at, seen, governed, viewed}
 use Rattle.semantics.proofs.Traces.{tick_back, tick_now, tick_before}
-use Rattle.runner.specs.Private.Carried.{Held, held, status, view_next, view_pass, view_step, look_for}
+use Rattle.runner.specs.declared.carried.Held.{Held}
+use Rattle.runner.specs.Private.Carried.{status, view_next, view_pass, view_step, look_for}
 use Rattle.runner.specs.Private.Ready.{Views, waiting, ready, seeing, Looked}
 
 never_is : {c : Cell} {A : Type 0} → clashes ≡ is c → A
@@ -95,7 +96,7 @@ module _ (w : ℕ) (pos : 0 < w) (ha hc : History) (same : length ha ≡ length 
 
   -- from a's first presence at this tick on
   begins : (x r y : ℕ) (c : Cell) (g : ℕ) → first ha ≡ none → first (c ∷ hc) ≡ some r → y ≡ r → g ≡ status (cell_on (c ∷ hc) r)
-      → Views w (present x ∷ ha) (c ∷ hc) (held (length ha + w) (length ha - y) g)
+      → Views w (present x ∷ ha) (c ∷ hc) (record h { x = length ha + w; y = length ha - y; z = g })
   begins x r y c g a b e z =
       let l : r < suc (length hc) = first_low (c ∷ hc) r b in
       let q : r + w * 0 ≡ r = omega arith in

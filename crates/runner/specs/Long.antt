@@ -1,7 +1,8 @@
 -- The long run: the check first, then a run whose last ticks stand in a window, and a tally of each flow.
 use Rattle.std.specs.Prelude.{◌≡◌, ℕ, ◌*◌, ◌&&◌, List, length, ◌==◌, nat_le}
 use Rattle.table.specs.declared.Answer.{Answer}
-use Rattle.table.specs.Answers.{Result, good, refused, unless, then, answer, too_many_ticks, wrong_log, short_window}
+use Rattle.table.specs.declared.refusal.Refusal.TheVariants.{TooManyTicks, WrongLog, ShortWindow}
+use Rattle.table.specs.Answers.{Result, good, refused, unless, then, answer}
 use Rattle.table.specs.Rows.{Row}
 use Rattle.table.specs.Plain.{table_of}
 use Rattle.checker.specs.Rules.{clocks_of}
@@ -22,9 +23,9 @@ unfoldable pub long_rows : ℕ → List ℕ → List ℕ → ℕ → ℕ → ℕ
 long_rows m words log ticks marks values tallies =
     then (table_of m words) λ rows.
     then (clocks_of rows) λ clocks.
-    unless (nat_le ticks max_long_ticks) too_many_ticks 0
-    (unless (length log == ticks * inputs rows) wrong_log 0
-    (unless (nat_le (window_ticks * m) marks && nat_le (window_ticks * m) values && nat_le (tally_size * m) tallies) short_window 0
+    unless (nat_le ticks max_long_ticks) TooManyTicks 0
+    (unless (length log == ticks * inputs rows) WrongLog 0
+    (unless (nat_le (window_ticks * m) marks && nat_le (window_ticks * m) values && nat_le (tally_size * m) tallies) ShortWindow 0
     (good rows)))
 
 -- success counts the ticks

@@ -2,3 +2,4 @@
 pub mod Carried
 pub mod Ready
 pub mod Placed
+pub mod Plans

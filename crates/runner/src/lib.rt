@@ -2,71 +2,63 @@
 #![tactic(auto)]
 
 ghost use Rattle.std.specs.Prelude.{◌≡◌, ℕ, ◌+◌, ◌*◌, ◌^◌, ◌<◌, ◌≤◌, List, length};
-ghost use Rattle.table.specs.Answers.{Refusal, number, answer};
+ghost use Rattle.table.specs.Answers.{parts};
 ghost use Rattle.table.specs.Rows.{max_flows, max_field};
-ghost use Rattle.semantics.specs.Runs.{Ticks, tick_of};
-ghost use Rattle.semantics.specs.Runs as runs;
+ghost use Rattle.semantics.specs.Runs.{Ticks, tick_of, run};
 ghost use Rattle.runner.specs.Called.{Called};
 ghost use Rattle.runner.specs.Long.{LongCalled};
-ghost use Rattle.runner.specs.Private.Carried.{state_size};
-ghost use Rattle.runner.specs.Private.Ready.{rows_in, Plain, AllCarry, Ready, Listed, is_register, looks_back};
-ghost use Rattle.runner.specs.Private.Placed.{Mask, first_cell, Fitting, Recalls, Near, Nearby, TickAt, Running, TicksEnd};
+ghost use Rattle.runner.specs.Private.Ready.{Plain, AllCarry, Ready, numbers, looks_back};
+ghost use Rattle.runner.specs.Private.Placed.{first_cell, Fitting, Recalls, Near, Nearby, TickAt, Running, TicksEnd, given};
+ghost use Rattle.runner.specs.Private.Plans.{plan_rows};
 ghost use Rattle.runner.specs.Private.Placed as placed;
 
 mod carried;
+mod cells;
 mod long;
 mod operators;
+mod plan;
 mod state;
 mod tally;
 mod ticks;
 
-use crate::state::{LATER, REGISTER, STATE_SIZE};
-use crate::ticks::Ticked;
+use crate::carried::Held;
+use crate::plan::Plan;
+use crate::state::{LATER, REGISTER};
 use semantics::MAX_TICKS;
-use table::{Answer, MAX_FLOWS};
+use table::{MAX_FLOWS, Refusal, Refused};
 
 // The mask that leaves every tick as it is: a run's that has room for all.
-const WHOLE: u32 = 4294967295;
+const WHOLE: usize = 4294967295;
 
-// How far ticks came: to the end, or to a clash, with its tick and the flow that it names.
+// A clash: its tick, and the flow that it names.
 #[derive(Clone, Copy)]
-enum Reached {
-    End,
-    Clash(u32, usize),
+struct Clashed {
+    tick: u32,
+    flow: usize,
 }
 
 // The parts of marks and values that start at the tick's own first cell are lent to the tick.
 fn tick_at(
+    plan: Plan,
     first: usize,
-    n: usize,
-    words: &[u32],
-    registers: &[u32],
-    count: usize,
-    log: &[u32],
     at: usize,
     t: u32,
-    state: &mut [u32],
+    state: &mut [Held],
     marks: &mut [u8],
     values: &mut [u32],
-) -> Ticked
-    requires { (Plain n words.now)
-        × (first + n ≤ length marks.old)
-        × (first + n ≤ length values.old)
-        × (length state.old ≡ state_size)
-        × (Listed is_register n words.now registers.now count)
+) -> Result<(), usize>
+    requires { (first + plan.n ≤ length marks.old)
+        × (first + plan.n ≤ length values.old)
+        × (plan.n ≤ length state.old)
         × (t < 2 ^ 24)
         × (at < 2 ^ 40) }
     ensures { (past : Ticks)
-        → Ready (rows_in n words.now) past t at state.old
-        → TickAt first (rows_in n words.now) t past (tick_of (rows_in n words.now) log.now past)
+        → Ready (plan_rows plan.entry) past t at state.old
+        → TickAt first (plan_rows plan.entry) t past (tick_of (plan_rows plan.entry) plan.entry.log.now past)
         marks.old values.old marks.new values.new state.new result }
 {
     ticks::tick(
-        n,
-        words,
-        registers,
-        count,
-        log,
+        plan,
         at,
         t,
         state,
@@ -77,165 +69,90 @@ fn tick_at(
 
 // One turn of a run: what tick t needs of earlier ticks is collected, and the tick is worked out from its first cell on.
 fn turn(
-    n: usize,
-    words: &[u32],
-    registers: &[u32],
-    register_count: usize,
+    plan: Plan,
     backward: &[u32],
-    backward_count: usize,
-    log: &[u32],
-    inputs: usize,
     t: u32,
-    mask: u32,
-    first: usize,
-    state: &mut [u32],
+    state: &mut [Held],
     marks: &mut [u8],
     values: &mut [u32],
-) -> Ticked
-    requires { (Plain n words.now)
-        × (Fitting (mask + 1) n (t + 1) (length marks.old))
-        × (Fitting (mask + 1) n (t + 1) (length values.old))
-        × (length state.old ≡ state_size)
-        × (Listed is_register n words.now registers.now register_count)
-        × (Listed looks_back n words.now backward.now backward_count)
+) -> Result<(), usize>
+    requires { (Fitting (plan.mask + 1) plan.n (t + 1) (length marks.old))
+        × (Fitting (plan.mask + 1) plan.n (t + 1) (length values.old))
+        × (plan.n ≤ length state.old)
         × (t < 2 ^ 24)
-        × (inputs ≡ runs.inputs (rows_in n words.now))
-        × (Mask mask)
-        × (first ≡ first_cell (mask + 1) n t)
-        × (max_field ≤ mask) }
+        × (backward.now ≡ numbers looks_back plan.n plan.words.now) }
     ensures { (past : Ticks)
         → length past ≡ t
-        → Recalls (mask + 1) n t past marks.old values.old
-        → Near (mask + 1) (rows_in n words.now) past
-        → AllCarry (rows_in n words.now) t past state.old
-        → TickAt first (rows_in n words.now) t past (tick_of (rows_in n words.now) log.now past)
+        → Recalls (plan.entry.mask + 1) plan.entry.n t past marks.old values.old
+        → Near (plan.entry.mask + 1) (plan_rows plan.entry) past
+        → AllCarry (plan_rows plan.entry) t past state.old
+        → TickAt (first_cell (plan.entry.mask + 1) plan.entry.n t) (plan_rows plan.entry) t past (tick_of (plan_rows plan.entry) plan.entry.log.now past)
         marks.old values.old marks.new values.new state.new result }
 {
-    state::collect(
-        backward,
-        backward_count,
-        n,
-        words,
-        t,
-        mask,
-        marks,
-        values,
-        state,
-    );
-    let at = (t as usize) * inputs;
-    tick_at(
-        first,
-        n,
-        words,
-        registers,
-        register_count,
-        log,
-        at,
-        t,
-        state,
-        marks,
-        values,
-    )
+    state::collect(plan, backward, t, marks, values, state);
+    let first = plan.first_cell(t);
+    let at = (t as usize) * plan.inputs;
+    tick_at(plan, first, at, t, state, marks, values)
 }
 
-// The ticks from one up to another, until one clashes.
+// The ticks from one up to another, until one clashes. The list and the plan come last: first, a tick has three instructions more.
 pub(crate) fn run_ticks(
-    n: usize,
-    words: &[u32],
-    registers: &[u32],
-    register_count: usize,
-    backward: &[u32],
-    backward_count: usize,
-    log: &[u32],
-    inputs: usize,
     from: u32,
     to: u32,
-    mask: u32,
-    state: &mut [u32],
+    state: &mut [Held],
     marks: &mut [u8],
     values: &mut [u32],
-) -> Reached
-    requires { (Plain n words.now)
-        × (Fitting (mask + 1) n to (length marks.old))
-        × (Fitting (mask + 1) n to (length values.old))
-        × (length state.old ≡ state_size)
-        × (Listed is_register n words.now registers.now register_count)
-        × (Listed looks_back n words.now backward.now backward_count)
+    backward: &[u32],
+    plan: Plan,
+) -> Result<(), Clashed>
+    requires { (Fitting (plan.mask + 1) plan.n to (length marks.old))
+        × (Fitting (plan.mask + 1) plan.n to (length values.old))
+        × (plan.n ≤ length state.old)
         × (from ≤ to)
         × (to < 2 ^ 24)
-        × (inputs ≡ runs.inputs (rows_in n words.now))
-        × (Mask mask)
-        × (max_field ≤ mask)
-        × (Nearby (mask + 1) (rows_in n words.now) log.now) }
+        × (Nearby (plan.mask + 1) (plan_rows plan) plan.log.now)
+        × (backward.now ≡ numbers looks_back plan.n plan.words.now) }
     ensures { (ms vs : List ℕ)
-        → Running n (mask + 1) from (rows_in n words.now) log.now ms vs state.old marks.old values.old
-        → TicksEnd n (mask + 1) to (rows_in n words.now) log.now
-        (runs.run (rows_in n words.now) log.now to)
+        → Running plan.entry.n (plan.entry.mask + 1) from (plan_rows plan.entry) plan.entry.log.now ms vs state.old marks.old values.old
+        → TicksEnd plan.entry.n (plan.entry.mask + 1) to (plan_rows plan.entry) plan.entry.log.now
+        (run (plan_rows plan.entry) plan.entry.log.now to)
         ms vs state.new marks.new values.new result }
 {
-    let mut t: u32 = from;
-    while t < to {
-        let next = t + 1;
-        let first = state::first_cell(t, mask, n);
-        let done = turn(
-            n,
-            words,
-            registers,
-            register_count,
-            backward,
-            backward_count,
-            log,
-            inputs,
-            t,
-            mask,
-            first,
-            state,
-            marks,
-            values,
-        );
-        match done {
-            Ticked::Stopped(f) => {
-                return Reached::Clash(t, f);
-            }
-            Ticked::Full => {}
+    for t in from..to {
+        if let Err(flow) = turn(plan, backward, t, state, marks, values) {
+            return Err(Clashed { tick: t, flow });
         }
-        t = next;
     }
-    Reached::End
+    Ok(())
 }
 
-// The limits of either run, on lengths: 31 above the most ticks, 32, and `short` where marks or values have too few cells. Success counts nothing.
+// The limits of either run, on lengths: 31 above the most ticks, 32, and `short` where marks or values have too few cells.
 pub(crate) fn limits(
     ticks: u32,
     most: u32,
     logged: usize,
     inputs: usize,
     cells: usize,
-    short: u32,
+    short: Refusal,
     marks: usize,
     values: usize,
-) -> Answer
+) -> Result<(), Refused>
     requires { inputs ≤ max_flows }
-    ensures { (why : Refusal)
-        → number why ≡ short
-        → result ≡ answer (λ u. 0) (placed.limits ticks most logged inputs cells why marks values) }
+    ensures { result ≡ given (placed.limits ticks most logged inputs cells short marks values) }
 {
     if most < ticks {
-        return Answer::refusal(table::TOO_MANY_TICKS, 0);
+        return Err(Refusal::TooManyTicks.at(0));
     }
     if logged != (ticks as usize) * inputs {
-        return Answer::refusal(table::WRONG_LOG, 0);
+        return Err(Refusal::WrongLog.at(0));
     }
-    if marks < cells {
-        return Answer::refusal(short, 0);
+    if marks < cells || values < cells {
+        return Err(short.at(0));
     }
-    if values < cells {
-        return Answer::refusal(short, 0);
-    }
-    Answer::success(0)
+    Ok(())
 }
 
-// The run of a table that is not refused: its limits, and then all its ticks. A clash is answered with 34.
+// The run of a table that is not refused: its limits, and then all its ticks, or 34 with the flow and the tick of a clash.
 fn replay(
     n: usize,
     words: &[u32],
@@ -243,55 +160,51 @@ fn replay(
     ticks: u32,
     marks: &mut [u8],
     values: &mut [u32],
-) -> Answer
+) -> Result<u32, Refused>
     requires { Plain n words.now }
     ensures { Called n words.now log.now ticks marks.old values.old marks.new
-        values.new result }
+        values.new (parts result) }
 {
-    let mut state = [0u32; STATE_SIZE];
+    let mut state = [carried::NOTHING; MAX_FLOWS as usize];
     let inputs = state::start(n, words, &mut state) as usize;
     let cells = (ticks as usize) * n;
-    let found = limits(
+    limits(
         ticks,
         MAX_TICKS,
         log.len(),
         inputs,
         cells,
-        table::SHORT_TRACE,
+        Refusal::ShortTrace,
         marks.len(),
         values.len(),
-    );
-    if found.number != 0 {
-        return found;
-    }
+    )?;
     let mut registers = [0u32; MAX_FLOWS as usize];
     let mut backward = [0u32; MAX_FLOWS as usize];
     let register_count = state::listed(REGISTER, table::KINDS, n, words, &mut registers);
     let backward_count = state::listed(LATER, table::FIRST_VIEW, n, words, &mut backward);
-    let end = run_ticks(
+    let plan = Plan {
         n,
         words,
-        &registers,
-        register_count,
-        &backward,
-        backward_count,
-        log,
+        registers: &registers[..register_count],
         inputs,
+        log,
+        mask: WHOLE,
+    };
+    match run_ticks(
         0,
         ticks,
-        WHOLE,
         &mut state,
         marks,
         values,
-    );
-    match end {
-        Reached::Clash(t, f) => Answer {
-            number: table::CLASH,
-            flow: f as u32,
-            tick: t,
-            count: 0,
-        },
-        Reached::End => Answer::success(ticks),
+        &backward[..backward_count],
+        plan,
+    ) {
+        Ok(()) => Ok(ticks),
+        Err(clash) => Err(Refused {
+            why: Refusal::Clash,
+            flow: clash.flow as u32,
+            tick: clash.tick,
+        }),
     }
 }
 
@@ -303,16 +216,12 @@ pub fn run(
     ticks: u32,
     marks: &mut [u8],
     values: &mut [u32],
-) -> Answer
+) -> Result<u32, Refused>
     ensures { Called count words.now log.now ticks marks.old values.old marks.new
-        values.new result }
+        values.new (parts result) }
 {
-    let found = table::examine(count, words);
-    if found.number == 0 {
-        replay(count as usize, words, log, ticks, marks, values)
-    } else {
-        found
-    }
+    table::examine(count, words)?;
+    replay(count as usize, words, log, ticks, marks, values)
 }
 
 // The long run of a table of `count` rows over a log, after the check: the last ticks in marks and values, tick t at place t modulo the window's
@@ -325,15 +234,11 @@ pub fn long_run(
     marks: &mut [u8],
     values: &mut [u32],
     tallies: &mut [u32],
-) -> Answer
+) -> Result<u32, Refused>
     ensures { LongCalled count words.now log.now ticks marks.old values.old
-        tallies.old marks.new values.new tallies.new result }
+        tallies.old marks.new values.new tallies.new (parts result) }
 {
     let mut clocks = [0u32; checker::CLOCKS];
-    let checked = checker::check(count, words, &mut clocks);
-    if checked.number == 0 {
-        long::replay(count as usize, words, log, ticks, marks, values, tallies)
-    } else {
-        checked
-    }
+    checker::check(count, words, &mut clocks)?;
+    long::replay(count as usize, words, log, ticks, marks, values, tallies)
 }

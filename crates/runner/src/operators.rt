@@ -1,10 +1,15 @@
-// What each operator makes of its operands' cells at a tick, which stand below f in marks and values. A value is read only where it is needed.
+// What each operator makes of its operands' cells at a tick. A value is read only where it is needed.
+#![tactic(auto, unfolding(semantics::specs::Operators::below, semantics::specs::Operators::combined, semantics::specs::Operators::sampled, semantics::specs::Operators::neither, semantics::specs::Operators::alone, semantics::specs::Operators::merged))]
+
 ghost use Rattle.std.specs.Prelude.{◌≡◌, ◌<◌, ◌≤◌, length};
-ghost use Rattle.table.specs.Bits.{bit};
 ghost use Rattle.table.specs.Rows.{Op, larger};
 ghost use Rattle.semantics.specs.Operators.{below, apply, combined, sampled, neither, alone, merged};
-ghost use Rattle.runner.specs.Private.Carried.{outcome_of, cells_in, Combines, Held, register_step};
+ghost use Rattle.runner.specs.Private.Carried.{outcome_of, Combines, register_step};
 ghost use Rattle.semantics.specs.Cells.{present};
+ghost use Rattle.runner.specs.Private.Plans.{cells_of};
+
+use crate::carried::Held;
+use crate::cells::Cells;
 
 // What a row comes to at a tick: the mark and the value of its cell, or the mark of a clash.
 #[derive(Clone, Copy)]
@@ -33,13 +38,6 @@ fn below(x: u32, y: u32) -> bool
     (x ^ SIGN_BIT) < (y ^ SIGN_BIT)
 }
 
-// 1 where a test is passed, else 0.
-pub(crate) fn bit(b: bool) -> u32
-    ensures { result ≡ bit b }
-{
-    if b { 1 } else { 0 }
-}
-
 // The greater of two signed numbers.
 fn larger(x: u32, y: u32) -> u32
     ensures { result ≡ apply larger x y }
@@ -53,77 +51,66 @@ fn apply(kind: u32, x: u32, y: u32) -> u32
     ensures { (op : Op) → Combines kind op → result ≡ apply op x y }
 {
     match kind {
-        2 => std::num::wrapping_add_u32(x, y),
-        3 => std::num::wrapping_sub_u32(x, y),
-        4 => bit(below(x, y)),
-        5 => bit(x == y),
+        2 => x.wrapping_add(y),
+        3 => x.wrapping_sub(y),
+        4 => u32::from(below(x, y)),
+        5 => u32::from(x == y),
         _ => larger(x, y),
     }
 }
 
 // Kinds 2 to 6: present when both operands are.
-pub(crate) fn combined(kind: u32, marks: &[u8], values: &[u32], f: usize, a: u32, b: u32) -> Outcome
-    requires { (a < f) × (b < f) × (f ≤ length marks.now) × (f ≤ length values.now) × (2 ≤ kind) × (kind ≤ 6) }
+pub(crate) fn combined(kind: u32, cells: Cells, a: u32, b: u32) -> Outcome
+    requires { (a < cells.f) × (b < cells.f) × (2 ≤ kind) × (kind ≤ 6) }
     ensures { (op : Op)
         → Combines kind op
-        → result ≡ outcome_of (combined op
-        (cells_in marks.now values.now f a)
-        (cells_in marks.now values.now f b)) }
+        → result ≡ outcome_of (combined op (cells_of cells.entry a) (cells_of cells.entry b)) }
 {
     let i = a as usize;
     let j = b as usize;
-    if marks[i] == 0 {
-        if marks[j] == 0 { ABSENT } else { CLASH }
+    if cells.marks[i] == 0 {
+        if cells.marks[j] == 0 { ABSENT } else { CLASH }
     } else {
-        if marks[j] == 0 {
+        if cells.marks[j] == 0 {
             CLASH
         } else {
             Outcome {
                 mark: 1,
-                value: apply(kind, values[i], values[j]),
+                value: apply(kind, cells.values[i], cells.values[j]),
             }
         }
     }
 }
 
-// Register: carries the value of its source's latest presence, at first the initial value.
-pub(crate) fn registered(marks: &[u8], values: &[u32], f: usize, b: u32, held: u32) -> Outcome
-    requires { (b < f) × (f ≤ length marks.now) }
-    ensures { (h : Held) → h.x ≡ held → result ≡ outcome_of (register_step (cells_in marks.now values.now f b) h) }
+// Register: x is the value of its source's latest presence, at first the initial value.
+pub(crate) fn registered(cells: Cells, b: u32, held: &Held) -> Outcome
+    requires { b < cells.f }
+    ensures { result ≡ outcome_of (register_step (cells_of cells.entry b) held.now) }
 {
-    if marks[b as usize] == 0 {
+    if cells.marks[b as usize] == 0 {
         ABSENT
     } else {
         Outcome {
             mark: 1,
-            value: held,
+            value: held.x,
         }
     }
 }
 
 // When, when-not: present where both are and c has the truth wanted.
-pub(crate) fn sampled(
-    wanted: bool,
-    marks: &[u8],
-    values: &[u32],
-    f: usize,
-    a: u32,
-    c: u32,
-) -> Outcome
-    requires { (a < f) × (c < f) × (f ≤ length marks.now) × (f ≤ length values.now) }
-    ensures { result ≡ outcome_of (sampled wanted
-        (cells_in marks.now values.now f a)
-        (cells_in marks.now values.now f c)) }
+pub(crate) fn sampled(wanted: bool, cells: Cells, a: u32, c: u32) -> Outcome
+    requires { (a < cells.f) × (c < cells.f) }
+    ensures { result ≡ outcome_of (sampled wanted (cells_of cells.entry a) (cells_of cells.entry c)) }
 {
     let i = a as usize;
     let j = c as usize;
-    if marks[i] == 0 {
-        if marks[j] == 0 { ABSENT } else { CLASH }
+    if cells.marks[i] == 0 {
+        if cells.marks[j] == 0 { ABSENT } else { CLASH }
     } else {
-        if marks[j] == 0 {
+        if cells.marks[j] == 0 {
             CLASH
         } else {
-            chosen(wanted, values[i], values[j])
+            chosen(wanted, cells.values[i], cells.values[j])
         }
     }
 }
@@ -148,20 +135,18 @@ fn chosen(wanted: bool, x: u32, y: u32) -> Outcome
 }
 
 // The one of two that is to be present alone.
-fn alone(marks: &[u8], values: &[u32], f: usize, one: u32, other: u32) -> Outcome
-    requires { (one < f) × (other < f) × (f ≤ length marks.now) × (f ≤ length values.now) }
-    ensures { result ≡ outcome_of (alone
-        (cells_in marks.now values.now f one)
-        (cells_in marks.now values.now f other)) }
+fn alone(cells: Cells, one: u32, other: u32) -> Outcome
+    requires { (one < cells.f) × (other < cells.f) }
+    ensures { result ≡ outcome_of (alone (cells_of cells.entry one) (cells_of cells.entry other)) }
 {
     let i = one as usize;
-    if marks[i] == 0 {
+    if cells.marks[i] == 0 {
         return CLASH;
     }
-    let value = values[i];
+    let value = cells.values[i];
     let given = Outcome { mark: 1, value };
     let both = CLASH;
-    if marks[other as usize] == 0 {
+    if cells.marks[other as usize] == 0 {
         given
     } else {
         both
@@ -169,39 +154,30 @@ fn alone(marks: &[u8], values: &[u32], f: usize, one: u32, other: u32) -> Outcom
 }
 
 // Neither of two.
-fn neither(marks: &[u8], values: &[u32], f: usize, a: u32, b: u32) -> Outcome
-    requires { (a < f) × (b < f) × (f ≤ length marks.now) }
-    ensures { result ≡ outcome_of (neither
-        (cells_in marks.now values.now f a)
-        (cells_in marks.now values.now f b)) }
+fn neither(cells: Cells, a: u32, b: u32) -> Outcome
+    requires { (a < cells.f) × (b < cells.f) }
+    ensures { result ≡ outcome_of (neither (cells_of cells.entry a) (cells_of cells.entry b)) }
 {
-    if marks[a as usize] == 0 {
-        if marks[b as usize] == 0 {
-            ABSENT
-        } else {
-            CLASH
-        }
+    if cells.marks[a as usize] == 0 && cells.marks[b as usize] == 0 {
+        ABSENT
     } else {
         CLASH
     }
 }
 
 // Merge: the one that the truth of c names, alone.
-pub(crate) fn merged(marks: &[u8], values: &[u32], f: usize, c: u32, a: u32, b: u32) -> Outcome
-    requires { (c < f) × (a < f) × (b < f) × (f ≤ length marks.now) × (f ≤ length values.now) }
-    ensures { result ≡ outcome_of (merged
-        (cells_in marks.now values.now f c)
-        (cells_in marks.now values.now f a)
-        (cells_in marks.now values.now f b)) }
+pub(crate) fn merged(cells: Cells, c: u32, a: u32, b: u32) -> Outcome
+    requires { (c < cells.f) × (a < cells.f) × (b < cells.f) }
+    ensures { result ≡ outcome_of (merged (cells_of cells.entry c) (cells_of cells.entry a) (cells_of cells.entry b)) }
 {
     let j = c as usize;
-    if marks[j] == 0 {
-        neither(marks, values, f, a, b)
+    if cells.marks[j] == 0 {
+        neither(cells, a, b)
     } else {
-        if values[j] == 0 {
-            alone(marks, values, f, b, a)
+        if cells.values[j] == 0 {
+            alone(cells, b, a)
         } else {
-            alone(marks, values, f, a, b)
+            alone(cells, a, b)
         }
     }
 }

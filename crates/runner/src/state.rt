@@ -1,18 +1,16 @@
 // The words that the rows carry into tick 0, the rows of a kind, and what is collected of earlier ticks.
-ghost use Rattle.std.specs.Prelude.{◌≡◌, ℕ, ◌+◌, ◌*◌, ◌^◌, ◌<◌, ◌≤◌, [], length, replicate, if◌then◌else◌, ◌≢◌, slice_index, slice_set};
+ghost use Rattle.std.specs.Prelude.{◌≡◌, ℕ, ◌+◌, ◌*◌, ◌^◌, ◌<◌, ◌≤◌, [], length, take, if◌then◌else◌, ◌≢◌, slice_index, slice_set};
 ghost use Rattle.table.specs.Rows.{max_flows, max_field, kind_count, decode, row_size};
 ghost use Rattle.semantics.specs.Runs.{Ticks, inputs};
-ghost use Rattle.runner.specs.Private.Carried.{held_size, state_size, held_in, start_word, start_of, Started};
-ghost use Rattle.runner.specs.Private.Ready.{rows_in, Plain, AllCarry, Ready, Listed, one_of, looks_back};
-ghost use Rattle.runner.specs.Private.Placed.{Mask, first_cell, Fitting, Recalls, Fetched, Sighted, Backward, Near};
+ghost use Rattle.runner.specs.Private.Carried.{cell_at, look_for, start_word, start_of};
+ghost use Rattle.runner.specs.Private.Ready.{rows_in, Plain, AllCarry, Ready, numbers, one_of, looks_back};
+ghost use Rattle.runner.specs.Private.Placed.{Fitting, Recalls, cell_before, Backward, Near};
+ghost use Rattle.runner.specs.Private.Plans.{plan_rows};
 
-use crate::{carried, operators};
+use crate::carried;
+use crate::carried::Held;
+use crate::plan::Plan;
 use table::ROW_SIZE;
-
-// How many words are kept for what a row carries, and for all rows.
-pub(crate) const HELD_SIZE: usize = 4;
-
-pub(crate) const STATE_SIZE: usize = HELD_SIZE * (table::MAX_FLOWS as usize);
 
 // The kinds of registers and of later rows.
 pub(crate) const REGISTER: u32 = 7;
@@ -23,10 +21,7 @@ pub(crate) const LATER: u32 = 10;
 fn one_of(kind: u32, from: u32, k: u32) -> bool
     ensures { result ≡ one_of kind from k }
 {
-    if k == kind {
-        return true;
-    }
-    from <= k
+    k == kind || from <= k
 }
 
 // Row f is added to the list where it is of one of the kinds.
@@ -51,21 +46,20 @@ fn listed_with(
     }
 }
 
-// The numbers of the rows of a kind, and of those from another on, in ascending order, and how many there are.
+// The numbers of the rows of a kind, and of those from another on, in ascending order, at the front of a list, and how many there are.
 pub(crate) fn listed(kind: u32, from: u32, n: usize, words: &[u32], list: &mut [u32]) -> usize
     requires { (n ≤ max_flows) × (length words.now ≡ row_size * n) × (n ≤ length list.old) }
-    ensures { Listed (one_of kind from) n words.now list.new result }
+    ensures { (result ≤ length list.new) × (take result list.new ≡ numbers (one_of kind from) n words.now) }
 {
-    let mut f = 0;
     let mut found = 0;
-    while f < n {
+    for f in 0..n {
         found = listed_with(kind, from, words, f, list, found);
-        f = f + 1;
     }
     found
 }
 
 // The first word that a row carries into tick 0: the phase of an input or a constant, the initial value of a register.
+#[tactic(auto, unfolding(table::specs::Rows::kinds, crate::specs::Private::Carried::start_word))]
 fn first_word(kind: u32, p: u32, q: u32, r: u32) -> u32
     requires { kind < kind_count }
     ensures { result ≡ start_word (decode kind p q r) }
@@ -78,192 +72,131 @@ fn first_word(kind: u32, p: u32, q: u32, r: u32) -> u32
     }
 }
 
-// The words that row f carries into tick 0, where j inputs stand before it.
-fn start_row(kind: u32, p: u32, q: u32, r: u32, f: usize, j: u32, state: &mut [u32])
-    requires { (kind < kind_count) × (f < max_flows) × (length state.old ≡ state_size) }
-    ensures { Started (start_of (decode kind p q r) j (held_in state.old (held_size * f))) f state.old state.new }
+// The words that a row carries into tick 0, where j inputs stand before it.
+fn first_words(kind: u32, p: u32, q: u32, r: u32, j: u32) -> Held
+    requires { kind < kind_count }
+    ensures { result ≡ start_of (decode kind p q r) j }
 {
-    let i = HELD_SIZE * f;
-    state[i] = first_word(kind, p, q, r);
-    state[i + 1] = j;
+    Held {
+        x: first_word(kind, p, q, r),
+        y: j,
+        ..carried::NOTHING
+    }
 }
 
 // The words that the rows carry into tick 0, and the count of inputs.
-pub(crate) fn start(n: usize, words: &[u32], state: &mut [u32]) -> u32
-    requires { (Plain n words.now) × (state.old ≡ replicate state_size 0) }
+pub(crate) fn start(n: usize, words: &[u32], state: &mut [Held]) -> u32
+    requires { (Plain n words.now) × (n ≤ length state.old) }
     ensures { (result ≡ inputs (rows_in n words.now)) × (AllCarry (rows_in n words.now) 0 [] state.new) }
 {
-    let mut f = 0;
     let mut j = 0;
-    while f < n {
+    for f in 0..n {
         let kind = words[ROW_SIZE * f];
-        start_row(
+        state[f] = first_words(
             kind,
             words[ROW_SIZE * f + 1],
             words[ROW_SIZE * f + 2],
             words[ROW_SIZE * f + 3],
-            f,
             j,
-            state,
         );
-        j = j + operators::bit(kind == 0);
-        f = f + 1;
+        j += u32::from(kind == 0);
     }
     j
 }
 
-// The place of tick t's first cell: what the mask leaves of the tick, n cells a tick.
-pub(crate) fn first_cell(t: u32, mask: u32, n: usize) -> usize
-    requires { (Mask mask) × (n ≤ max_flows) }
-    ensures { result ≡ first_cell (mask + 1) n t }
-{
-    ((t & mask) as usize) * n
-}
-
 // What a later row needs of an earlier tick.
-fn collect_row(
-    n: usize,
-    a: usize,
-    d: u32,
-    f: usize,
-    t: u32,
-    mask: u32,
-    marks: &[u8],
-    values: &[u32],
-    state: &mut [u32],
-)
-    requires { (n ≤ max_flows)
-        × (a < n)
-        × (f < max_flows)
-        × (Mask mask)
-        × (Fitting (mask + 1) n (t + 1) (length marks.now))
-        × (Fitting (mask + 1) n (t + 1) (length values.now))
-        × (length state.old ≡ state_size) }
-    ensures { Fetched (mask + 1) n a d f t marks.now values.now state.old state.new }
+fn collect_row(plan: Plan, a: usize, d: u32, t: u32, marks: &[u8], values: &[u32], held: &mut Held)
+    requires { (a < plan.n)
+        × (Fitting (plan.mask + 1) plan.n (t + 1) (length marks.now))
+        × (Fitting (plan.mask + 1) plan.n (t + 1) (length values.now)) }
+    ensures { cell_at held.new.x held.new.y ≡ cell_before (plan.entry.mask + 1) plan.entry.n a d t marks.now values.now }
 {
     if d <= t {
-        let place = first_cell(t - d, mask, n) + a;
-        state[HELD_SIZE * f] = marks[place] as u32;
-        state[HELD_SIZE * f + 1] = values[place];
+        let place = plan.first_cell(t - d) + a;
+        held.x = u32::from(marks[place]);
+        held.y = values[place];
     } else {
-        state[HELD_SIZE * f] = 0;
+        held.x = 0;
     }
 }
 
 // What a view needs of an earlier tick: c's cell, as many ticks before as c began before a, where it is to be looked at anew.
-fn look_row(
-    n: usize,
-    c: usize,
-    w: u32,
-    f: usize,
-    t: u32,
-    mask: u32,
-    marks: &[u8],
-    values: &[u32],
-    state: &mut [u32],
-)
-    requires { (n ≤ max_flows)
-        × (c < n)
-        × (f < max_flows)
-        × (Mask mask)
-        × (Fitting (mask + 1) n (t + 1) (length marks.now))
-        × (Fitting (mask + 1) n (t + 1) (length values.now))
-        × (length state.old ≡ state_size)
+fn look_row(plan: Plan, c: usize, w: u32, t: u32, marks: &[u8], values: &[u32], held: &mut Held)
+    requires { (c < plan.n)
+        × (Fitting (plan.mask + 1) plan.n (t + 1) (length marks.now))
+        × (Fitting (plan.mask + 1) plan.n (t + 1) (length values.now))
         × (t < 2 ^ 24)
         × (w ≤ max_field) }
-    ensures { Sighted (mask + 1) n c w f t marks.now values.now state.old state.new }
+    ensures { held.new ≡ look_for w t (cell_before (plan.entry.mask + 1) plan.entry.n c held.old.y t marks.now values.now) held.old }
 {
-    let i = HELD_SIZE * f;
-    let lag = state[i + 1];
-    if t != state[i] {
-        return;
-    }
-    if lag == 0 {
-        return;
-    }
-    if lag <= t {
-        let place = first_cell(t - lag, mask, n) + c;
-        state[i] = t + w;
-        state[i + 2] = carried::status(marks[place], values[place]);
+    let lag = held.y;
+    if t == held.x && lag != 0 && lag <= t {
+        let place = plan.first_cell(t - lag) + c;
+        held.x = t + w;
+        held.z = carried::status(marks[place], values[place]);
     }
 }
 
 // What a row that looks back needs of an earlier tick.
 fn look_back(
+    plan: Plan,
     kind: u32,
     p: u32,
     q: u32,
     r: u32,
-    n: usize,
-    f: usize,
     t: u32,
-    mask: u32,
     marks: &[u8],
     values: &[u32],
-    state: &mut [u32],
+    held: &mut Held,
 )
-    requires { (n ≤ max_flows)
-        × (kind ≡ 10 → p < n)
-        × ((kind ≢ 10) → (q < n) × (r ≤ max_field))
-        × (f < max_flows)
-        × (Mask mask)
-        × (Fitting (mask + 1) n (t + 1) (length marks.now))
-        × (Fitting (mask + 1) n (t + 1) (length values.now))
-        × (length state.old ≡ state_size)
+    requires { (kind ≡ 10 → p < plan.n)
+        × ((kind ≢ 10) → (q < plan.n) × (r ≤ max_field))
+        × (Fitting (plan.mask + 1) plan.n (t + 1) (length marks.now))
+        × (Fitting (plan.mask + 1) plan.n (t + 1) (length values.now))
         × (t < 2 ^ 24) }
-    ensures { Backward (mask + 1) n kind p q r f t marks.now values.now state.old state.new }
+    ensures { Backward (plan.entry.mask + 1) plan.entry.n kind p q r t marks.now values.now held.old held.new }
 {
     if kind == LATER {
-        collect_row(n, p as usize, q, f, t, mask, marks, values, state)
+        collect_row(plan, p as usize, q, t, marks, values, held)
     } else {
-        look_row(n, q as usize, r, f, t, mask, marks, values, state)
+        look_row(plan, q as usize, r, t, marks, values, held)
     }
 }
 
-// What tick t needs of earlier ticks. The list has the rows that look back.
+// What tick t needs of earlier ticks, for the rows that look back.
 pub(crate) fn collect(
-    list: &[u32],
-    count: usize,
-    n: usize,
-    words: &[u32],
+    plan: Plan,
+    backward: &[u32],
     t: u32,
-    mask: u32,
     marks: &[u8],
     values: &[u32],
-    state: &mut [u32],
+    state: &mut [Held],
 )
-    requires { (Plain n words.now)
-        × (Mask mask)
-        × (Fitting (mask + 1) n (t + 1) (length marks.now))
-        × (Fitting (mask + 1) n (t + 1) (length values.now))
-        × (length state.old ≡ state_size)
-        × (Listed looks_back n words.now list.now count)
+    requires { (Fitting (plan.mask + 1) plan.n (t + 1) (length marks.now))
+        × (Fitting (plan.mask + 1) plan.n (t + 1) (length values.now))
+        × (plan.n ≤ length state.old)
         × (t < 2 ^ 24)
-        × (max_field ≤ mask) }
+        × (backward.now ≡ numbers looks_back plan.n plan.words.now) }
     ensures { (past : Ticks) (at : ℕ)
         → length past ≡ t
-        → at ≡ t * inputs (rows_in n words.now)
-        → Recalls (mask + 1) n t past marks.now values.now
-        → Near (mask + 1) (rows_in n words.now) past
-        → AllCarry (rows_in n words.now) t past state.old
-        → Ready (rows_in n words.now) past t at state.new }
+        → at ≡ t * inputs (plan_rows plan.entry)
+        → Recalls (plan.entry.mask + 1) plan.entry.n t past marks.now values.now
+        → Near (plan.entry.mask + 1) (plan_rows plan.entry) past
+        → AllCarry (plan_rows plan.entry) t past state.old
+        → Ready (plan_rows plan.entry) past t at state.new }
 {
-    let mut j = 0;
-    while j < count {
-        let f = list[j] as usize;
+    for row in backward {
+        let f = *row as usize;
         look_back(
-            words[ROW_SIZE * f],
-            words[ROW_SIZE * f + 1],
-            words[ROW_SIZE * f + 2],
-            words[ROW_SIZE * f + 3],
-            n,
-            f,
+            plan,
+            plan.words[ROW_SIZE * f],
+            plan.words[ROW_SIZE * f + 1],
+            plan.words[ROW_SIZE * f + 2],
+            plan.words[ROW_SIZE * f + 3],
             t,
-            mask,
             marks,
             values,
-            state,
+            &mut state[f],
         );
-        j = j + 1;
     }
 }

@@ -3,24 +3,12 @@ ghost use Rattle.std.specs.Prelude.{◌≡◌, ℕ, ◌+◌, ◌-◌, ◌*◌, �
 ghost use Rattle.table.specs.Rows.{max_flows};
 ghost use Rattle.semantics.specs.Runs.{Ticks};
 ghost use Rattle.semantics.specs.Windows.{tally_size, Tallied};
-ghost use Rattle.runner.specs.Private.Placed.{Mask, Fitting, Recalls, Low, Counted, Cleared, count_limit};
+ghost use Rattle.runner.specs.Private.Placed.{Fitting, Recalls, Low, Counted, count_limit};
 
-use crate::state;
+use crate::plan::Plan;
 
 // How many words a tally has.
 pub(crate) const TALLY_SIZE: usize = 2;
-
-// The first n words are set to 0.
-pub(crate) fn clear(n: usize, tallies: &mut [u32])
-    requires { n ≤ length tallies.old }
-    ensures { Cleared n tallies.old tallies.new }
-{
-    let mut i = 0;
-    while i < n {
-        tallies[i] = 0;
-        i = i + 1;
-    }
-}
 
 // Flow f's tally takes its cell.
 fn add_cell(f: usize, mark: u8, value: u32, tallies: &mut [u32])
@@ -34,7 +22,7 @@ fn add_cell(f: usize, mark: u8, value: u32, tallies: &mut [u32])
     if mark == 0 {
         return;
     }
-    tallies[TALLY_SIZE * f] = tallies[TALLY_SIZE * f] + 1;
+    tallies[TALLY_SIZE * f] += 1;
     tallies[TALLY_SIZE * f + 1] = value;
 }
 
@@ -47,42 +35,34 @@ fn add(first: usize, k: usize, marks: &[u8], values: &[u32], tallies: &mut [u32]
         × (Low k count_limit tallies.old) }
     ensures { Counted first k marks.now values.now tallies.old tallies.new }
 {
-    let mut f = 0;
-    while f < k {
+    for f in 0..k {
         add_cell(f, marks[first + f], values[first + f], tallies);
-        f = f + 1;
     }
 }
 
-// The tallies of n flows take the cells of the ticks from one up to another, each of which stands at its place.
+// The tallies take the cells of the ticks from one up to another, each of which stands at its place.
 pub(crate) fn add_ticks(
+    plan: Plan,
     from: u32,
     to: u32,
-    mask: u32,
-    n: usize,
     marks: &[u8],
     values: &[u32],
     tallies: &mut [u32],
 )
-    requires { (n ≤ max_flows)
-        × (Mask mask)
-        × (from ≤ to)
+    requires { (from ≤ to)
         × (to < 2 ^ 24)
-        × (Fitting (mask + 1) n to (length marks.now))
-        × (Fitting (mask + 1) n to (length values.now))
-        × (tally_size * n ≤ length tallies.old)
-        × (Low n (from + 1) tallies.old) }
+        × (Fitting (plan.mask + 1) plan.n to (length marks.now))
+        × (Fitting (plan.mask + 1) plan.n to (length values.now))
+        × (tally_size * plan.n ≤ length tallies.old)
+        × (Low plan.n (from + 1) tallies.old) }
     ensures { (past : Ticks) (ts : List ℕ)
         → length past ≡ to
-        → to ≤ from + (mask + 1)
-        → Recalls (mask + 1) n to past marks.now values.now
-        → Tallied n (drop (to - from) past) ts tallies.old
-        → Tallied n past ts tallies.new }
+        → to ≤ from + (plan.entry.mask + 1)
+        → Recalls (plan.entry.mask + 1) plan.entry.n to past marks.now values.now
+        → Tallied plan.entry.n (drop (to - from) past) ts tallies.old
+        → Tallied plan.entry.n past ts tallies.new }
 {
-    let mut t: u32 = from;
-    while t < to {
-        let next = t + 1;
-        add(state::first_cell(t, mask, n), n, marks, values, tallies);
-        t = next;
+    for t in from..to {
+        add(plan.first_cell(t), plan.n, marks, values, tallies);
     }
 }

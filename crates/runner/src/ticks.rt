@@ -2,87 +2,65 @@
 ghost use Rattle.std.specs.Prelude.{◌≡◌, ℕ, ◌+◌, ◌*◌, ◌^◌, ◌<◌, ◌≤◌, List, [], length, if◌then◌else◌, ◌==◌, nat_eq, slice_index, slice_set};
 ghost use Rattle.table.specs.Rows.{max_flows, kind_count, kind_at, decode, bad_register, row_size};
 ghost use Rattle.table.specs.Tables.{FieldsFit};
-ghost use Rattle.runner.specs.Private.Carried.{clash_mark, cells_in, held_size, state_size, held_in, step_of, next_of, Did};
+ghost use Rattle.runner.specs.Private.Carried.{clash_mark, Did};
 ghost use Rattle.semantics.specs.Runs.{Tick, Ticks, flows_from, source_meets, tick_of};
-ghost use Rattle.runner.specs.Private.Ready.{rows_in, Plain, Ready, AllFollow, Wrote, FlowsEnd, LatchEnd, TickDone, Listed, is_register};
+ghost use Rattle.runner.specs.Private.Ready.{Ready, AllFollow, Wrote, FlowsEnd, LatchEnd, TickDone};
+ghost use Rattle.runner.specs.Private.Plans.{plan_rows};
+ghost use Rattle.runner.specs.Private.Plans.{cells_of};
 
+use crate::carried::Held;
+use crate::cells::Cells;
 use crate::operators::{ABSENT, CLASH, CLASHED, Outcome};
-use crate::state::HELD_SIZE;
+use crate::plan::Plan;
 use crate::{carried, operators};
 use table::ROW_SIZE;
-
-// What a tick comes to: all of it, or a clash that names a flow.
-#[derive(Clone, Copy)]
-pub enum Ticked {
-    Full,
-    Stopped(usize),
-}
-
-// The third field of row f.
-fn third(words: &[u32], f: usize) -> u32
-    requires { (f < max_flows) × (row_size * f + 3 < length words.now) }
-    ensures { result ≡ slice_index words.now (row_size * f + 3) }
-{
-    words[ROW_SIZE * f + 3]
-}
 
 // What row f comes to at tick t: one decision over the kind. That no other kind is left is told before it, and the arms stand from 18 down: so
 // the compiler makes one jump of the decision and of the one over kinds 2 to 6 in it. The third field is read only where a kind has one: read
 // before the decision, it costs every cell a register. No table that is run has an unrated row.
+#[tactic(auto, unfolding(table::specs::Rows::kinds, crate::specs::Private::Carried::step_of, crate::specs::Private::Carried::next_of))]
 fn outcome(
+    plan: Plan,
     kind: u32,
     p: u32,
     q: u32,
-    words: &[u32],
     t: u32,
-    f: usize,
-    log: &[u32],
     at: usize,
-    state: &mut [u32],
-    marks: &[u8],
-    values: &[u32],
+    held: &mut Held,
+    cells: Cells,
 ) -> Outcome
-    requires { (f < max_flows)
+    requires { (cells.f < plan.n)
         × (kind < kind_count)
-        × (FieldsFit max_flows f (kind_at kind) p q (slice_index words.now (row_size * f + 3)))
-        × (f ≤ length marks.now)
-        × (f ≤ length values.now)
-        × (length state.old ≡ state_size)
+        × (FieldsFit max_flows cells.f (kind_at kind) p q (slice_index plan.words.now (row_size * cells.f + 3)))
         × (t < 2 ^ 24)
-        × (at < 2 ^ 40)
-        × (row_size * f + 3 < length words.now) }
-    ensures { Did
-        (step_of (decode kind p q (slice_index words.now (row_size * f + 3))) t log.now at (cells_in marks.now values.now f)
-        (held_in state.old (held_size * f)))
-        (next_of (decode kind p q (slice_index words.now (row_size * f + 3))) t (cells_in marks.now values.now f)
-        (held_in state.old (held_size * f)))
-        (held_size * f) state.old state.new result }
+        × (at < 2 ^ 40) }
+    ensures { Did (decode kind p q (slice_index plan.entry.words.now (row_size * cells.entry.f + 3))) t plan.entry.log.now at (cells_of cells.entry)
+        held.old held.new result }
 {
     if table::KINDS <= kind {
         return CLASH;
     }
-    let i = HELD_SIZE * f;
     match kind {
-        18 => carried::viewed(false, t, marks, values, f, p, q, third(words, f), state, i),
-        17 => carried::viewed(true, t, marks, values, f, p, q, third(words, f), state, i),
+        18 => carried::viewed(false, t, cells, p, q, plan.third(cells.f), held),
+        17 => carried::viewed(true, t, cells, p, q, plan.third(cells.f), held),
         16 => ABSENT,
-        15 => operators::merged(marks, values, f, p, q, third(words, f)),
-        14 => operators::sampled(false, marks, values, f, p, q),
-        13 => operators::sampled(true, marks, values, f, p, q),
-        12 => carried::tail(marks, values, f, p, state, i),
-        11 => carried::head(t, marks, values, f, p, q, third(words, f), state, i),
-        10 => carried::later(q, marks, values, f, p, state, i),
-        9 => carried::slower(marks, values, f, p, q, state, i),
-        8 => carried::faster(t, marks, values, f, p, q, third(words, f), state, i),
-        7 => operators::registered(marks, values, f, q, state[i]),
-        1 => carried::constant(t, p, q, state, i),
-        0 => carried::input(t, p, log, at, state, i),
+        15 => operators::merged(cells, p, q, plan.third(cells.f)),
+        14 => operators::sampled(false, cells, p, q),
+        13 => operators::sampled(true, cells, p, q),
+        12 => carried::tail(cells, p, held),
+        11 => carried::head(t, cells, p, q, plan.third(cells.f), held),
+        10 => carried::later(q, cells, p, held),
+        9 => carried::slower(cells, p, q, held),
+        8 => carried::faster(t, cells, p, q, plan.third(cells.f), held),
+        7 => operators::registered(cells, q, held),
+        1 => carried::constant(t, p, q, held),
+        0 => carried::input(t, p, plan.log, at, held),
         2..=6 => match kind {
-            2 => operators::combined(2, marks, values, f, p, q),
-            3 => operators::combined(3, marks, values, f, p, q),
-            4 => operators::combined(4, marks, values, f, p, q),
-            5 => operators::combined(5, marks, values, f, p, q),
-            6 => operators::combined(6, marks, values, f, p, q),
+            2 => operators::combined(2, cells, p, q),
+            3 => operators::combined(3, cells, p, q),
+            4 => operators::combined(4, cells, p, q),
+            5 => operators::combined(5, cells, p, q),
+            6 => operators::combined(6, cells, p, q),
             _ => CLASH,
         },
         19..=4294967295 => CLASH,
@@ -104,50 +82,42 @@ fn put(marks: &mut [u8], values: &mut [u32], f: usize, mark: u8, value: u32) -> 
     false
 }
 
-// The cells of the flows in ascending order. `at` is the place of the tick's first word in the log.
+// The cells of the flows in ascending order, up to one that clashes. `at` is the place of the tick's first word in the log.
 fn flows(
-    n: usize,
-    words: &[u32],
-    log: &[u32],
+    plan: Plan,
     at: usize,
     t: u32,
-    state: &mut [u32],
+    state: &mut [Held],
     marks: &mut [u8],
     values: &mut [u32],
-) -> Ticked
-    requires { (Plain n words.now)
-        × (n ≤ length marks.old)
-        × (n ≤ length values.old)
-        × (length state.old ≡ state_size)
+) -> Result<(), usize>
+    requires { (plan.n ≤ length marks.old)
+        × (plan.n ≤ length values.old)
+        × (plan.n ≤ length state.old)
         × (t < 2 ^ 24)
         × (at < 2 ^ 40) }
     ensures { (past : Ticks)
-        → Ready (rows_in n words.now) past t at state.old
-        → FlowsEnd (rows_in n words.now) t past
-        (flows_from (rows_in n words.now) log.now past [] (rows_in n words.now))
+        → Ready (plan_rows plan.entry) past t at state.old
+        → FlowsEnd (plan_rows plan.entry) t past (flows_from (plan_rows plan.entry) plan.entry.log.now past [] (plan_rows plan.entry))
         marks.old values.old marks.new values.new state.new result }
 {
-    let mut f = 0;
-    while f < n {
+    for f in 0..plan.n {
+        let cells = Cells { marks, values, f };
         let o = outcome(
-            words[ROW_SIZE * f],
-            words[ROW_SIZE * f + 1],
-            words[ROW_SIZE * f + 2],
-            words,
+            plan,
+            plan.words[ROW_SIZE * f],
+            plan.words[ROW_SIZE * f + 1],
+            plan.words[ROW_SIZE * f + 2],
             t,
-            f,
-            log,
             at,
-            state,
-            marks,
-            values,
+            &mut state[f],
+            cells,
         );
         if put(marks, values, f, o.mark, o.value) {
-            return Ticked::Stopped(f);
+            return Err(f);
         }
-        f = f + 1;
     }
-    Ticked::Full
+    Ok(())
 }
 
 // A register's word after a tick in which its source had a cell.
@@ -159,68 +129,47 @@ fn latched(held: u32, mark: u8, value: u32) -> u32
 
 // After all flows: the lowest register whose source and beat are not both present or both absent. Each register before it takes its
 // source's value.
-fn latch(
-    registers: &[u32],
-    count: usize,
-    n: usize,
-    words: &[u32],
-    state: &mut [u32],
-    marks: &[u8],
-    values: &[u32],
-) -> Ticked
-    requires { (Plain n words.now)
-        × (n ≤ length marks.now)
-        × (n ≤ length values.now)
-        × (length state.old ≡ state_size)
-        × (Listed is_register n words.now registers.now count) }
+fn latch(plan: Plan, state: &mut [Held], marks: &[u8], values: &[u32]) -> Result<(), usize>
+    requires { (plan.n ≤ length marks.now) × (plan.n ≤ length values.now) × (plan.n ≤ length state.old) }
     ensures { (past : Ticks) (cells : Tick) (ms vs : List ℕ) (t : ℕ)
-        → length cells ≡ n
+        → length cells ≡ plan.entry.n
         → Wrote cells ms vs marks.now values.now
-        → AllFollow (rows_in n words.now) t cells past state.old
-        → LatchEnd (rows_in n words.now) t past cells (bad_register (source_meets cells) 0 (rows_in n words.now))
+        → AllFollow (plan_rows plan.entry) t cells past state.old
+        → LatchEnd (plan_rows plan.entry) t past cells (bad_register (source_meets cells) 0 (plan_rows plan.entry))
         state.new result }
 {
-    let mut j = 0;
-    while j < count {
-        let f = registers[j] as usize;
-        let b = words[ROW_SIZE * f + 2] as usize;
-        let a = words[ROW_SIZE * f + 3] as usize;
+    for row in plan.registers {
+        let f = *row as usize;
+        let b = plan.words[ROW_SIZE * f + 2] as usize;
+        let a = plan.words[ROW_SIZE * f + 3] as usize;
         if marks[a] != marks[b] {
-            return Ticked::Stopped(f);
+            return Err(f);
         }
-        state[HELD_SIZE * f] = latched(state[HELD_SIZE * f], marks[a], values[a]);
-        j = j + 1;
+        let held = &mut state[f];
+        held.x = latched(held.x, marks[a], values[a]);
     }
-    Ticked::Full
+    Ok(())
 }
 
-// One tick, into the parts of the trace that start at its own first cell.
+// One tick, into the parts of the trace that start at its own first cell; a clash names a flow.
 pub(crate) fn tick(
-    n: usize,
-    words: &[u32],
-    registers: &[u32],
-    count: usize,
-    log: &[u32],
+    plan: Plan,
     at: usize,
     t: u32,
-    state: &mut [u32],
+    state: &mut [Held],
     marks: &mut [u8],
     values: &mut [u32],
-) -> Ticked
-    requires { (Plain n words.now)
-        × (n ≤ length marks.old)
-        × (n ≤ length values.old)
-        × (length state.old ≡ state_size)
-        × (Listed is_register n words.now registers.now count)
+) -> Result<(), usize>
+    requires { (plan.n ≤ length marks.old)
+        × (plan.n ≤ length values.old)
+        × (plan.n ≤ length state.old)
         × (t < 2 ^ 24)
         × (at < 2 ^ 40) }
     ensures { (past : Ticks)
-        → Ready (rows_in n words.now) past t at state.old
-        → TickDone (rows_in n words.now) t past (tick_of (rows_in n words.now) log.now past)
+        → Ready (plan_rows plan.entry) past t at state.old
+        → TickDone (plan_rows plan.entry) t past (tick_of (plan_rows plan.entry) plan.entry.log.now past)
         marks.old values.old marks.new values.new state.new result }
 {
-    match flows(n, words, log, at, t, state, marks, values) {
-        Ticked::Stopped(f) => Ticked::Stopped(f),
-        Ticked::Full => latch(registers, count, n, words, state, marks, values),
-    }
+    flows(plan, at, t, state, marks, values)?;
+    latch(plan, state, marks, values)
 }

@@ -4,7 +4,7 @@
 #![tactic(auto)]
 
 use std::io;
-use table::Answer;
+use table::Refused;
 
 // Room for the trace of every plan here, and some cells more.
 const ROOM: usize = 36;
@@ -12,31 +12,16 @@ const ROOM: usize = 36;
 // Room for the window of two flows, and a cell more.
 const WINDOW: usize = 2 * 131072 + 1;
 
-// Some text, and a number after it.
-fn part(rt: &impl Print, before: &[u8], n: u32) -> io::Result<()> {
-    rt.write_all(before)?;
-    print!(rt; "{n}")
+// A line with the four parts of an answer.
+fn answer(rt: &impl Print, answered: Result<u32, Refused>) -> io::Result<()> {
+    let answer = table::parts(answered);
+    println!(rt; "{answer}")
 }
 
-// The four parts of an answer.
-fn answer(rt: &impl Print, a: Answer) -> io::Result<()> {
-    part(rt, b"", a.number)?;
-    part(rt, b" ", a.flow)?;
-    part(rt, b" ", a.tick)?;
-    part(rt, b" ", a.count)
-}
-
-fn cell(rt: &impl Print, mark: u8, value: u32) -> io::Result<()> {
-    part(rt, b" ", mark as u32)?;
-    part(rt, b":", value)
-}
-
-// The cells from one place to another.
+// The cells from one place to another, mark and value, each after a space.
 fn cells(rt: &impl Print, marks: &[u8], values: &[u32], from: usize, to: usize) -> io::Result<()> {
-    for i in from..to {
-        if i < marks.len() && i < values.len() {
-            cell(rt, marks[i], values[i])?;
-        }
+    for (mark, value) in marks.iter().zip(values.iter()).take(to).skip(from) {
+        print!(rt; " {mark}:{value}")?;
     }
     Ok(())
 }
@@ -57,7 +42,6 @@ fn shown(
     let a = runner::run(count, words, log, ticks, &mut marks, &mut values);
     rt.write_all(title)?;
     answer(rt, a)?;
-    println!(rt)?;
     cells(rt, &marks, &values, from, to)?;
     println!(rt)
 }
@@ -101,14 +85,10 @@ fn long_k(rt: &impl Print) -> io::Result<()> {
     );
     println!(rt; "K, long, 131073 ticks")?;
     answer(rt, a)?;
-    println!(rt)?;
     cells(rt, &marks, &values, 0, 6)?;
     cells(rt, &marks, &values, 262140, 262145)?;
-    part(rt, b"\n ", tallies[0])?;
-    part(rt, b" ", tallies[1])?;
-    part(rt, b" ", tallies[2])?;
-    part(rt, b" ", tallies[3])?;
-    part(rt, b" ", tallies[4])?;
+    println!(rt)?;
+    listed(rt, &tallies)?;
     println!(rt)
 }
 
@@ -133,8 +113,8 @@ fn seen(rt: &impl Print) -> io::Result<()> {
 
 // Each word, after a space.
 fn listed(rt: &impl Print, words: &[u32]) -> io::Result<()> {
-    for x in words {
-        part(rt, b" ", *x)?;
+    for word in words {
+        print!(rt; " {word}")?;
     }
     Ok(())
 }
@@ -151,7 +131,6 @@ fn stored(
     let a = archive::store(3, words, 8, marks, values, kept);
     rt.write_all(title)?;
     answer(rt, a)?;
-    println!(rt)?;
     listed(rt, kept)?;
     println!(rt)
 }
@@ -163,7 +142,6 @@ fn restored(rt: &impl Print, title: &[u8], words: &[u32], kept: &[u32]) -> io::R
     let a = archive::restore(3, words, 8, kept, &mut marks, &mut values);
     rt.write_all(title)?;
     answer(rt, a)?;
-    println!(rt)?;
     cells(rt, &marks, &values, 0, 24)?;
     println!(rt)
 }

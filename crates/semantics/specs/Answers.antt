@@ -1,7 +1,8 @@
 -- What the run answers, and leaves in marks and values.
 use Rattle.std.specs.Prelude.{ℕ, ◌*◌, ◌&&◌, List, map, length, leb, eqb}
 use Rattle.table.specs.declared.Answer.{Answer}
-use Rattle.table.specs.Answers.{Result, good, refused, unless, then, number, success, refusal, leaves, too_many_ticks, wrong_log, short_trace, clash}
+use Rattle.table.specs.declared.refusal.Refusal.TheVariants.{TooManyTicks, WrongLog, ShortTrace, Clash}
+use Rattle.table.specs.Answers.{Result, good, refused, unless, then, number, success, refusal, leaves}
 use Rattle.table.specs.Bits.{bit}
 use Rattle.table.specs.Plain.{table_of}
 use Rattle.semantics.specs.Cells.{Cell, mark, value}
@@ -14,14 +15,14 @@ max_ticks = 131071
 unfoldable pub running : ℕ → List ℕ → List ℕ → ℕ → ℕ → ℕ → Result Ran
 running m words log ticks marks values =
     then (table_of m words) λ rows.
-    unless (leb ticks max_ticks) too_many_ticks 0
-    (unless (eqb (length log) (ticks * inputs rows)) wrong_log 0
-    (unless (leb (ticks * m) marks && leb (ticks * m) values) short_trace 0
+    unless (leb ticks max_ticks) TooManyTicks 0
+    (unless (eqb (length log) (ticks * inputs rows)) WrongLog 0
+    (unless (leb (ticks * m) marks && leb (ticks * m) values) ShortTrace 0
     (good (run rows log ticks))))
 
 abbrev pub ran_answer : ℕ → Result Ran → Answer
 ran_answer ticks (good (done past)) = success ticks
-ran_answer ticks (good (clashed t f now past)) = record { number = number clash; flow = f; tick = t; count = 0 }
+ran_answer ticks (good (clashed t f now past)) = record { number = number Clash; flow = f; tick = t; count = 0 }
 ran_answer ticks (refused why f) = refusal why f
 
 abbrev pub run_answer : ℕ → List ℕ → List ℕ → ℕ → ℕ → ℕ → Answer

@@ -5,7 +5,8 @@ use Prim.Native.Nat.{ℕ, suc, ◌<◌, ◌≤◌}
 use native.Mathlib.Omega.{arith}
 use lib.Dec.{leb, ltb, eqb}
 use borrow.Author.Tests.{leb-true, ltb-true, ltb-false, le-leb, lt-ltb, le-ltb, eq-eqb, ne_eqb}
-use Rattle.table.specs.Answers.{number, unless, unknown_kind, out_of_range, misplaced}
+use Rattle.table.specs.declared.refusal.Refusal.TheVariants.{UnknownKind, OutOfRange, Misplaced}
+use Rattle.table.specs.Answers.{number, unless}
 use Rattle.table.specs.Rows.{Field, operand, source, copies, period, ticks, value, unused, ranged, placed, each}
 use Rattle.table.specs.Rows.{Kind, kind_at, kind_count, unrated_kind, max_flows, Words, row_of, row_by, takes, fields_of}
 use Rattle.table.specs.Private.Codes.{bounds, bounded, barred_kind, verdict}
@@ -73,11 +74,11 @@ pub not_zero : (n v : ℕ) → n ≡ v → eqb v 0 ≡ false → n ≡ 0 → ⊥
 not_zero n v e t z = false≢true (sym t ∙ ap (λ (x : ℕ). eqb x 0) (sym e ∙ z))
 
 -- a row of a kind that is not known, where the rates are asked for or are not
-pub unknown : (rated : Bool) (m f : ℕ) (w : Words) → (takes rated w.kind && ltb w.kind kind_count) ≡ false → verdict (row_by rated m f w) ≡ number unknown_kind
+pub unknown : (rated : Bool) (m f : ℕ) (w : Words) → (takes rated w.kind && ltb w.kind kind_count) ≡ false → verdict (row_by rated m f w) ≡ number UnknownKind
 unfolding row_of
 unknown rated m f w e = go (takes rated w.kind) e
   where
-    go : (b : Bool) → (b && ltb w.kind kind_count) ≡ false → verdict (unless b unknown_kind f (row_of m f w)) ≡ number unknown_kind
+    go : (b : Bool) → (b && ltb w.kind kind_count) ≡ false → verdict (unless b UnknownKind f (row_of m f w)) ≡ number UnknownKind
     go true e = rw (kind_gone w.kind (ltb-false w.kind kind_count e))
     go false e = refl
 
@@ -98,11 +99,11 @@ module _ (rated : Bool) (m f : ℕ) (w : Words) (is : (takes rated w.kind && ltb
   there : takes rated w.kind ≡ true
   there = and_left (takes rated w.kind) _ is
 
-  pub out : each ranged (kind_at w.kind) w ≡ false → verdict (row_by rated m f w) ≡ number out_of_range
+  pub out : each ranged (kind_at w.kind) w ≡ false → verdict (row_by rated m f w) ≡ number OutOfRange
   unfolding row_of fields_of
   out e = rw (there, kind_there w.kind kind_is, e)
 
-  off : each ranged (kind_at w.kind) w ≡ true → each (placed m f) (kind_at w.kind) w ≡ false → verdict (row_by rated m f w) ≡ number misplaced
+  off : each ranged (kind_at w.kind) w ≡ true → each (placed m f) (kind_at w.kind) w ≡ false → verdict (row_by rated m f w) ≡ number Misplaced
   unfolding row_of fields_of
   off e o = rw (there, kind_there w.kind kind_is, e, o)
 
@@ -125,9 +126,9 @@ module _ (rated : Bool) (m f : ℕ) (w : Words) (is : (takes rated w.kind && ltb
       ∙ each_both ranged (placed m f) (kind_at w.kind) w ∙ passes
 
   -- a row in range that is not accepted has a field out of place
-  pub must_be_off : each ranged (kind_at w.kind) w ≡ true → eqb (verdict (row_by rated m f w)) 0 ≡ false → number misplaced ≡ verdict (row_by rated m f w)
+  pub must_be_off : each ranged (kind_at w.kind) w ≡ true → eqb (verdict (row_by rated m f w)) 0 ≡ false → number Misplaced ≡ verdict (row_by rated m f w)
   must_be_off e n = go (each (placed m f) (kind_at w.kind) w) refl
     where
-      go : (b : Bool) → each (placed m f) (kind_at w.kind) w ≡ b → number misplaced ≡ verdict (row_by rated m f w)
+      go : (b : Bool) → each (placed m f) (kind_at w.kind) w ≡ b → number Misplaced ≡ verdict (row_by rated m f w)
       go true o = absurd (false≢true (sym n ∙ ap (λ (x : ℕ). eqb x 0) (fine e o)))
       go false o = sym (off e o)

@@ -9,8 +9,10 @@ use lib.ListN.{length, take, drop, length-drop}
 use lib.Seq.{take_all, length-take-le}
 use borrow.Author.Tests.{le-leb, lt-leb, leb-true, lt-ltb, le-ltb}
 use Rattle.table.specs.declared.Cursor.{Cursor}
-use Rattle.table.specs.declared.Taking.TheVariants.{Got, Short}
-use Rattle.table.specs.Answers.{number, good, success, numbered, over, cut_short, bad_count, bad_filling, refusal, no_room}
+use Rattle.std.specs.Prelude.{Option, Some, None, Err, ok_or}
+use Rattle.table.specs.declared.refusal.Refused.{Refused}
+use Rattle.table.specs.declared.refusal.Refusal.TheVariants.{CutShort, BadCount, BadFilling, NoRoom}
+use Rattle.table.specs.Answers.{good, success, over, refusal, named, parts}
 use Rattle.table.specs.Rows.{Words, max_flows, row_size}
 use Rattle.table.specs.Plain.{joined, count_fits, copied}
 use Rattle.table.specs.Bits.{bits, from_bits}
@@ -34,11 +36,11 @@ module _ (s : List ℕ) (at w : ℕ) (near : at ≤ last_place) (inside : at ≤
   few : w ≡ length (drop at (bits s))
   few = omega (arith, length-drop at (bits s), length_bits s)
 
-  pub fill_there : take_at_bit (bits s) at w ≡ taking_parts Short → ⊥
+  pub fill_there : take_at_bit (bits s) at w ≡ taking_parts None → ⊥
   fill_there e = not_short (bits s) at w near (omega arith) (omega (arith, length_bits s)) e
 
   -- what is left is below eight bits, and all of it was taken
-  pub ended : (x : ℕ) (p : Cursor) → take_at_bit (bits s) at w ≡ taking_parts (Got x p) → eqb x 0 ≡ filling (drop at (bits s))
+  pub ended : (x : ℕ) (p : Cursor) → take_at_bit (bits s) at w ≡ taking_parts (Some (x, p)) → eqb x 0 ≡ filling (drop at (bits s))
   ended x p e =
       let h : Had (bits s) at w x p = had (bits s) at w x p e in
       let l : length (drop at (bits s)) < 8 = omega (arith, few) in
@@ -47,29 +49,34 @@ module _ (s : List ℕ) (at w : ℕ) (near : at ≤ last_place) (inside : at ≤
 
 -- ---- the whole
 
+-- no value is the error that is given for it
+pub none_is : {A E : Type 0} (r : Option A) (e other : E) → Err e ≡ ok_or r other → r ≡ None → e ≡ other
+none_is None e other p q = cc
+none_is (Some x) e other p q = cc
+
 rows_size : (m n f : ℕ) (bs : List Bool) (ws : List Words) → take_rows m n f bs ≡ good ws → length ws ≡ n
 unfolding take_rows
-rows_size m zero f bs ws e = ap length (sym (good_inj (unless_good (filling bs) bad_filling 0 (good []) ws e).1))
+rows_size m zero f bs ws e = ap length (sym (good_inj (unless_good (filling bs) BadFilling 0 (good []) ws e).1))
 rows_size m (suc n) f bs ws e =
     let a = then_good (take_row m f bs) _ ws e in
     let b = then_good (take_rows m n (suc f) a.0.rest) (λ vs. good (a.0.words ∷ vs)) ws a.2 in
     ap length (sym (good_inj b.2)) ∙ ap suc (rows_size m n (suc f) a.0.rest b.0 b.1)
 
 module _ (s : List ℕ) where
-  pub no_count : take_at_bit (bits s) 0 count_width ≡ taking_parts Short → Stop (unpacked s) (number cut_short) 0
+  pub no_count : take_at_bit (bits s) 0 count_width ≡ taking_parts None → Stop (unpacked s) (named CutShort 0)
   unfolding unpacked
-  no_count e = record { why = cut_short; is = refl; comes = rw (too_short (bits s) 0 count_width (omega arith) (omega arith) (omega arith) e 0) }
+  no_count e = record { is = refl; comes = rw (too_short (bits s) 0 count_width (omega arith) (omega arith) (omega arith) e 0) }
 
-  module _ (m : ℕ) (p : Cursor) (count : take_at_bit (bits s) 0 count_width ≡ taking_parts (Got m p)) where
+  module _ (m : ℕ) (p : Cursor) (count : take_at_bit (bits s) 0 count_width ≡ taking_parts (Some (m, p))) where
     h : Had (bits s) 0 count_width m p
     h = had (bits s) 0 count_width m p count
 
     pub count_there : count_width ≤ length (bits s)
     count_there = omega (arith, h.within)
 
-    pub bad_count_lem : count_fits m ≡ false → Stop (unpacked s) (number bad_count) 0
+    pub bad_count_lem : count_fits m ≡ false → Stop (unpacked s) (named BadCount 0)
     unfolding unpacked
-    bad_count_lem e = record { why = bad_count; is = refl; comes = rw (h.field 0, e) }
+    bad_count_lem e = record { is = refl; comes = rw (h.field 0, e) }
 
     -- the count was taken, and a table may have as many flows
     module _ (fits : count_fits m ≡ true) where
@@ -80,8 +87,8 @@ module _ (s : List ℕ) where
       unfolding unpacked
       counted = let e : p.at ≡ count_width = omega (arith, h.past) in rw (h.field 0, fits, e)
 
-      pub scan_stopped : (n row : ℕ) → Stop (take_rows m m 0 (drop count_width (bits s))) n row → Stop (unpacked s) n row
-      scan_stopped n row d = record { why = d.why; is = d.is; comes = counted ∙ d.comes }
+      pub scan_stopped : (e : Refused) → Stop (take_rows m m 0 (drop count_width (bits s))) e → Stop (unpacked s) e
+      scan_stopped e d = record { is = d.is; comes = counted ∙ d.comes }
 
       -- the rows were taken
       module _ (words : List ℕ) (q : Cursor) (d : Ended (bits s) m words q) where
@@ -90,8 +97,8 @@ module _ (s : List ℕ) where
             let all : take_rows m m 0 (drop count_width (bits s)) ≡ good d.rows = d.left ∙ rw e in
             record { rows = d.rows; is = counted ∙ all; size = rows_size m m 0 (drop count_width (bits s)) d.rows all; stored = d.stored }
 
-        pub not_filled : filling (drop q.at (bits s)) ≡ false → Stop (unpacked s) (number bad_filling) 0
-        not_filled e = record { why = bad_filling; is = refl; comes = counted ∙ d.left ∙ rw e }
+        pub not_filled : filling (drop q.at (bits s)) ≡ false → Stop (unpacked s) (named BadFilling 0)
+        not_filled e = record { is = refl; comes = counted ∙ d.left ∙ rw e }
 
 -- What a table that is not refused has.
 pub record Opened (s : List ℕ) (ws : List Words) : Type 0 where
@@ -119,23 +126,23 @@ unfolding unpacked take_field
 opened s ws e =
     let bs = bits s in
     let a = then_good (take_field 0 count_width bs) _ ws e in
-    let t = unless_good (leb count_width (length bs)) cut_short 0 _ a.0 a.1 in
-    let b : (count_fits a.0.field ≡ true) × (take_rows a.0.field a.0.field 0 a.0.rest ≡ good ws) = unless_good (count_fits a.0.field) bad_count 0 _ ws a.2 in
+    let t = unless_good (leb count_width (length bs)) CutShort 0 _ a.0 a.1 in
+    let b : (count_fits a.0.field ≡ true) × (take_rows a.0.field a.0.field 0 a.0.rest ≡ good ws) = unless_good (count_fits a.0.field) BadCount 0 _ ws a.2 in
     opened_at s ws a.0.field a.0.rest (ap (λ x. x.field) (good_inj t.1)) (ap (λ x. x.rest) (good_inj t.1)) t.0 b.0 b.1
 
 -- ---- the answer
 
 -- a refusal leaves the words
-pub read_refused : (s old : List ℕ) (n f : ℕ) → Stop (unpacked s) n f → (numbered n f ≡ read_answer s (length old)) × (old ≡ words_after s old)
+pub read_refused : (s old : List ℕ) (e : Refused) → Stop (unpacked s) e → (parts (Err e) ≡ read_answer s (length old)) × (old ≡ words_after s old)
 unfolding reading
-read_refused s old n f d = rw (d.comes, d.is) (refl, refl)
+read_refused s old e d = rw d.comes (ap (λ (x : Refused). parts (Err x)) d.is, refl)
 
 module _ (s words : List ℕ) (m : ℕ) (w : Whole (unpacked s) words m) where
   pub whole_few : m ≤ max_flows
   whole_few = omega (arith, w.size, (opened s w.rows w.is).few)
 
   -- too few words
-  pub read_full : (old : List ℕ) → length old < row_size * m → (refusal no_room 0 ≡ read_answer s (length old)) × (old ≡ words_after s old)
+  pub read_full : (old : List ℕ) → length old < row_size * m → (refusal NoRoom 0 ≡ read_answer s (length old)) × (old ≡ words_after s old)
   unfolding reading
   read_full old h = rw (w.is, w.size, lt-leb (row_size * m) (length old) h) (refl, refl)
 

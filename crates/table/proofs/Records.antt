@@ -9,7 +9,9 @@ use native.Mathlib.Omega.{arith}
 use lib.Dec.{ltb}
 use lib.ListN.{length, drop, get_elem?, length-append}
 use lib.Seq.{drop-drop}
-use Rattle.table.specs.Answers.{Refusal, unknown_kind, out_of_range, misplaced, Result, good, refused, unless, then, answer, numbered}
+use Rattle.table.specs.declared.refusal.Refusal.{Refusal}
+use Rattle.table.specs.declared.refusal.Refusal.TheVariants.{UnknownKind, OutOfRange, Misplaced}
+use Rattle.table.specs.Answers.{Result, good, refused, unless, then, answer, numbered}
 use Rattle.table.specs.Rows.{Row, ranged, placed, Kind, kinds, Words, each, known, fields_of, row_of, row_by, takes, row_size, kind_count}
 use Rattle.table.specs.Plain.{split, rows_from, table_by, row_words}
 use Rattle.table.specs.Packed.{rows_bits}
@@ -36,15 +38,15 @@ row_outcome m f w = go (get_elem? kinds w.kind)
   where
     fields : (k : Kind) → Outcome f (fields_of m f k w)
     fields k =
-        unless_outcome (each ranged k w) out_of_range f _
-        (unless_outcome (each (placed m f) k w) misplaced f _ (fine (k.make w.one w.two w.three)))
+        unless_outcome (each ranged k w) OutOfRange f _
+        (unless_outcome (each (placed m f) k w) Misplaced f _ (fine (k.make w.one w.two w.three)))
 
     go : (o : Option Kind) → Outcome f (then (known f o) λ k. fields_of m f k w)
-    go none = stopped unknown_kind
+    go none = stopped UnknownKind
     go (some k) = fields k
 
 by_outcome : (rated : Bool) (m f : ℕ) (w : Words) → Outcome f (row_by rated m f w)
-by_outcome rated m f w = unless_outcome (takes rated w.kind) unknown_kind f _ (row_outcome m f w)
+by_outcome rated m f w = unless_outcome (takes rated w.kind) UnknownKind f _ (row_outcome m f w)
 
 -- a row that is accepted has a known kind
 pub kind_lt : (rated : Bool) (m f : ℕ) (w : Words) → verdict (row_by rated m f w) ≡ 0 → w.kind < kind_count

@@ -10,7 +10,8 @@ use mathlib.Core.Option.{some}
 use lib.ListN.{length, get_or, take, drop, replicate, length-append, length-replicate, take-append-drop, get_elem?}
 use lib.Seq.{take_at, drop_at, length-take-le}
 use borrow.Author.Tests.{le-leb, leb-true, lt-ltb, ltb-true, eq-eqb, eqb-true}
-use Rattle.table.specs.Answers.{Result, good, refused, then, answer, leaves, over, success, cut_short, bad_count, bad_filling, no_room}
+use Rattle.table.specs.declared.refusal.Refusal.TheVariants.{CutShort, BadCount, BadFilling, NoRoom}
+use Rattle.table.specs.Answers.{Result, good, refused, then, answer, leaves, over, success}
 use Rattle.table.specs.Rows.{Row, Field, operand, source, copies, period, ticks, value, unused, width, ranged, Kind, kinds, kind_at, Words}
 use Rattle.table.specs.Rows.{row_size, kind_of, fields_of, row_of, max_flows}
 use Rattle.table.specs.Plain.{split, joined, rows_from, count_fits, table_by, draft_of}
@@ -46,7 +47,7 @@ take_put f w x rest h =
 pub put_take : (f w : ℕ) (bs : List Bool) (t : Taken) → take_field f w bs ≡ good t → to_bits w t.field ++ t.rest ≡ bs
 unfolding take_field
 put_take f w bs t e =
-    let u = unless_good (leb w (length bs)) cut_short f _ t e in
+    let u = unless_good (leb w (length bs)) CutShort f _ t e in
     let l : length (take w bs) ≡ w = length-take-le w bs (leb-true w (length bs) u.0) in
     subst (λ (x : Taken). to_bits w x.field ++ x.rest ≡ bs) (good_inj u.1)
     (ap (λ (p : List Bool). p ++ drop w bs) (to_from_at w (take w bs) l) ∙ take-append-drop w bs)
@@ -139,7 +140,7 @@ record RowsBack (m f : ℕ) (bs : List Bool) (ws : List Words) : Type 0 where
 rows_back : (m n f : ℕ) (bs : List Bool) (ws : List Words) → take_rows m n f bs ≡ good ws → RowsBack m f bs ws
 unfolding take_rows rows_bits rows_from
 rows_back m zero f bs ws e =
-    let u = unless_good (filling bs) bad_filling 0 (good []) ws e in
+    let u = unless_good (filling bs) BadFilling 0 (good []) ws e in
     subst (RowsBack m f bs) (good_inj u.1) record { rest = bs; put = refl; filled = u.0; rows = []; made_rows = refl }
 rows_back m (suc n) f bs ws e =
     let a = then_good (take_row m f bs) _ ws e in
@@ -180,7 +181,7 @@ unpacked_packed m words rows e =
     let ws = split m words in
     let table = table_bits m words in
     let d = made_by false m words rows e in
-    let u = unless_good (count_fits m && eqb (length words) (row_size * m)) bad_count 0 (rows_from false m 0 ws) rows e in
+    let u = unless_good (count_fits m && eqb (length words) (row_size * m)) BadCount 0 (rows_from false m 0 ws) rows e in
     let end = fill (length table) in
     let g : bits (packed ws) ≡ to_bits count_width m ++ (rows_bits ws ++ end) =
     ap bits (packed_split m words) ∙ bits_packed table ∙ append_assoc (to_bits count_width m) (rows_bits ws) end in
@@ -238,7 +239,7 @@ read_back m words old buf ok room = go (writing m words (length old)) refl ok
     go (refused why f) e z = absurd (no_zero why z)
     go (good bs) e z =
         let t = then_good (draft_of m words) _ bs e in
-        let u = unless_good (leb (length (packed (split m words))) (length old)) no_room 0 (good (packed (split m words))) bs t.2 in
+        let u = unless_good (leb (length (packed (split m words))) (length old)) NoRoom 0 (good (packed (split m words))) bs t.2 in
         let d = made_by false m words t.0 t.1 in
         let p : take (length bs) (bs ++ drop (length bs) old) ≡ packed (split m words) = take_at bs (drop (length bs) old) (length bs) refl ∙ sym (good_inj u.1) in
         rw (p, unpacked_packed m words t.0 t.1, length_split m words, le-leb (row_size * m) (length buf) room)
@@ -256,7 +257,7 @@ written_back bs old buf below ok room = go (reading bs (length old)) refl ok
     go (refused why f) e z = absurd (no_zero why z)
     go (good ws) e z =
         let t = then_good (unpacked bs) _ ws e in
-        let u = unless_good (leb (row_size * length t.0) (length old)) no_room 0 (good t.0) ws t.2 in
+        let u = unless_good (leb (row_size * length t.0) (length old)) NoRoom 0 (good t.0) ws t.2 in
         let q : unpacked bs ≡ good ws = t.1 ∙ u.1 in
         let p : take (row_size * length ws) (joined ws ++ drop (length (joined ws)) old) ≡ joined ws =
         take_at (joined ws) (drop (length (joined ws)) old) (row_size * length ws) (length_joined ws) in

@@ -10,8 +10,9 @@ use lib.Seq.{take-take, drop-drop}
 use borrow.Author.Tests.{le-leb, lt-leb}
 use Rattle.table.specs.declared.Cursor.{Cursor}
 use Rattle.table.specs.declared.Record.{Record}
-use Rattle.table.specs.declared.Taking.TheVariants.{Got, Short}
-use Rattle.table.specs.Answers.{good, refused, cut_short, unknown_kind, number}
+use Rattle.std.specs.Prelude.{Some, None}
+use Rattle.table.specs.declared.refusal.Refusal.TheVariants.{CutShort, UnknownKind}
+use Rattle.table.specs.Answers.{good, refused}
 use Rattle.table.specs.Rows.{width, Words, row_of, Kind, kind_at, kind_count}
 use Rattle.table.specs.Plain.{words_of}
 use Rattle.table.specs.Bits.{from_bits}
@@ -19,7 +20,7 @@ use Rattle.table.specs.Packed.{take_field, take_fields, take_row, kind_width}
 use Rattle.table.specs.Places.{take_at_bit, last_place, longest_record, taking_parts}
 use Rattle.table.specs.Lengths.{row_length}
 use Rattle.table.specs.Private.Codes.{fields_in}
-use Rattle.table.specs.Private.Steps.{Found, Missing}
+use Rattle.table.specs.Private.Steps.{Found}
 use Rattle.table.proofs.BitLaws.{drop_take}
 use Rattle.table.proofs.Entries.{kind_there, kind_gone}
 use Rattle.table.proofs.Lengths.{row_le}
@@ -31,13 +32,13 @@ field_there : (f w : ℕ) (bs : List Bool) → w ≤ length bs → take_field f 
 unfolding take_field
 field_there f w bs h = rw (le-leb w (length bs) h)
 
-field_gone : (f w : ℕ) (bs : List Bool) → length bs < w → take_field f w bs ≡ refused cut_short f
+field_gone : (f w : ℕ) (bs : List Bool) → length bs < w → take_field f w bs ≡ refused CutShort f
 unfolding take_field
 field_gone f w bs h = rw (lt-leb w (length bs) h)
 
 -- too few bits for the three fields: one of them is not there
 fields_short : (m f n : ℕ) (k : Kind) (bs : List Bool) → length bs < width k.one + width k.two + width k.three
-    → take_fields m f n k bs ≡ refused cut_short f
+    → take_fields m f n k bs ≡ refused CutShort f
 unfolding take_fields
 fields_short m f n k bs h =
     let one : ℕ = width k.one in
@@ -107,21 +108,21 @@ two_widths n known = omega (arith, row_le n known)
 -- ---- the row
 
 module _ (bs : List Bool) (at : ℕ) (room : at + longest_record ≤ last_place) (inside : at ≤ length bs) where
-  pub no_kind_lem : take_at_bit bs at kind_width ≡ taking_parts Short → Missing bs at (number cut_short)
+  pub no_kind_lem : take_at_bit bs at kind_width ≡ taking_parts None → (m f : ℕ) → take_row m f (drop at bs) ≡ refused CutShort f
   unfolding take_row
-  no_kind_lem e = record { why = cut_short; is = refl; taken = λ m f. rw (too_short bs at kind_width (omega arith) (omega arith) inside e f) }
+  no_kind_lem e = λ m f. rw (too_short bs at kind_width (omega arith) (omega arith) inside e f)
 
   -- the kind was taken
-  module _ (n : ℕ) (p : Cursor) (k : take_at_bit bs at kind_width ≡ taking_parts (Got n p)) where
+  module _ (n : ℕ) (p : Cursor) (k : take_at_bit bs at kind_width ≡ taking_parts (Some (n, p))) where
     hk : Had bs at kind_width n p
     hk = had bs at kind_width n p k
 
     pub kind_past : p.at ≡ at + kind_width
     kind_past = hk.past
 
-    pub bad_kind : kind_count ≤ n → Missing bs at (number unknown_kind)
+    pub bad_kind : kind_count ≤ n → (m f : ℕ) → take_row m f (drop at bs) ≡ refused UnknownKind f
     unfolding take_row
-    bad_kind h = record { why = unknown_kind; is = refl; taken = λ m f. rw (hk.field f, kind_gone n h) }
+    bad_kind h = λ m f. rw (hk.field f, kind_gone n h)
 
     -- and is known
     module _ (known : n < kind_count) (end : ℕ) (is : end ≡ at + row_length n) where
@@ -129,16 +130,12 @@ module _ (bs : List Bool) (at : ℕ) (room : at + longest_record ≤ last_place)
       unfolding row_length
       size = is
 
-      pub cut_row : length bs < end → Missing bs at (number cut_short)
+      pub cut_row : length bs < end → (m f : ℕ) → take_row m f (drop at bs) ≡ refused CutShort f
       unfolding take_row
       cut_row h =
           let l : length (drop p.at bs) < width (kind_at n).one + width (kind_at n).two + width (kind_at n).three =
           omega (arith, length-drop p.at bs, hk.past, hk.within, size) in
-          record {
-            why = cut_short;
-            is = refl;
-            taken = λ m f. rw (hk.field f, kind_there n known, fields_short m f n (kind_at n) (drop p.at bs) l);
-          }
+          λ m f. rw (hk.field f, kind_there n known, fields_short m f n (kind_at n) (drop p.at bs) l)
 
       pub found : (x : ℕ) (r : Record) → end ≤ length bs → x ≡ from_bits (take (end - p.at) (drop p.at bs)) → words_of r ≡ fields_in n x
           → Found bs at r (record { at = end })

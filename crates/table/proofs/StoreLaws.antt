@@ -12,14 +12,17 @@ use lib.Seq.{take_at, sets-eq, length-take-le}
 use borrow.Author.Tests.{eqb-true}
 use Rattle.table.specs.declared.Cursor.{Cursor}
 use Rattle.table.specs.declared.Record.{Record}
-use Rattle.table.specs.Answers.{Result, good, refused, unless, then, bad_filling}
+use Rattle.table.specs.declared.refusal.Refused.{Refused}
+use Rattle.table.specs.declared.refusal.Refusal.{Refusal}
+use Rattle.table.specs.declared.refusal.Refusal.TheVariants.{BadFilling}
+use Rattle.table.specs.Answers.{Result, good, refused, named, number, unless, then}
 use Rattle.table.specs.Rows.{Row, Words, row_of, row_size}
 use Rattle.table.specs.Plain.{joined, plain_row, words_of}
-use Rattle.table.specs.Packed.{TakenRow, take_rows, filling, count_width}
+use Rattle.table.specs.Packed.{TakenRow, take_row, take_rows, filling, count_width}
 use Rattle.table.specs.Places.{last_place}
 use Rattle.table.specs.Private.Codes.{verdict}
-use Rattle.table.specs.Private.Steps.{Found, Missing, Ended, Stop}
-use Rattle.table.proofs.AnswerLaws.{no_zero}
+use Rattle.table.specs.Private.Steps.{Found, Ended, Stop}
+use Rattle.table.proofs.AnswerLaws.{no_zero, number_inj}
 use Rattle.table.proofs.PlainRows.{joined_next}
 use Rattle.table.proofs.Records.{Outcome, fine, stopped, row_outcome}
 
@@ -44,7 +47,7 @@ behind_next : (rows : List Words) (w : Words) (r : Result (List Words)) → behi
 behind_next rows w (good ws) = ap good (sym (append_assoc rows (w ∷ []) ws))
 behind_next rows w (refused why f) = refl
 
-behind_last : (rows : List Words) (b : Bool) → behind rows (unless b bad_filling 0 (good [])) ≡ unless b bad_filling 0 (good rows)
+behind_last : (rows : List Words) (b : Bool) → behind rows (unless b BadFilling 0 (good [])) ≡ unless b BadFilling 0 (good rows)
 behind_last rows true = ap good (append-nil rows)
 behind_last rows false = refl
 
@@ -75,9 +78,11 @@ module _ (bs : List Bool) (m row at : ℕ) (words : List ℕ) (u : Unpacking bs 
     more : m - row ≡ suc (m - (row + 1))
     more = omega arith
 
-    pub unpacking_stops : (n : ℕ) → Missing bs at n → Stop (take_rows m m 0 (drop count_width bs)) n row
+    pub unpacking_stops : (e : Refused) → e ≡ named e.why row → ((m f : ℕ) → take_row m f (drop at bs) ≡ refused e.why f) → Stop (take_rows m m 0 (drop count_width bs)) e
     unfolding take_rows
-    unpacking_stops n d = record { why = d.why; is = d.is; comes = u.left ∙ rw (more, d.taken m row) }
+    unpacking_stops e is d =
+        let at_row : row ≡ e.flow = sym (ap (λ (x : Refused). x.flow) is) in
+        record { is = is ∙ ap (named e.why) at_row; comes = u.left ∙ rw (more, d m row) (ap (refused e.why) at_row) }
 
     -- the next row, and those after it
     module _ (r : Record) (p : Cursor) (found : Found bs at r p) where
@@ -95,14 +100,14 @@ module _ (bs : List Bool) (m row at : ℕ) (words : List ℕ) (u : Unpacking bs 
           go (good y) = refl
           go (refused why f) = refl
 
-      pub unpacking_refused : (n : ℕ) → eqb (verdict (row_of m row (words_of r))) 0 ≡ false → n ≡ verdict (row_of m row (words_of r))
-          → Stop (take_rows m m 0 (drop count_width bs)) n row
-      unpacking_refused n f e = go (row_of m row (words_of r)) (row_outcome m row (words_of r)) refl f e
+      pub unpacking_refused : (why : Refusal) → eqb (verdict (row_of m row (words_of r))) 0 ≡ false → number why ≡ verdict (row_of m row (words_of r))
+          → Stop (take_rows m m 0 (drop count_width bs)) (named why row)
+      unpacking_refused why f e = go (row_of m row (words_of r)) (row_outcome m row (words_of r)) refl f e
         where
-          go : (x : Result Row) → Outcome row x → row_of m row (words_of r) ≡ x → eqb (verdict x) 0 ≡ false → n ≡ verdict x
-              → Stop (take_rows m m 0 (drop count_width bs)) n row
+          go : (x : Result Row) → Outcome row x → row_of m row (words_of r) ≡ x → eqb (verdict x) 0 ≡ false → number why ≡ verdict x
+              → Stop (take_rows m m 0 (drop count_width bs)) (named why row)
           go x (fine y) q f e = absurd (let z : ◌≡◌ {A = ℕ} 0 1 = cc in omega arith)
-          go x (stopped why) q f e = record { why = why; is = e; comes = u.left ∙ rw (next, q) }
+          go x (stopped other) q f e = record { is = refl; comes = u.left ∙ rw (next, q, number_inj why other e) }
 
       pub unpacking_goes : (new : List ℕ) → eqb (verdict (row_of m row (words_of r))) 0 ≡ true → row_size * m ≤ length words
           → new ≡ take (row_size * row) words ++ (plain_row (words_of r) ++ drop (row_size * row + row_size) words) → Unpacking bs m (row + 1) p.at new

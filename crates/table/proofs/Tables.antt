@@ -10,7 +10,8 @@ use lib.Seq.{drop-drop, get_or-drop}
 use lib.Dec.{eqb, leb}
 use borrow.Author.Tests.{leb-true, ltb-true, eqb-true}
 use Rattle.table.specs.declared.Answer.{Answer}
-use Rattle.table.specs.Answers.{good, answer, unknown_kind, out_of_range, misplaced, bad_count}
+use Rattle.table.specs.declared.refusal.Refusal.TheVariants.{UnknownKind, OutOfRange, Misplaced, BadCount}
+use Rattle.table.specs.Answers.{good, answer}
 use Rattle.table.specs.Rows.{Row, Field, operand, source, copies, period, ticks, value, unused, least, most, ranged, placed}
 use Rattle.table.specs.Rows.{Kind, kinds, kind_count, kind_at, decode, Words, row_size, each, known, kind_of, fields_of, row_of, takes, row_by, max_flows}
 use Rattle.table.specs.Plain.{four, row_words, split, rows_from, count_fits, table_by, table_of, rows_in}
@@ -44,8 +45,8 @@ made m f w r e =
   where
     go : w.kind < kind_count → fields_of m f (kind_at w.kind) w ≡ good r → Made m f w r
     go l e =
-        let x = unless_good (each ranged (kind_at w.kind) w) out_of_range f _ r e in
-        let y = unless_good (each (placed m f) (kind_at w.kind) w) misplaced f _ r x.1 in
+        let x = unless_good (each ranged (kind_at w.kind) w) OutOfRange f _ r e in
+        let y = unless_good (each (placed m f) (kind_at w.kind) w) Misplaced f _ r x.1 in
         record { known = l; row = good_inj y.1; in_range = x.0; in_place = y.0 }
 
 pub ranges : (t : Field) (x : ℕ) → ranged t x ≡ true → In (least t) x (most t)
@@ -157,7 +158,7 @@ rows_made rated m f (suc n) words rows e =
     let w : Words = four words in
     let a = then_good (row_by rated m f w) _ rows e in
     let b = then_good (rows_from rated m (suc f) (split n (drop row_size words))) (λ rs. good (a.0 ∷ rs)) rows a.2 in
-    let u = unless_good (takes rated w.kind) unknown_kind f (row_of m f w) a.0 a.1 in
+    let u = unless_good (takes rated w.kind) UnknownKind f (row_of m f w) a.0 a.1 in
     subst (Rows rated m f (suc n) words) (good_inj b.2)
     (longer a.0 b.0 u.0 (made m f w a.0 u.1) (rows_made rated m (suc f) n (drop row_size words) b.0 b.1))
   where
@@ -182,7 +183,7 @@ rows_made rated m f (suc n) words rows e =
 pub made_by : (rated : Bool) (m : ℕ) (words : List ℕ) (rows : List Row) → table_by rated m words ≡ good rows → TableBy rated m words rows
 unfolding table_by
 made_by rated m words rows e =
-    let a = unless_good (count_fits m && eqb (length words) (row_size * m)) bad_count 0 _ rows e in
+    let a = unless_good (count_fits m && eqb (length words) (row_size * m)) BadCount 0 _ rows e in
     let c : count_fits m ≡ true = and_left (count_fits m) _ a.0 in
     go (leb-true 1 m (and_left (leb 1 m) _ c)) (leb-true m max_flows (and_right (leb 1 m) _ c)) (eqb-true _ _ (and_right (count_fits m) _ a.0)) (rows_made rated m 0 m words rows a.1)
   where

@@ -3,7 +3,8 @@ use mathlib.Core.Path.{◌≡◌, refl, sym}
 use Prim.Native.Nat.{ℕ}
 use native.Mathlib.Omega.{arith}
 use mathlib.Core.Bool.{Bool, true, false, ◌&&◌, ◌||◌, beq, false≢true}
-use Rattle.table.specs.Answers.{Refusal, Result, good, refused, unless, then}
+use Rattle.table.specs.declared.refusal.Refusal.{Refusal}
+use Rattle.table.specs.Answers.{Result, good, refused, unless, then}
 
 -- what a conjunction of tests says
 pub and_left : (a b : Bool) → (a && b) ≡ true → a ≡ true

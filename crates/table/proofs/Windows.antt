@@ -13,11 +13,12 @@ use lib.Seq.{drop-drop, take-suc, take-take, get_or-drop, length-take-le}
 use lib.Pow.{pow_pos, pow_mono, shl_exact, high, low}
 use borrow.Author.Tests.{le-leb, lt-leb, leb-true, leb-false}
 use Rattle.table.specs.declared.Cursor.{Cursor}
-use Rattle.table.specs.declared.Taking.TheVariants.{Got, Short}
+use Rattle.std.specs.Prelude.{Some, None}
 use Rattle.table.specs.Bits.{to_bits, from_bits, bits, byte_count}
 use Rattle.table.specs.Places.{take_at_bit, last_place, widest, FieldAt, taking_parts}
 use Rattle.table.specs.Private.Laid.{window}
-use Rattle.table.specs.Answers.{good, refused, cut_short, unless}
+use Rattle.table.specs.declared.refusal.Refusal.TheVariants.{CutShort}
+use Rattle.table.specs.Answers.{good, refused, unless}
 use Rattle.table.specs.Packed.{take_field}
 use Rattle.table.proofs.Tests.{and_right, not_good, good_inj, unless_good}
 use Rattle.table.proofs.BitLaws.{length_to_bits, from_bits_append, from_bits_lt, from_to, bits_append, length_bits, drop_bits, take_bits, drop_take}
@@ -89,15 +90,15 @@ one_le_shifted w h = rw (shl_exact {a = 1} 1 w 64 (omega arith) (omega arith), o
 
 -- ---- what taking answers
 
-pub take_far : (bs : List Bool) (at w : ℕ) → last_place < at → taking_parts Short ≡ take_at_bit bs at w
+pub take_far : (bs : List Bool) (at w : ℕ) → last_place < at → taking_parts None ≡ take_at_bit bs at w
 unfolding take_at_bit
 take_far bs at w h = rw (lt-leb at last_place h)
 
-pub take_wide : (bs : List Bool) (at w : ℕ) → at ≤ last_place → widest < w → taking_parts Short ≡ take_at_bit bs at w
+pub take_wide : (bs : List Bool) (at w : ℕ) → at ≤ last_place → widest < w → taking_parts None ≡ take_at_bit bs at w
 unfolding take_at_bit
 take_wide bs at w p h = rw (le-leb at last_place p, lt-leb w widest h)
 
-pub take_short : (s : List ℕ) (at w : ℕ) → at ≤ last_place → w ≤ widest → length s < (at + w + 7) / 8 → taking_parts Short ≡ take_at_bit (bits s) at w
+pub take_short : (s : List ℕ) (at w : ℕ) → at ≤ last_place → w ≤ widest → length s < (at + w + 7) / 8 → taking_parts None ≡ take_at_bit (bits s) at w
 unfolding take_at_bit
 take_short s at w p q h = rw (length_bits s, le-leb at last_place p, le-leb w widest q, lt-leb (at + w) (8 * length s) (omega arith))
 
@@ -109,7 +110,7 @@ number_lt s at w v q e =
     rw e (lt_of_lt_of_le (from_bits_lt f) (pow_mono l))
 
 pub take_got : (s : List ℕ) (at w v : ℕ) → at ≤ last_place → w ≤ widest → (at + w + 7) / 8 ≤ length s → v ≡ from_bits (take w (drop at (bits s)))
-    → taking_parts (Got v (record { at = at + w })) ≡ take_at_bit (bits s) at w
+    → taking_parts (Some (v, record { at = at + w })) ≡ take_at_bit (bits s) at w
 unfolding take_at_bit
 take_got s at w v p q l e =
     rw (length_bits s, le-leb at last_place p, le-leb w widest q, le-leb (at + w) (8 * length s) (omega arith), e)
@@ -121,14 +122,14 @@ pub record Had (bs : List Bool) (at w x : ℕ) (p : Cursor) : Type 0 where
   pub past : p.at ≡ at + w
   pub within : at + w ≤ length bs
 
-short_of : (b : Bool) (x : FieldAt) → unless b cut_short 0 (good x) ≡ refused cut_short 0 → b ≡ false
+short_of : (b : Bool) (x : FieldAt) → unless b CutShort 0 (good x) ≡ refused CutShort 0 → b ≡ false
 short_of true x e = not_good (sym e)
 short_of false x e = refl
 
-pub had : (bs : List Bool) (at w x : ℕ) (p : Cursor) → take_at_bit bs at w ≡ taking_parts (Got x p) → Had bs at w x p
+pub had : (bs : List Bool) (at w x : ℕ) (p : Cursor) → take_at_bit bs at w ≡ taking_parts (Some (x, p)) → Had bs at w x p
 unfolding take_at_bit take_field
 had bs at w x p e =
-    let g = unless_good (leb at last_place && (leb w widest && leb (at + w) (length bs))) cut_short 0 _ _ e in
+    let g = unless_good (leb at last_place && (leb w widest && leb (at + w) (length bs))) CutShort 0 _ _ e in
     let v : from_bits (take w (drop at bs)) ≡ x = ap (λ (y : FieldAt). y.field) (good_inj g.1) in
     let l : at + w ≤ length bs = leb-true (at + w) (length bs) (and_right (leb w widest) _ (and_right (leb at last_place) _ g.0)) in
     let n : at + w ≡ p.at = ap (λ (y : FieldAt). y.next) (good_inj g.1) in
@@ -141,8 +142,8 @@ had bs at w x p e =
     }
 
 pub too_short :
-    (bs : List Bool) (at w : ℕ) → at ≤ last_place → w ≤ widest → at ≤ length bs → take_at_bit bs at w ≡ taking_parts Short → (f : ℕ)
-    → take_field f w (drop at bs) ≡ refused cut_short f
+    (bs : List Bool) (at w : ℕ) → at ≤ last_place → w ≤ widest → at ≤ length bs → take_at_bit bs at w ≡ taking_parts None → (f : ℕ)
+    → take_field f w (drop at bs) ≡ refused CutShort f
 unfolding take_at_bit take_field
 too_short bs at w p q l e f =
     let b = short_of (leb at last_place && (leb w widest && leb (at + w) (length bs))) _ e in
@@ -151,7 +152,7 @@ too_short bs at w p q l e f =
     rw (lt-leb w (length (drop at bs)) h)
 
 -- a field that is there is taken
-pub not_short : (bs : List Bool) (at w : ℕ) → at ≤ last_place → w ≤ widest → at + w ≤ length bs → take_at_bit bs at w ≡ taking_parts Short → ⊥
+pub not_short : (bs : List Bool) (at w : ℕ) → at ≤ last_place → w ≤ widest → at + w ≤ length bs → take_at_bit bs at w ≡ taking_parts None → ⊥
 unfolding take_at_bit
 not_short bs at w p q l e =
     let b = short_of (leb at last_place && (leb w widest && leb (at + w) (length bs))) _ e in

@@ -2,16 +2,20 @@
 use mathlib.Core.Path.{◌≡◌, refl, sym, ap, ap₂, ◌∙◌, subst}
 use mathlib.Core.Bool.{Bool, false, ◌&&◌}
 use mathlib.Core.List.{List, [], ◌∷◌, ◌++◌, append_assoc, append-nil}
-use Prim.Native.Nat.{ℕ, suc, ◌+◌, ◌-◌, ◌*◌, ◌%◌, ◌^◌, ◌<◌, ◌≤◌}
+use Prim.Native.Nat.{ℕ, zero, suc, ◌+◌, ◌-◌, ◌*◌, ◌%◌, ◌^◌, ◌<◌, ◌≤◌}
 use native.Mathlib.Nat.{sub-zero, lt_of_lt_of_le}
 use native.Mathlib.Numerals.{add-one}
 use native.Mathlib.Omega.{arith}
 use lib.Dec.{eqb}
-use lib.ListN.{length, get_or, drop, length-append}
+use lib.ListN.{length, get_or, take, drop, length-append, drop_of_length-le}
+use lib.Seq.{length-take-le}
 use lib.Pow.{pow_mono}
 use borrow.Author.Tests.{le-leb, lt-leb}
+use Rattle.std.specs.Prelude.{Err}
 use Rattle.table.specs.declared.Answer.{Answer}
-use Rattle.table.specs.Answers.{Result, good, refused, then, answer, success, numbered, bad_count, refusal, no_room}
+use Rattle.table.specs.declared.refusal.Refused.{Refused}
+use Rattle.table.specs.declared.refusal.Refusal.TheVariants.{BadCount, NoRoom}
+use Rattle.table.specs.Answers.{Result, good, refused, then, answer, success, parts, refusal}
 use Rattle.table.specs.Rows.{Field, Row, width, Words, row_of, row_size, kind_at, kind_count}
 use Rattle.table.specs.Plain.{split, rows_from, count_fits, table_by, draft_of, row_words}
 use Rattle.table.specs.Bits.{to_bits, byte_count, bytes}
@@ -24,7 +28,7 @@ use Rattle.table.proofs.Tables.{made_by}
 use Rattle.table.proofs.BitLaws.{length_to_bits}
 use Rattle.table.proofs.Entries.{width_at, code_lt, kind_there}
 use Rattle.table.proofs.Lengths.{row_size_lem}
-use Rattle.table.proofs.AnswerLaws.{no_zero}
+use Rattle.table.proofs.AnswerLaws.{no_zero, told_err}
 use Rattle.table.proofs.Records.{Outcome, fine, stopped, row_outcome, kind_lt, split_next, split_end, size_next, survey_next}
 use Rattle.table.proofs.PlainRows.{length_split}
 use Rattle.table.proofs.Puts.{more_bits, more_lt, put_none, put_put}
@@ -150,15 +154,16 @@ table_good m words e = go (draft_of m words) refl e
     go (refused why f) u e = absurd (no_zero why (ap (λ (a : Answer). a.number) e))
 
 -- a refusal leaves the bytes
-pub write_refused : (m n f : ℕ) (words old : List ℕ) → answer (λ rs. m) (draft_of m words) ≡ numbered n f
-    → (numbered n f ≡ write_answer m words (length old)) × (old ≡ bytes_after m words old)
+pub write_refused : (m : ℕ) (x : Refused) (words old : List ℕ) → answer (λ rs. m) (draft_of m words) ≡ parts (Err x)
+    → (parts (Err x) ≡ write_answer m words (length old)) × (old ≡ bytes_after m words old)
 unfolding writing
-write_refused m n f words old e = go (draft_of m words) refl e
-  where
-    go : (r : Result (List Row)) → draft_of m words ≡ r → answer (λ rs. m) r ≡ numbered n f
-        → (numbered n f ≡ write_answer m words (length old)) × (old ≡ bytes_after m words old)
-    go (good rows) u e = let z : m ≡ 0 = ap (λ (a : Answer). a.count) e in absurd (omega (arith, z, (made_by false m words rows u).some_flow))
-    go (refused why g) u e = rw u (sym e, refl)
+write_refused m x words old e = let t = told_err (λ rs. m) (draft_of m words) x (sym e) in rw t.0 (ap (λ (y : Refused). parts (Err y)) t.1, refl)
+
+-- bytes in front of others
+pub front_below : (front rest : List ℕ) → ((k : ℕ) → get_or (front ++ rest) k 0 < 256) → (k : ℕ) → get_or front k 0 < 256
+front_below [] rest h k = omega arith
+front_below (x ∷ xs) rest h zero = h zero
+front_below (x ∷ xs) rest h (suc k) = front_below xs rest (λ j. h (suc j)) k
 
 module _ (m size : ℕ) (words old : List ℕ) (ok : answer (λ rs. m) (draft_of m words) ≡ success m) (is : size ≡ byte_count (count_width + length (rows_bits (split m words)))) where
   bytes_size : length (packed (split m words)) ≡ size
@@ -166,20 +171,25 @@ module _ (m size : ℕ) (words old : List ℕ) (ok : answer (λ rs. m) (draft_of
 
   -- too few bytes
   pub write_full : length old < size
-      → (refusal no_room 0 ≡ write_answer m words (length old)) × (old ≡ bytes_after m words old)
+      → (refusal NoRoom 0 ≡ write_answer m words (length old)) × (old ≡ bytes_after m words old)
   unfolding writing
   write_full h =
       rw ((table_good m words ok).1, lt-leb (length (packed (split m words))) (length old) (omega (arith, bytes_size))) (refl, refl)
 
-  -- room for all bytes
-  pub write_done : (new : List ℕ) → size ≤ length old → ((k : ℕ) → get_or new k 0 < 256) → Begun size (table_bits m words) old new
-      → (success size ≡ write_answer m words (length old)) × (new ≡ bytes_after m words old)
+  -- room for all bytes, which are put into the first ones
+  pub write_done : (front new : List ℕ) → size ≤ length old → ((k : ℕ) → get_or front k 0 < 256) → Begun (length (take size old)) (table_bits m words) (take size old) front
+      → new ≡ front ++ drop size old → (success size ≡ write_answer m words (length old)) × (new ≡ bytes_after m words old)
   unfolding writing
-  write_done new h below b =
+  write_done front new h below b e =
       let n : size ≡ byte_count (length (table_bits m words)) = is ∙ ap byte_count (sym (table_length m words)) in
+      let l : length (take size old) ≡ byte_count (length (table_bits m words)) = length-take-le size old h ∙ n in
+      let none : drop (byte_count (length (table_bits m words))) (take size old) ≡ [] = drop_of_length-le (take size old) {i = byte_count (length (table_bits m words))} (omega (arith, l)) in
+      let f : front ≡ bytes (table_bits m words) =
+      begun_bytes (table_bits m words) front (take size old) below (omega (arith, l, b.size_kept))
+      (subst (λ (k : ℕ). Begun k (table_bits m words) (take size old) front) l b)
+      ∙ ap (λ (x : List ℕ). bytes (table_bits m words) ++ x) none ∙ append-nil (bytes (table_bits m words)) in
       let t : new ≡ packed (split m words) ++ drop (length (packed (split m words))) old =
-      begun_bytes (table_bits m words) new old below (omega (arith, n, b.size_kept)) (subst (λ (k : ℕ). Begun k (table_bits m words) old new) n b)
-      ∙ ap₂ (λ (a : List ℕ) (k : ℕ). a ++ drop k old) (sym (packed_split m words)) (sym (bytes_size ∙ n)) in
+      e ∙ ap₂ (λ (a : List ℕ) (k : ℕ). a ++ drop k old) (f ∙ sym (packed_split m words)) (sym bytes_size) in
       rw ((table_good m words ok).1, le-leb (length (packed (split m words))) (length old) (omega (arith, bytes_size))) (ap success (sym bytes_size), t)
 
 pub ready : (m : ℕ) (words : List ℕ) → answer (λ rs. m) (draft_of m words) ≡ success m → Ready m words
@@ -187,5 +197,5 @@ unfolding table_by
 ready m words ok =
     let t = table_good m words ok in
     let d = made_by false m words t.0 t.1 in
-    let r = unless_good (count_fits m && eqb (length words) (row_size * m)) bad_count 0 (rows_from false m 0 (split m words)) t.0 t.1 in
+    let r = unless_good (count_fits m && eqb (length words) (row_size * m)) BadCount 0 (rows_from false m 0 (split m words)) t.0 t.1 in
     record { few = d.few; words_size = d.words_size; accepted = rw r.1 }

@@ -1,44 +1,38 @@
 -- Why a plan comes back: each cause with its number, the four parts of an answer, and what is left in a lent buffer.
 use Rattle.std.specs.Prelude.{ℕ, Bool, true, false, List, ◌++◌, length, drop}
+use Rattle.std.specs.Prelude as std
 use Rattle.table.specs.declared.Answer.{Answer}
-use Rattle.table.specs.declared.Reading.{Reading}
-use Rattle.table.specs.declared.Reading.TheVariants.{Table, Refused}
-
--- the causes of table and codec, of the check, of the runs, of the load page, of the least part, of the call that fills in rates, and of the
--- archive
-pub data Refusal : Type 0 where
-  no_room bad_count cut_short unknown_kind out_of_range misplaced bad_filling : Refusal
-  clocks_differ beyond_limits not_plain bad_view : Refusal
-  too_many_ticks wrong_log short_trace clash short_window : Refusal
-  wrong_times short_page : Refusal
-  not_differing : Refusal
-  unjoined : Refusal
-  has_conditions wrong_length off_calendar : Refusal
+use Rattle.table.specs.declared.refusal.Refused.{Refused}
+use Rattle.table.specs.declared.refusal.Refusal.{Refusal}
+use Rattle.table.specs.declared.refusal.Refusal.TheVariants.{NoRoom, BadCount, CutShort, UnknownKind, OutOfRange, Misplaced, BadFilling}
+use Rattle.table.specs.declared.refusal.Refusal.TheVariants.{ClocksDiffer, BeyondLimits, NotPlain, BadView}
+use Rattle.table.specs.declared.refusal.Refusal.TheVariants.{TooManyTicks, WrongLog, ShortTrace, Clash, ShortWindow}
+use Rattle.table.specs.declared.refusal.Refusal.TheVariants.{WrongTimes, ShortPage, NotDiffering, Unjoined, HasConditions, WrongLength, OffCalendar}
 
 abbrev pub number : Refusal → ℕ
-number no_room = 10
-number bad_count = 11
-number cut_short = 12
-number unknown_kind = 13
-number out_of_range = 14
-number misplaced = 15
-number bad_filling = 16
-number clocks_differ = 21
-number beyond_limits = 22
-number not_plain = 23
-number too_many_ticks = 31
-number wrong_log = 32
-number short_trace = 33
-number clash = 34
-number short_window = 35
-number wrong_times = 36
-number short_page = 37
-number not_differing = 38
-number unjoined = 39
-number bad_view = 40
-number has_conditions = 41
-number wrong_length = 42
-number off_calendar = 43
+number NoRoom = 10
+number BadCount = 11
+number CutShort = 12
+number UnknownKind = 13
+number OutOfRange = 14
+number Misplaced = 15
+number BadFilling = 16
+number ClocksDiffer = 21
+number BeyondLimits = 22
+number NotPlain = 23
+number TooManyTicks = 31
+number WrongLog = 32
+number ShortTrace = 33
+number Clash = 34
+number ShortWindow = 35
+number WrongTimes = 36
+number ShortPage = 37
+number NotDiffering = 38
+number Unjoined = 39
+number BadView = 40
+number HasConditions = 41
+number WrongLength = 42
+number OffCalendar = 43
 
 -- What a piece of work comes to: its result, or the first refusal with the row or flow that it names, 0 where it names none.
 pub data Result (A : Type 0) : Type 0 where
@@ -66,10 +60,14 @@ numbered n f = record { number = n; flow = f; tick = 0; count = 0 }
 abbrev pub refusal : Refusal → ℕ → Answer
 refusal why f = numbered (number why) f
 
--- the four parts of each case of a reading
-abbrev pub parts : Reading → Answer
-parts (Table n) = success n
-parts (Refused n row) = numbered n row
+-- a refusal that names a row or flow, and no tick
+abbrev pub named : Refusal → ℕ → Refused
+named why f = record { why = why; flow = f; tick = 0 }
+
+-- the four parts of what a call answers: its count, or a refusal
+abbrev pub parts : std.Result ℕ Refused → Answer
+parts (std.Ok n) = success n
+parts (std.Err r) = record { number = number r.why; flow = r.flow; tick = r.tick; count = 0 }
 
 -- xs from the first cell on, and the rest as it was
 abbrev pub over : List ℕ → List ℕ → List ℕ

@@ -3,7 +3,8 @@ use Rattle.std.specs.Prelude.{ℕ, zero, suc, ◌*◌, Bool, ◌&&◌, List, [],
 use Rattle.std.proofs.Math.Option.{Option, none, some}
 use Rattle.std.proofs.Math.ListN.{get_elem?}
 use Rattle.table.specs.declared.Answer.{Answer}
-use Rattle.table.specs.Answers.{Result, good, unless, then, answer, leaves, no_room, bad_count, cut_short, bad_filling}
+use Rattle.table.specs.declared.refusal.Refusal.TheVariants.{NoRoom, BadCount, CutShort, BadFilling}
+use Rattle.table.specs.Answers.{Result, good, unless, then, answer, leaves}
 use Rattle.table.specs.Rows.{Kind, Words, row_size, kinds, kind_of, fields_of, width}
 use Rattle.table.specs.Plain.{split, joined, count_fits, draft_of}
 use Rattle.table.specs.Bits.{to_bits, from_bits, bits, bytes}
@@ -21,7 +22,7 @@ pub record Taken : Type 0 where
 
 -- the next w bits, for row f
 unfoldable pub take_field : ℕ → ℕ → List Bool → Result Taken
-take_field f w bs = unless (leb w (length bs)) cut_short f (good record { field = from_bits (take w bs); rest = drop w bs })
+take_field f w bs = unless (leb w (length bs)) CutShort f (good record { field = from_bits (take w bs); rest = drop w bs })
 
 -- a row taken from the front of the bits, with the bits after it
 pub record TakenRow : Type 0 where
@@ -49,14 +50,14 @@ filling bs = ltb (length bs) 8 && eqb (from_bits bs) 0
 
 -- n rows of m from number f on, and then the filling
 unfoldable pub take_rows : ℕ → ℕ → ℕ → List Bool → Result (List Words)
-take_rows m zero f bs = unless (filling bs) bad_filling 0 (good [])
+take_rows m zero f bs = unless (filling bs) BadFilling 0 (good [])
 take_rows m (suc n) f bs =
     then (take_row m f bs) λ r. then (take_rows m n (suc f) r.rest) λ ws. good (r.words ∷ ws)
 
 unfoldable pub unpacked : List ℕ → Result (List Words)
 unpacked packed =
     then (take_field 0 count_width (bits packed)) λ m.
-    unless (count_fits m.field) bad_count 0 (take_rows m.field m.field 0 m.rest)
+    unless (count_fits m.field) BadCount 0 (take_rows m.field m.field 0 m.rest)
 
 -- a packed row; a number that is no kind has no fields
 abbrev pub field_bits : Option Kind → Words → List Bool
@@ -76,12 +77,12 @@ packed ws = bytes (to_bits count_width (length ws) ++ rows_bits ws)
 
 -- What reading comes to where there is room for so many words, and writing where there is room for so many bytes.
 unfoldable pub reading : List ℕ → ℕ → Result (List Words)
-reading bs room = then (unpacked bs) λ ws. unless (leb (row_size * length ws) room) no_room 0 (good ws)
+reading bs room = then (unpacked bs) λ ws. unless (leb (row_size * length ws) room) NoRoom 0 (good ws)
 
 unfoldable pub writing : ℕ → List ℕ → ℕ → Result (List ℕ)
 writing m words room =
     then (draft_of m words) λ rows.
-    unless (leb (length (packed (split m words))) room) no_room 0 (good (packed (split m words)))
+    unless (leb (length (packed (split m words))) room) NoRoom 0 (good (packed (split m words)))
 
 -- What both answer, and leave in the lent buffer.
 abbrev pub read_answer : List ℕ → ℕ → Answer

@@ -2,7 +2,8 @@
 use Rattle.std.specs.Prelude.{ℕ, zero, suc, ◌+◌, ◌*◌, Bool, true, false, cond, ◌&&◌, List, [], ◌∷◌, ◌++◌, length, get_or, take, drop, leb, eqb}
 use Rattle.table.specs.declared.Answer.{Answer}
 use Rattle.table.specs.declared.Record.{Record}
-use Rattle.table.specs.Answers.{Result, good, refused, unless, then, answer, bad_count}
+use Rattle.table.specs.declared.refusal.Refusal.TheVariants.{BadCount}
+use Rattle.table.specs.Answers.{Result, good, refused, unless, then, answer}
 use Rattle.table.specs.Rows.{Row, Words, row_size, row_by, max_flows}
 
 -- the first row of the words
@@ -46,7 +47,7 @@ count_fits m = leb 1 m && leb m max_flows
 
 -- a table in plain form: its rows, or the first refusal
 unfoldable pub table_by : Bool → ℕ → List ℕ → Result (List Row)
-table_by rated m words = unless (count_fits m && eqb (length words) (row_size * m)) bad_count 0 (rows_from rated m 0 (split m words))
+table_by rated m words = unless (count_fits m && eqb (length words) (row_size * m)) BadCount 0 (rows_from rated m 0 (split m words))
 
 -- as check and run know it; and a draft (a plan whose inputs may still be unrated), as reading, writing and the call that fills in rates do
 abbrev pub table_of : ℕ → List ℕ → Result (List Row)

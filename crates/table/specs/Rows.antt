@@ -2,7 +2,8 @@
 use Rattle.std.specs.Prelude.{ℕ, suc, ◌-◌, Bool, true, false, cond, not, ◌&&◌, List, [], ◌∷◌, get_or, leb, ltb, eqb}
 use Rattle.std.proofs.Math.Option.{Option, none, some}
 use Rattle.std.proofs.Math.ListN.{get_elem?}
-use Rattle.table.specs.Answers.{Result, good, refused, unless, then, unknown_kind, out_of_range, misplaced}
+use Rattle.table.specs.declared.refusal.Refusal.TheVariants.{UnknownKind, OutOfRange, Misplaced}
+use Rattle.table.specs.Answers.{Result, good, refused, unless, then}
 
 -- The limits of what a table has written in it.
 abbrev pub max_flows : ℕ
@@ -156,7 +157,7 @@ each test k w = test k.one w.one && (test k.two w.two && test k.three w.three)
 
 -- The kind with a number, for row f.
 abbrev pub known : {A : Type 0} → ℕ → Option A → Result A
-known f none = refused unknown_kind f
+known f none = refused UnknownKind f
 known f (some k) = good k
 
 abbrev pub kind_of : ℕ → ℕ → Result Kind
@@ -165,8 +166,8 @@ kind_of f k = known f (get_elem? kinds k)
 -- row f of m, of a known kind: every field in its range, and then every operand in its place
 unfoldable pub fields_of : ℕ → ℕ → Kind → Words → Result Row
 fields_of m f k w =
-    unless (each ranged k w) out_of_range f
-    (unless (each (placed m f) k w) misplaced f
+    unless (each ranged k w) OutOfRange f
+    (unless (each (placed m f) k w) Misplaced f
     (good (k.make w.one w.two w.three)))
 
 unfoldable pub row_of : ℕ → ℕ → Words → Result Row
@@ -177,7 +178,7 @@ abbrev pub takes : Bool → ℕ → Bool
 takes rated k = not (rated && eqb k unrated_kind)
 
 abbrev pub row_by : Bool → ℕ → ℕ → Words → Result Row
-row_by rated m f w = unless (takes rated w.kind) unknown_kind f (row_of m f w)
+row_by rated m f w = unless (takes rated w.kind) UnknownKind f (row_of m f w)
 
 -- A test of a register's beat and source, which every other row passes.
 abbrev pub on_register : (ℕ → ℕ → Bool) → Row → Bool

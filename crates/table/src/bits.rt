@@ -4,7 +4,7 @@ ghost use Rattle.table.specs.Bits.{bits, to_bits, from_bits, byte_count};
 ghost use Rattle.table.specs.Places.{taking_parts, take_at_bit, last_place, longest_record};
 ghost use Rattle.table.specs.Private.Laid.{window, whole, nine, nine_byte, Put};
 
-use super::{Cursor, Taking};
+use super::Cursor;
 
 // The bits of the count of flows and of a row's kind, and the place of the first row.
 pub(crate) const COUNT_WIDTH: u32 = 8;
@@ -27,10 +27,8 @@ fn joined(s: &[u8], i: usize, n: usize) -> u64
     ensures { result ≡ from_bits (bits (take n (drop i s.now))) }
 {
     let mut x: u64 = 0;
-    let mut k: usize = 0;
-    while k < n {
-        x = join(x, s[i + k] as u64);
-        k += 1;
+    for byte in &s[i..i + n] {
+        x = join(x, u64::from(*byte));
     }
     x
 }
@@ -95,10 +93,8 @@ fn store(out: &mut [u8], i: usize, n: usize, x: u64, y: u8)
     requires { (n ≤ 9) × (i + n ≤ length out.old) }
     ensures { out.new ≡ take i out.old ++ (take n (nine (x * 256 + y)) ++ drop (i + n) out.old) }
 {
-    let mut k: usize = 0;
-    while k < n {
+    for k in 0..n {
         out[i + k] = byte_of(x, y, k);
-        k += 1;
     }
 }
 
@@ -117,36 +113,36 @@ impl Cursor {
     }
 
     // The next width bits of s as a number, with the place after them.
-    pub fn take(self, s: &[u8], width: u32) -> Taking
+    pub fn take(self, s: &[u8], width: u32) -> Option<(u32, Cursor)>
         ensures { taking_parts result ≡ take_at_bit (bits s.now) self.at width }
     {
         let at = self.at;
         let w = width as usize;
         if Cursor::LAST < at {
-            return Taking::Short;
+            return None;
         }
         if 32 < w {
-            return Taking::Short;
+            return None;
         }
         if s.len() < byte_count(at + w) {
-            return Taking::Short;
+            return None;
         }
-        Taking::Got(number_at(s, at, w) as u32, Cursor { at: at + w })
+        Some((number_at(s, at, w) as u32, Cursor { at: at + w }))
     }
 
-    // Puts a number of w bits into the first size bytes of out, and hands back the place after it.
-    pub(crate) fn put(self, out: &mut [u8], size: usize, w: usize, v: u64) -> Cursor
-        requires { (self.at ≤ last_place) × (1 ≤ w) × (w ≤ longest_record) × (v < 2 ^ w) × (self.at + w ≤ 8 * size) × (size ≤ length out.old) }
-        ensures { (result.at ≡ self.at + w) × Put size self.at (to_bits w v) out.old out.new }
+    // Puts a number of w bits, and hands back the place after it.
+    pub(crate) fn put(self, out: &mut [u8], w: usize, v: u64) -> Cursor
+        requires { (self.at ≤ last_place) × (1 ≤ w) × (w ≤ longest_record) × (v < 2 ^ w) × (self.at + w ≤ 8 * length out.old) }
+        ensures { (result.at ≡ self.at + w) × Put (length out.old) self.at (to_bits w v) out.old out.new }
     {
         // The bits before the place and the number as nine bytes: eight in x, the last in y.
         let at = self.at;
         let i = at / 8;
-        let before = (out[i] as u64) >> (8 - at % 8);
+        let before = u64::from(out[i]) >> (8 - at % 8);
         let field = v << (64 - w);
         let x = ((before << 1) << (63 - at % 8)) | (field >> (at % 8));
         let y = ((field << (8 - at % 8)) % 256) as u8;
-        if i + 9 <= size {
+        if i + 9 <= out.len() {
             store(out, i, 9, x, y);
         } else {
             store(out, i, byte_count(at + w) - i, x, y);

@@ -1,17 +1,9 @@
-// The reader that holds the packed bytes and a bit place. Its functions take it apart and work on the slice and the place.
+// The reader that holds the packed bytes and a bit place.
 ghost use Rattle.std.specs.Prelude.{◌≡◌};
 ghost use Rattle.table.specs.Bits.{bits};
 ghost use Rattle.table.specs.Places.{taking_parts, take_at_bit};
 
-use super::{Cursor, Reader, Taking};
-
-// The width bits of s at a place.
-fn take_at(s: &[u8], at: usize, width: u32) -> Taking
-    ensures { taking_parts result ≡ take_at_bit (bits s.now) at width }
-{
-    let cursor = Cursor { at };
-    cursor.take(s, width)
-}
+use super::{Cursor, Reader};
 
 impl<'a> Reader<'a> {
     // A reader at the first bit.
@@ -22,15 +14,15 @@ impl<'a> Reader<'a> {
     }
 
     // The next width bits, with the place after them.
-    pub fn take(self, width: u32) -> Taking
+    pub fn take(self, width: u32) -> Option<(u32, Cursor)>
         ensures { taking_parts result ≡ take_at_bit (bits self.entry.src.now) self.entry.at width }
     {
-        take_at(self.src, self.at, width)
+        Cursor { at: self.at }.take(self.src, width)
     }
 }
 
 // The first width bits of s, by a reader.
-pub(crate) fn first_field(s: &[u8], width: u32) -> Taking
+pub(crate) fn first_field(s: &[u8], width: u32) -> Option<(u32, Cursor)>
     ensures { taking_parts result ≡ take_at_bit (bits s.now) 0 width }
 {
     Reader::new(s).take(width)

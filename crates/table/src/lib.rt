@@ -5,15 +5,19 @@ ghost use Rattle.std.specs.Prelude.{◌≡◌, get_or, length};
 ghost use Rattle.table.specs.Answers.{numbered, parts, success};
 ghost use Rattle.table.specs.Plain.{row_words, words_of, plain_answer, draft_answer, put_row, copied};
 ghost use Rattle.table.specs.Links.{flow_fields};
-ghost use Rattle.table.specs.Private.Codes.{told};
 ghost use Rattle.table.specs.Packed.{read_answer, words_after, write_answer, bytes_after};
 
 mod rows; // rows.rt: the fields of a row, and its tests
 mod bits; // bits.rt: fields taken and put at a bit place
 mod held; // held.rt: a reader that holds the packed bytes and a place
 mod plain; // plain.rt: the test of a table in plain form
+pub mod refusal; // refusal.rt: why a plan comes back
 mod unpack; // unpack.rt: reading the packed form
 mod pack; // pack.rt: writing the packed form
+
+pub use refusal::{Refusal, Refused};
+use rows::Fields;
+use std::fmt;
 
 // What a call answers: number 0 is success. A row is given in the flow part; parts that are not named are 0.
 #[derive(Clone, Copy)]
@@ -50,11 +54,15 @@ impl Answer {
     }
 }
 
-// What reading answers: a table of so many flows, or a refusal and the row that it names.
-#[derive(Clone, Copy)]
-pub enum Reading {
-    Table { count: u32 },
-    Refused { number: u32, row: u32 },
+// The four parts, a blank between them.
+impl fmt::Display for Answer {
+    fn fmt<W: fmt::Write>(&self, f: &mut fmt::Formatter<W>) -> fmt::Result {
+        write!(
+            f,
+            "{} {} {} {}",
+            self.number, self.flow, self.tick, self.count
+        )
+    }
 }
 
 // A bit place in packed bytes.
@@ -68,13 +76,6 @@ pub struct Cursor {
 pub struct Reader<'a> {
     pub src: &'a [u8],
     pub at: usize,
-}
-
-// A field with the place after it, or too few bits.
-#[derive(Clone, Copy)]
-pub enum Taking {
-    Got(u32, Cursor),
-    Short,
 }
 
 // The four words of a row.
@@ -94,27 +95,6 @@ pub struct FlowFields {
     pub three: bool,
 }
 
-// What the test of a table in plain form finds: how many bytes it takes in packed form, or a refusal and the row that it names.
-#[derive(Clone, Copy)]
-pub enum Survey {
-    Fits(usize),
-    Refused(u32, u32),
-}
-
-// A row with the place after it, or the number of a refusal.
-#[derive(Clone, Copy)]
-pub enum Step {
-    Row(Record, Cursor),
-    Refused(u32),
-}
-
-// The place after the last row, or the number of the first refusal and its row.
-#[derive(Clone, Copy)]
-pub enum Scan {
-    End(Cursor),
-    Stopped(u32, u32),
-}
-
 // How many kinds of rows there are, the kind of an input with no rate written, the first of the views, how many words a row has, and how many
 // flows a table has at most.
 pub const KINDS: u32 = 19;
@@ -130,53 +110,6 @@ pub const MAX_FLOWS: u32 = 64;
 // The words of the most flows.
 const WORDS: usize = ROW_SIZE * (MAX_FLOWS as usize);
 
-// The numbers of the refusals.
-pub const NO_ROOM: u32 = 10;
-
-pub const BAD_COUNT: u32 = 11;
-
-pub const CUT_SHORT: u32 = 12;
-
-pub const UNKNOWN_KIND: u32 = 13;
-
-pub const OUT_OF_RANGE: u32 = 14;
-
-pub const MISPLACED: u32 = 15;
-
-pub const BAD_FILLING: u32 = 16;
-
-pub const CLOCKS_DIFFER: u32 = 21;
-
-pub const BEYOND_LIMITS: u32 = 22;
-
-pub const NOT_PLAIN: u32 = 23;
-
-pub const TOO_MANY_TICKS: u32 = 31;
-
-pub const WRONG_LOG: u32 = 32;
-
-pub const SHORT_TRACE: u32 = 33;
-
-pub const CLASH: u32 = 34;
-
-pub const SHORT_WINDOW: u32 = 35;
-
-pub const WRONG_TIMES: u32 = 36;
-
-pub const SHORT_PAGE: u32 = 37;
-
-pub const NOT_DIFFERING: u32 = 38;
-
-pub const UNJOINED: u32 = 39;
-
-pub const BAD_VIEW: u32 = 40;
-
-pub const HAS_CONDITIONS: u32 = 41;
-
-pub const WRONG_LENGTH: u32 = 42;
-
-pub const OFF_CALENDAR: u32 = 43;
-
 // The bytes of the longest packed table.
 pub const LONGEST_TABLE: usize = (Cursor::LAST + 7) / 8;
 
@@ -184,7 +117,7 @@ pub const LONGEST_TABLE: usize = (Cursor::LAST + 7) / 8;
 pub fn word_at(words: &[u32], i: usize) -> u32
     ensures { result ≡ get_or words.now i 0 }
 {
-    if i < words.len() { words[i] } else { 0 }
+    words.get(i).copied().unwrap_or(0)
 }
 
 // The words of a row, 0 past the end.
@@ -229,11 +162,11 @@ pub fn flow_fields(kind: u32) -> FlowFields
             three: false,
         };
     }
-    let fields = rows::FIELDS;
+    let fields = Fields::new();
     FlowFields {
-        one: rows::holds_flow(kind, 0, &fields),
-        two: rows::holds_flow(kind, 1, &fields),
-        three: rows::holds_flow(kind, 2, &fields),
+        one: fields.holds_flow(kind, 0),
+        two: fields.holds_flow(kind, 1),
+        three: fields.holds_flow(kind, 2),
     }
 }
 
@@ -247,80 +180,62 @@ pub fn copy(n: usize, from: &[u32], to: &mut [u32])
     if to.len() < n {
         return;
     }
-    let mut i: usize = 0;
-    while i < n {
-        to[i] = from[i];
-        i += 1;
-    }
-}
-
-// The answer that a survey of a table of count flows comes to.
-fn told(count: u32, found: Survey) -> Answer
-    ensures { result ≡ told count found }
-{
-    match found {
-        Survey::Fits(_) => Answer::success(count),
-        Survey::Refused(number, flow) => Answer::refusal(number, flow),
-    }
+    to[..n].copy_from_slice(&from[..n]);
 }
 
 // The test of a table in plain form: the count of flows, or the first refusal.
-pub fn examine(count: u32, words: &[u32]) -> Answer
-    ensures { result ≡ plain_answer count words.now }
+pub fn examine(count: u32, words: &[u32]) -> Result<u32, Refused>
+    ensures { parts result ≡ plain_answer count words.now }
 {
-    told(count, plain::survey(true, count, words))
+    plain::survey(true, count, words)?;
+    Ok(count)
 }
 
 // The same of a draft, whose inputs may be unrated.
-pub fn examine_draft(count: u32, words: &[u32]) -> Answer
-    ensures { result ≡ draft_answer count words.now }
+pub fn examine_draft(count: u32, words: &[u32]) -> Result<u32, Refused>
+    ensures { parts result ≡ draft_answer count words.now }
 {
-    told(count, plain::survey(false, count, words))
+    plain::survey(false, count, words)?;
+    Ok(count)
 }
 
 // Reads a packed table into plain form: the count of flows, and four words a flow from the first word on.
-pub fn read(packed: &[u8], words: &mut [u32]) -> Reading
+pub fn read(packed: &[u8], words: &mut [u32]) -> Result<u32, Refused>
     ensures answered { parts result ≡ read_answer packed.now (length words.old) }
     ensures stored { words.new ≡ words_after packed.now words.old }
 {
     let mut rows = [0u32; WORDS];
-    let found = unpack::unpack(packed, &mut rows);
-    let Reading::Table { count } = found else {
-        return found;
-    };
+    let count = unpack::unpack(packed, &mut rows)?;
     let size = ROW_SIZE * (count as usize);
     if words.len() < size {
-        return Reading::Refused {
-            number: NO_ROOM,
-            row: 0,
-        };
+        return Err(Refusal::NoRoom.at(0));
     }
     copy(size, &rows, words);
-    Reading::Table { count }
+    Ok(count)
 }
 
-// The four parts of what reading answers.
-pub fn parts(reading: Reading) -> Answer
-    ensures { result ≡ parts reading }
+// The four parts of what a call answers.
+pub fn parts(answered: Result<u32, Refused>) -> Answer
+    ensures { result ≡ parts answered }
 {
-    match reading {
-        Reading::Table { count } => Answer::success(count),
-        Reading::Refused { number, row } => Answer::refusal(number, row),
+    match answered {
+        Ok(count) => Answer::success(count),
+        Err(refused) => Answer {
+            tick: refused.tick,
+            ..Answer::refusal(refused.why.number(), refused.flow)
+        },
     }
 }
 
 // Writes a table in plain form as a packed table: the count of bytes, and the bytes from the first on.
-pub fn write(count: u32, words: &[u32], packed: &mut [u8]) -> Answer
-    ensures answered { result ≡ write_answer count words.now (length packed.old) }
+pub fn write(count: u32, words: &[u32], packed: &mut [u8]) -> Result<u32, Refused>
+    ensures answered { parts result ≡ write_answer count words.now (length packed.old) }
     ensures stored { packed.new ≡ bytes_after count words.now packed.old }
 {
-    let found = plain::survey(false, count, words);
-    let Survey::Fits(bytes) = found else {
-        return told(count, found);
-    };
+    let bytes = plain::survey(false, count, words)?;
     if packed.len() < bytes {
-        return Answer::refusal(NO_ROOM, 0);
+        return Err(Refusal::NoRoom.at(0));
     }
-    pack::put_table(count, words, packed, bytes);
-    Answer::success(bytes as u32)
+    pack::put_table(count, words, &mut packed[..bytes]);
+    Ok(bytes as u32)
 }

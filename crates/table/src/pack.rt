@@ -6,52 +6,41 @@ ghost use Rattle.table.specs.Bits.{to_bits, byte_count};
 ghost use Rattle.table.specs.Packed.{row_bits, rows_bits, count_width};
 ghost use Rattle.table.specs.Lengths.{row_length};
 ghost use Rattle.table.specs.Private.Laid.{Begun};
-ghost use Rattle.table.specs.Private.Codes.{kind_fields, mosts, widths, Ready};
+ghost use Rattle.table.specs.Private.Codes.{widths, Ready};
 
 use super::bits::COUNT_WIDTH;
-use super::rows::{FIELDS, LENGTH, MOST, WIDTH, field_of, length_of};
+use super::rows::Layout;
 use super::{Cursor, Record, record_at};
 
-// The bits of x that a field has behind high.
-fn behind(high: u64, x: u32, field: usize, most: &[u32], width: &[u32]) -> u64
-    requires { (field < 7) × (most.now ≡ mosts) × (width.now ≡ widths) × (high < 2 ^ (64 - get_or widths field 0)) }
-    ensures { result ≡ high * 2 ^ get_or widths field 0 + x % 2 ^ get_or widths field 0 }
-{
-    (high << width[field]) | ((x & most[field]) as u64)
+impl Layout {
+    // The bits of x that a field has behind high.
+    fn behind(&self, high: u64, x: u32, field: usize) -> u64
+        requires { (field < 7) × (high < 2 ^ (64 - get_or widths field 0)) }
+        ensures { result ≡ high * 2 ^ get_or widths field 0 + x % 2 ^ get_or widths field 0 }
+    {
+        (high << self.width[field]) | u64::from(x & self.most[field])
+    }
+
+    // The number that a packed row of a known kind is.
+    fn number_of(&self, r: Record) -> u64
+        requires { r.kind < kind_count }
+        ensures { (result < 2 ^ row_length r.kind) × (to_bits (row_length r.kind) result ≡ row_bits (words_of r)) }
+    {
+        let one = self.behind(u64::from(r.kind), r.one, self.fields.at(r.kind, 0));
+        let two = self.behind(one, r.two, self.fields.at(r.kind, 1));
+        self.behind(two, r.three, self.fields.at(r.kind, 2))
+    }
 }
 
-// The number that a packed row of a known kind is.
-fn number_of(r: Record, fields: &[u32], most: &[u32], width: &[u32]) -> u64
-    requires { (r.kind < kind_count) × (fields.now ≡ kind_fields) × (most.now ≡ mosts) × (width.now ≡ widths) }
-    ensures { (result < 2 ^ row_length r.kind) × (to_bits (row_length r.kind) result ≡ row_bits (words_of r)) }
+// The packed table of rows that are not refused, in as many bytes as it takes.
+pub(crate) fn put_table(count: u32, words: &[u32], out: &mut [u8])
+    requires { Ready count words.now × (length out.old ≡ byte_count (count_width + length (rows_bits (split count words.now)))) }
+    ensures { Begun (length out.old) (to_bits count_width count ++ rows_bits (split count words.now)) out.old out.new }
 {
-    let one = behind(
-        r.kind as u64,
-        r.one,
-        field_of(r.kind, 0, fields),
-        most,
-        width,
-    );
-    let two = behind(one, r.two, field_of(r.kind, 1, fields), most, width);
-    behind(two, r.three, field_of(r.kind, 2, fields), most, width)
-}
-
-// The packed table of rows that are not refused, in the first size bytes of out.
-pub(crate) fn put_table(count: u32, words: &[u32], out: &mut [u8], size: usize)
-    requires { Ready count words.now × (size ≡ byte_count (count_width + length (rows_bits (split count words.now)))) × (size ≤ length out.old) }
-    ensures { Begun size (to_bits count_width count ++ rows_bits (split count words.now)) out.old out.new }
-{
-    let fields = FIELDS;
-    let most = MOST;
-    let width = WIDTH;
-    let lengths = LENGTH;
-    let mut cursor = Cursor::new().put(out, size, COUNT_WIDTH as usize, count as u64);
-    let mut row: u32 = 0;
-    while row < count {
+    let layout = Layout::new();
+    let mut cursor = Cursor::new().put(out, COUNT_WIDTH as usize, u64::from(count));
+    for row in 0..count {
         let r = record_at(words, row);
-        let n = number_of(r, &fields, &most, &width);
-        let w = length_of(r.kind, &lengths);
-        cursor = cursor.put(out, size, w, n);
-        row += 1;
+        cursor = cursor.put(out, layout.length_of(r.kind), layout.number_of(r));
     }
 }

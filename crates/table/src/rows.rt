@@ -1,13 +1,12 @@
-// The rows of a table: the constant lists by field and by kind, and the tests of a row. A constant list is laid down anew wherever it is
-// named: so the loops over rows name each list once, before they begin, and lend it.
-ghost use Rattle.std.specs.Prelude.{◌≡◌, true, ◌<◌, get_or, length};
+// The rows of a table: the constant lists by field and by kind, and the tests of a row.
+ghost use Rattle.std.specs.Prelude.{◌≡◌, true, ◌<◌, get_or};
 ghost use Rattle.table.specs.Rows.{unused, each, kind_at, kind_count};
 ghost use Rattle.table.specs.Plain.{words_of};
 ghost use Rattle.table.specs.Links.{is_flow};
 ghost use Rattle.table.specs.Lengths.{row_length, record_lengths};
-ghost use Rattle.table.specs.Private.Codes.{code, field_list, kind_fields, leasts, bounded, barred_kind, Within, Known, Accepted, Fault};
+ghost use Rattle.table.specs.Private.Codes.{code, field_list, kind_fields, leasts, mosts, widths, bounded, barred_kind, Within, Known, Accepted, Fault};
 
-use super::{KINDS, MISPLACED, OUT_OF_RANGE, Record, UNKNOWN_KIND, UNRATED};
+use super::{KINDS, Record, Refusal, UNRATED};
 
 const OPERAND: u32 = 0;
 
@@ -24,17 +23,17 @@ const VALUE: u32 = 5;
 const UNUSED: u32 = 6;
 
 // By field: the least and the greatest number that it holds, and its bits in packed form.
-pub(crate) const LEAST: [u32; 7] = [0, 0, 1, 1, 0, 0, 0];
+const LEAST: [u32; 7] = [0, 0, 1, 1, 0, 0, 0];
 
-pub(crate) const MOST: [u32; 7] = [63, 63, 63, 4095, 4095, 4294967295, 0];
+const MOST: [u32; 7] = [63, 63, 63, 4095, 4095, 4294967295, 0];
 
-pub(crate) const WIDTH: [u32; 7] = [6, 6, 6, 12, 12, 32, 0];
+const WIDTH: [u32; 7] = [6, 6, 6, 12, 12, 32, 0];
 
 // By field: one more than its greatest number.
 pub(crate) const BOUND: [u64; 7] = [64, 64, 64, 4096, 4096, 4294967296, 1];
 
 // By kind: the bits of a row in packed form.
-pub(crate) const LENGTH: [u32; KINDS as usize] = [
+const LENGTH: [u32; KINDS as usize] = [
     29, // input
     61, // constant
     17, // add
@@ -57,7 +56,7 @@ pub(crate) const LENGTH: [u32; KINDS as usize] = [
 ];
 
 // By kind: its three fields as digits to base 8, the first one lowest.
-pub(crate) const FIELDS: [u32; KINDS as usize] = [
+const FIELDS: [u32; KINDS as usize] = [
     PERIOD + 8 * TICKS + 64 * UNUSED, // input
     VALUE + 8 * PERIOD + 64 * TICKS, // constant
     OPERAND + 8 * OPERAND + 64 * UNUSED, // add
@@ -79,52 +78,101 @@ pub(crate) const FIELDS: [u32; KINDS as usize] = [
     OPERAND + 8 * OPERAND + 64 * PERIOD, // when-not-seen
 ];
 
-// The bits of a row of a known kind in packed form.
-pub(crate) fn length_of(kind: u32, lengths: &[u32]) -> usize
-    requires { (kind < kind_count) × (lengths.now ≡ record_lengths) }
-    ensures { result ≡ row_length kind }
-{
-    lengths[kind as usize] as usize
+// The fields of each kind. A constant list is laid down anew wherever it is named: so these are apart from the other lists, which fewer need.
+#[derive(Drop)]
+pub(crate) struct Fields {
+    list: [u32; KINDS as usize],
+    ghost by_kind: { list ≡ kind_fields },
 }
 
-// The field of a known kind at a place.
-pub(crate) fn field_of(kind: u32, place: usize, fields: &[u32]) -> usize
-    requires { (kind < kind_count) × (place < 3) × (fields.now ≡ kind_fields) }
-    ensures { result ≡ code (get_or (field_list (kind_at kind)) place unused) }
-{
-    ((fields[kind as usize] >> (3 * place)) % 8) as usize
-}
-
-// Whether the field of a known kind at a place holds a flow's number.
-pub(crate) fn holds_flow(kind: u32, place: usize, fields: &[u32]) -> bool
-    requires { (kind < kind_count) × (place < 3) × (fields.now ≡ kind_fields) }
-    ensures { result ≡ is_flow (get_or (field_list (kind_at kind)) place unused) }
-{
-    field_of(kind, place, fields) <= (SOURCE as usize)
-}
-
-// Whether x is neither below a field's least number nor at its bound or above.
-fn within(x: u32, field: usize, least: &[u32], bound: &[u64]) -> bool
-    requires { (field < 7) × (least.now ≡ leasts) × (length bound.now ≡ 7) }
-    ensures { Within bound.now field x result }
-{
-    if x < least[field] {
-        return false;
+impl Fields {
+    pub(crate) fn new() -> Fields {
+        Fields { list: FIELDS }
     }
-    (x as u64) < bound[field]
+
+    // The field of a known kind at a place.
+    pub(crate) fn at(&self, kind: u32, place: usize) -> usize
+        requires { (kind < kind_count) × (place < 3) }
+        ensures { result ≡ code (get_or (field_list (kind_at kind)) place unused) }
+    {
+        ((self.list[kind as usize] >> (3 * place)) % 8) as usize
+    }
+
+    // Whether the field of a known kind at a place holds a flow's number.
+    pub(crate) fn holds_flow(&self, kind: u32, place: usize) -> bool
+        requires { (kind < kind_count) × (place < 3) }
+        ensures { result ≡ is_flow (get_or (field_list (kind_at kind)) place unused) }
+    {
+        self.at(kind, place) <= (SOURCE as usize)
+    }
 }
 
-// Whether each field of a row of a known kind is within its bounds.
-fn all_within(r: Record, fields: &[u32], least: &[u32], bound: &[u64]) -> bool
-    requires { (r.kind < kind_count) × (fields.now ≡ kind_fields) × (least.now ≡ leasts) × (length bound.now ≡ 7) }
-    ensures { result ≡ each (bounded bound.now) (kind_at r.kind) (words_of r) }
-{
-    if within(r.one, field_of(r.kind, 0, fields), least, bound) {
-        if within(r.two, field_of(r.kind, 1, fields), least, bound) {
-            return within(r.three, field_of(r.kind, 2, fields), least, bound);
+// All lists, for a loop over rows, which makes them once, before it begins.
+#[derive(Drop)]
+pub(crate) struct Layout {
+    pub(crate) fields: Fields,
+    pub(crate) least: [u32; 7],
+    pub(crate) most: [u32; 7],
+    pub(crate) width: [u32; 7],
+    lengths: [u32; KINDS as usize],
+    ghost by_length: { lengths ≡ record_lengths },
+    ghost by_least: { least ≡ leasts },
+    ghost by_most: { most ≡ mosts },
+    ghost by_width: { width ≡ widths },
+}
+
+impl Layout {
+    pub(crate) fn new() -> Layout {
+        Layout {
+            fields: Fields::new(),
+            least: LEAST,
+            most: MOST,
+            width: WIDTH,
+            lengths: LENGTH,
         }
     }
-    false
+
+    // The bits of a row of a known kind in packed form.
+    pub(crate) fn length_of(&self, kind: u32) -> usize
+        requires { kind < kind_count }
+        ensures { result ≡ row_length kind }
+    {
+        self.lengths[kind as usize] as usize
+    }
+
+    // Whether x is neither below a field's least number nor at its bound or above.
+    fn within(&self, x: u32, field: usize, bound: &[u64; 7]) -> bool
+        requires { field < 7 }
+        ensures { Within bound.now field x result }
+    {
+        if x < self.least[field] {
+            return false;
+        }
+        u64::from(x) < bound[field]
+    }
+
+    // Whether each field of a row of a known kind is within its bounds.
+    fn all_within(&self, r: Record, bound: &[u64; 7]) -> bool
+        requires { r.kind < kind_count }
+        ensures { result ≡ each (bounded bound.now) (kind_at r.kind) (words_of r) }
+    {
+        if self.within(r.one, self.fields.at(r.kind, 0), bound) {
+            if self.within(r.two, self.fields.at(r.kind, 1), bound) {
+                return self.within(r.three, self.fields.at(r.kind, 2), bound);
+            }
+        }
+        false
+    }
+
+    // Whether a row is accepted, by the bounds of the row and the count.
+    pub(crate) fn accepts(&self, barred: u32, r: Record, bound: &[u64; 7]) -> bool
+        ensures { Accepted barred bound.now (words_of r) result }
+    {
+        if !known(barred, r.kind) {
+            return false;
+        }
+        self.all_within(r, bound)
+    }
 }
 
 // The kind that is not known: where the rates are asked for, that of an unrated input; else one that there is not.
@@ -144,26 +192,15 @@ fn known(barred: u32, kind: u32) -> bool
     kind < KINDS
 }
 
-// Whether a row is accepted, by the bounds of the row and the count.
-pub(crate) fn accepts(barred: u32, r: Record, fields: &[u32], least: &[u32], bound: &[u64]) -> bool
-    requires { (fields.now ≡ kind_fields) × (least.now ≡ leasts) × (length bound.now ≡ 7) }
-    ensures { Accepted barred bound.now (words_of r) result }
-{
-    if !known(barred, r.kind) {
-        return false;
-    }
-    all_within(r, fields, least, bound)
-}
-
 // Why a row that is not accepted is refused.
-pub(crate) fn why(rated: bool, r: Record) -> u32
+pub(crate) fn why(rated: bool, r: Record) -> Refusal
     ensures { Fault rated (words_of r) result }
 {
     if !known(barred_kind(rated), r.kind) {
-        return UNKNOWN_KIND;
+        return Refusal::UnknownKind;
     }
-    if all_within(r, &FIELDS, &LEAST, &BOUND) {
-        return MISPLACED;
+    if Layout::new().all_within(r, &BOUND) {
+        return Refusal::Misplaced;
     }
-    OUT_OF_RANGE
+    Refusal::OutOfRange
 }

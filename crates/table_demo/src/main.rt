@@ -2,64 +2,43 @@
 // number, flow, tick, count, a colon, and the cells. Buffers hold 7 everywhere before a call.
 #![tactic(auto)]
 
-use std::io;
-use table::Answer;
+use std::{fmt, io};
+use table::Refused;
 
-fn wide(x: u32) -> u64 {
-    x as u64
-}
-
-fn wide_byte(x: u8) -> u64 {
-    x as u64
-}
-
-fn print_cell(rt: &impl Print, x: u64) -> io::Result<()> {
-    print!(rt; " {x}")
-}
-
-fn print_words(rt: &impl Print, words: &[u32]) -> io::Result<()> {
-    for x in words {
-        print_cell(rt, wide(*x))?;
+// Each cell, after a space.
+fn print_cells<T: fmt::Display>(rt: &impl Print, cells: &[T]) -> io::Result<()> {
+    for cell in cells {
+        print!(rt; " {cell}")?;
     }
     Ok(())
 }
 
-fn print_bytes(rt: &impl Print, bytes: &[u8]) -> io::Result<()> {
-    for x in bytes {
-        print_cell(rt, wide_byte(*x))?;
-    }
-    Ok(())
-}
-
-fn print_answer(rt: &impl Print, a: Answer) -> io::Result<()> {
-    print_cell(rt, wide(a.number))?;
-    print_cell(rt, wide(a.flow))?;
-    print_cell(rt, wide(a.tick))?;
-    print_cell(rt, wide(a.count))
+// What a call answers, and then the buffer.
+fn print_line<T: fmt::Display>(
+    rt: &impl Print,
+    call: &str,
+    answered: Result<u32, Refused>,
+    cells: &[T],
+) -> io::Result<()> {
+    let answer = table::parts(answered);
+    print!(rt; "{call} {answer} :")?;
+    print_cells(rt, cells)?;
+    println!(rt)
 }
 
 fn read(rt: &impl Print, packed: &[u8], words: &mut [u32]) -> io::Result<()> {
     let found = table::read(packed, words);
-    print!(rt; "read")?;
-    print_answer(rt, table::parts(found))?;
-    print!(rt; " :")?;
-    print_words(rt, words)?;
-    println!(rt)
+    print_line(rt, "read", found, words)
 }
 
 fn write(rt: &impl Print, count: u32, words: &[u32], packed: &mut [u8]) -> io::Result<()> {
-    let answer = table::write(count, words, packed);
-    print!(rt; "write")?;
-    print_answer(rt, answer)?;
-    print!(rt; " :")?;
-    print_bytes(rt, packed)?;
-    println!(rt)
+    let answered = table::write(count, words, packed);
+    print_line(rt, "write", answered, packed)
 }
 
 fn examine(rt: &impl Print, count: u32, words: &[u32]) -> io::Result<()> {
-    print!(rt; "examine")?;
-    print_answer(rt, table::examine(count, words))?;
-    println!(rt)
+    let answer = table::parts(table::examine(count, words));
+    println!(rt; "examine {answer}")
 }
 
 // A packed table, read into ten words.
@@ -143,7 +122,7 @@ fn write_refused(rt: &impl Print) -> io::Result<()> {
 // The first n bytes, and the table that they are.
 fn read_first(rt: &impl Print, packed: &[u8], n: usize, words: &mut [u32]) -> io::Result<()> {
     if n <= packed.len() {
-        print_bytes(rt, &packed[..n])?;
+        print_cells(rt, &packed[..n])?;
         println!(rt)?;
         read(rt, &packed[..n], words)?;
     }
@@ -158,10 +137,8 @@ fn there_and_back(
     packed: &mut [u8],
     back: &mut [u32],
 ) -> io::Result<()> {
-    let answer = table::write(count, words, packed);
-    print!(rt; "write")?;
-    print_answer(rt, answer)?;
-    print!(rt; " :")?;
+    let answer = table::parts(table::write(count, words, packed));
+    print!(rt; "write {answer} :")?;
     read_first(rt, packed, answer.count as usize, back)
 }
 

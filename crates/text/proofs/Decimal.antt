@@ -1,6 +1,6 @@
 -- Decimal digits. Assumes nothing.
 use mathlib.Core.Path.{◌≡◌, refl, sym, ◌∙◌, ap}
-use Prim.Native.Nat.{ℕ, zero, suc, ◌+◌, ◌/◌, ◌%◌, ◌^◌, ◌≤◌, ◌<◌}
+use Prim.Native.Nat.{ℕ, zero, suc, max, ◌+◌, ◌*◌, ◌/◌, ◌%◌, ◌^◌, ◌≤◌, ◌<◌}
 use native.Mathlib.Nat.{pow-suc}
 use native.Mathlib.Omega.{arith}
 use mathlib.Core.Bool.{Bool, true, false}
@@ -54,3 +54,14 @@ digits_fit (suc k) n h = go (ltb n 10) refl (digits_fit k (n / 10))
     go : (t : Bool) → ltb n 10 ≡ t → (n / 10 < 10 ^ suc k → length (decimal (n / 10)) ≤ suc k) → length (decimal n) ≤ suc (suc k)
     go true e r = omega (arith, one_digit n (ltb-true n 10 e))
     go false e r = omega (arith, r (omega (arith, pow-suc 10 (suc k))), one_more n (ltb-false n 10 e))
+
+-- as many as the logarithm and one, which is taken of 1 where the number is 0
+exactly : (k n : ℕ) → 10 ^ k ≤ n → n < 10 * 10 ^ k → length (decimal n) ≡ k + 1
+exactly zero n p q = one_digit n (omega arith)
+exactly (suc k) n p q =
+    let e : 10 ^ suc k ≡ 10 ^ k * 10 = pow-suc 10 k in
+    omega (arith, exactly k (n / 10) (omega arith) (omega arith), one_more n (omega arith))
+
+pub digits_by : (n k : ℕ) {m : ℕ} → m ≡ max n 1 → 10 ^ k ≤ m → m < 10 * 10 ^ k → k + 1 ≡ length (decimal n)
+digits_by zero k {m} e p q = omega (arith, exactly k 1 (omega arith) (omega arith), one_digit 0 (omega arith), one_digit 1 (omega arith))
+digits_by (suc n) k {m} e p q = omega (arith, exactly k (suc n) (omega arith) (omega arith))

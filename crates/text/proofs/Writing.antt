@@ -1,16 +1,17 @@
 -- Bytes written into a text one piece after the other. Assumes nothing.
 use mathlib.Core.Path.{◌≡◌, refl, sym, ◌∙◌, ap, ap₂}
-use Prim.Native.Nat.{ℕ, zero, suc, ◌+◌, ◌-◌, ◌≤◌, ◌<◌}
+use Prim.Native.Nat.{ℕ, zero, suc, ◌+◌, ◌-◌, ◌≤◌}
 use native.Mathlib.Nat.{zero-add, add-zero, sub-zero, zero-sub, suc-sub-suc, sub-eq-zero_of_le}
-use native.Mathlib.Numerals.{add-one}
 use native.Mathlib.Omega.{arith}
 use mathlib.Core.Bool.{Bool, true, false}
 use mathlib.Core.List.{List, [], ◌∷◌, ◌++◌, append_assoc}
-use lib.ListN.{length, take, drop, set, length-append, length-take, length-drop, take-append-drop}
-use lib.Seq.{set_split, length-take-le, take_all, take-nil, take_at, drop-append-add, drop-drop}
+use lib.ListN.{length, take, drop, length-append, length-take, length-drop, take-append-drop}
+use lib.Seq.{length-take-le, take_all, take-nil, take_at, drop-append-add, drop-drop}
 use lib.Dec.{leb}
 use borrow.Author.Tests.{leb-true, leb-false}
 use Rattle.text.specs.Text.{fitting, laid, Wrote}
+use Rattle.text.specs.declared.Writer.{Writer}
+use Rattle.text.specs.Writers.{Writes}
 
 -- ---- laid bytes
 
@@ -53,13 +54,13 @@ module _ {at : ℕ} {bytes old : List ℕ} (e : fitting at bytes old ≡ []) whe
   as_it_was : {next : ℕ} {new : List ℕ} → Wrote at bytes old next new → (next ≡ at) × (new ≡ old)
   as_it_was w = (w.place ∙ sym kept.place, w.text ∙ sym kept.text)
 
-pub nothing : (at : ℕ) (old : List ℕ) → Wrote at [] old at old
+nothing : (at : ℕ) (old : List ℕ) → Wrote at [] old at old
 nothing at old = kept (take-nil (length old - at))
 
 past : (at : ℕ) (bytes old : List ℕ) → length old ≤ at → fitting at bytes old ≡ []
 past at bytes old h = rw (sub-eq-zero_of_le h)
 
-pub full : (at : ℕ) (bytes old : List ℕ) → length old ≤ at → Wrote at bytes old at old
+full : (at : ℕ) (bytes old : List ℕ) → length old ≤ at → Wrote at bytes old at old
 full at bytes old h = kept (past at bytes old h)
 
 -- bytes that all have room
@@ -84,13 +85,8 @@ whole_text {next} {bytes} {old} {new} h w =
 pub no_further : {at next : ℕ} {bytes old new : List ℕ} → Wrote at bytes old next new → next ≤ at + length bytes
 no_further {at} {next} {bytes} {old} w = omega (arith, w.place, length-take (length old - at) bytes)
 
-pub one : (at byte : ℕ) (old : List ℕ) → at < length old → Wrote at (byte ∷ []) old (at + 1) (set old at byte)
-one at byte old h =
-    let e : fitting at (byte ∷ []) old ≡ byte ∷ [] = all_fit at (byte ∷ []) old (omega arith) in
-    record { place = rw e; text = rw (e, add-one at) (set_split old at byte h) }
-
 -- a piece after a piece
-pub both : {at next next' : ℕ} {xs ys old mid new : List ℕ} → Wrote at xs old next mid → Wrote next ys mid next' new → Wrote at (xs ++ ys) old next' new
+both : {at next next' : ℕ} {xs ys old mid new : List ℕ} → Wrote at xs old next mid → Wrote next ys mid next' new → Wrote at (xs ++ ys) old next' new
 both {at} {next} {next'} {xs} {ys} {old} {mid} {new} w v = go (leb at (length old)) refl
   where
     go : (b : Bool) → leb at (length old) ≡ b → Wrote at (xs ++ ys) old next' new
@@ -113,18 +109,14 @@ both {at} {next} {next'} {xs} {ys} {old} {mid} {new} w v = go (leb at (length ol
         let y = as_it_was (past next ys mid (omega (arith, x.0, ap length x.1))) v in
         rw (y.0, y.1, x.0, x.1) (full at (xs ++ ys) old h)
 
--- ---- a loop that writes the whole piece by piece
+-- ---- by a writer
 
--- what is left to write: once it is written, the whole is
-pub record Left (at : ℕ) (whole old rest : List ℕ) (next : ℕ) (new : List ℕ) : Type 0 where
-  pub once : (next' : ℕ) (new' : List ℕ) → Wrote next rest new next' new' → Wrote at whole old next' new'
+pub joined : {xs ys : List ℕ} {a b c : Writer} → Writes xs a b → Writes ys b c → Writes (xs ++ ys) a c
+joined p q = record { same_text = q.same_text ∙ p.same_text; wrote = both p.wrote q.wrote }
 
-pub begin : (at : ℕ) (whole old : List ℕ) → Left at whole old whole at old
-begin at whole old = record { once = λ n m w. w }
+-- by a writer that began a text
+pub begun : {bytes old : List ℕ} {a b : Writer} → a.at ≡ 0 → a.text.now ≡ old → Writes bytes a b → Wrote 0 bytes old b.at b.text.now
+begun e f w = rw (← e, ← f) w.wrote
 
-pub and_then : {at next next' : ℕ} {whole old xs rest new new' : List ℕ} → Left at whole old (xs ++ rest) next new → Wrote next xs new next' new'
-    → Left at whole old rest next' new'
-and_then l w = record { once = λ n m v. l.once n m (both w v) }
-
-pub finish : {at next : ℕ} {whole old new : List ℕ} → Left at whole old [] next new → Wrote at whole old next new
-finish {next = next} {new = new} l = l.once next new (nothing next new)
+pub none : (a : Writer) → Writes [] a a
+none a = record { same_text = refl; wrote = nothing a.at a.text.now }

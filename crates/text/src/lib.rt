@@ -1,61 +1,73 @@
-// Bytes and decimal numbers written into a text. A call writes as many bytes as there is room for, and answers the place after them.
+// Bytes and decimal numbers written into a text, as far as it has room.
 #![tactic(auto)]
 
-ghost use Rattle.std.specs.Prelude.{◌≡◌, [], ◌∷◌, ◌-◌, length, replicate};
-ghost use Rattle.text.specs.Text.{space, decimal, right, Wrote};
+ghost use Rattle.std.specs.Prelude.{◌≡◌, [], ◌∷◌, length};
+ghost use Rattle.text.specs.Text.{decimal, right};
+ghost use Rattle.text.specs.Writers.{Writes};
 
-// Writes a byte.
-pub fn put(text: &mut [u8], at: usize, byte: u8) -> usize
-    ensures { Wrote at (byte ∷ []) text.old result text.new }
-{
-    if at < text.len() {
-        text[at] = byte;
-        return at + 1;
-    }
-    at
-}
-
-// Writes a number in decimal.
-pub fn put_decimal(text: &mut [u8], at: usize, n: u32) -> usize
-    ensures { Wrote at (decimal n) text.old result text.new }
-{
-    if n < 10 {
-        return put(text, at, b'0' + (n as u8));
-    }
-    let next = put_decimal(text, at, n / 10);
-    put(text, next, b'0' + ((n % 10) as u8))
+// A text, and the place of the next byte.
+#[derive(Drop)]
+pub struct Writer<'a> {
+    pub text: &'a mut [u8],
+    pub at: usize,
 }
 
 // How many digits a number has.
 fn digits(n: u32) -> usize
     ensures { result ≡ length (decimal n) }
 {
-    let mut left = n;
-    let mut count: usize = 1;
-    while left >= 10 {
-        left = left / 10;
-        count += 1;
-    }
-    count
+    n.max(1).ilog10() as usize + 1
 }
 
-// Writes a blank for each character from one place of a column up to another.
-fn put_blanks(text: &mut [u8], at: usize, from: usize, to: usize) -> usize
-    ensures { Wrote at (replicate (to - from) space) text.old result text.new }
-{
-    let mut next = at;
-    let mut i = from;
-    while i < to {
-        next = put(text, next, b' ');
-        i += 1;
+impl<'a> Writer<'a> {
+    // A writer at the first place of a text.
+    pub fn new(text: &'a mut [u8]) -> Writer<'a>
+        ensures same_text { result.text.ghost_name ≡ text.entry.ghost_name }
+        ensures unchanged { result.text.now ≡ text.old }
+        ensures first { result.at ≡ 0 }
+    {
+        Writer { text, at: 0 }
     }
-    next
-}
 
-// Writes a number in decimal, right-aligned in a width.
-pub fn put_right(text: &mut [u8], at: usize, width: usize, n: u32) -> usize
-    ensures { Wrote at (right width n) text.old result text.new }
-{
-    let next = put_blanks(text, at, digits(n), width);
-    put_decimal(text, next, n)
+    // Writes a byte.
+    pub fn put(&mut self, byte: u8)
+        ensures { Writes (byte ∷ []) self.old self.new }
+    {
+        if self.at < self.text.len() {
+            self.text[self.at] = byte;
+            self.at += 1;
+        }
+    }
+
+    // Writes bytes.
+    pub fn put_bytes(&mut self, bytes: &[u8])
+        ensures { Writes bytes.now self.old self.new }
+    {
+        for byte in bytes {
+            self.put(*byte);
+        }
+    }
+
+    // Writes a number in decimal.
+    pub fn put_decimal(&mut self, n: u32)
+        ensures { Writes (decimal n) self.old self.new }
+    {
+        if n < 10 {
+            self.put(b'0' + (n as u8));
+            return;
+        }
+        self.put_decimal(n / 10);
+        self.put(b'0' + ((n % 10) as u8));
+    }
+
+    // Writes a number in decimal, right-aligned in a width.
+    pub fn put_right(&mut self, width: usize, n: u32)
+        ensures { Writes (right width n) self.old self.new }
+    {
+        let blanks = width.saturating_sub(digits(n));
+        'blanks: for _ in 0..blanks {
+            self.put(b' ');
+        }
+        self.put_decimal(n);
+    }
 }

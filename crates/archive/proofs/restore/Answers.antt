@@ -1,25 +1,16 @@
-use native.Mathlib.Omega.{arith}
-use Prim.Native.Nat.{ℕ}
-use lib.ListN.{length-replicate}
-use Rattle.table.specs.Rows.{max_flows}
-use Rattle.archive.proofs.Calls.{planned, restore_refused, plan_restored}
+use Rattle.std.proofs.lemmas.Result.{err_from_is_err_and}
+use Rattle.table.specs.Answers.{parts}
+use Rattle.archive.proofs.Calls.{restore_refused, plan_restored}
 use Rattle.archive.proofs.restore.Goals as goal
 
-pub returns-then-plan-ne0 : goal.returns-then-plan-ne0
-returns-then-plan-ne0 c =
+pub returns-in_err-plan : goal.returns-in_err-plan
+returns-in_err-plan c =
     let a = c.args in
-    restore_refused a.count a.words.now a.ticks c.prepare-plan.result c.prepare-plan.ensures.value c.if-plan-ne0.true a.stored.now a.marks.now a.values.now
-
-pub restore_by-requires : goal.restore_by-requires
-restore_by-requires c =
-    let a = c.args in
-    let h = planned a.count a.words.now a.ticks c.prepare-plan.result c.prepare-plan.ensures.value c.prepare-plan.ensures.opened c.if-plan-ne0.false in
-    (h.sound, omega (arith, h.few), h.size, omega (arith, c.prepare-plan.auto.places, length-replicate {A = ℕ} max_flows 0), h.placed)
+    let p = err_from_is_err_and c.from_residual.result c.from_residual.ensures.1 in
+    rw (p.1, p.2) (restore_refused c.in_err-plan.ensures a.stored.now a.marks.now a.values.now)
 
 pub returns : goal.returns
 returns c =
     let a = c.args in
-    let h = planned a.count a.words.now a.ticks c.prepare-plan.result c.prepare-plan.ensures.value c.prepare-plan.ensures.opened c.if-plan-ne0.false in
-    plan_restored h c.restore_by.result a.stored.now a.marks.now a.values.now
-    c.restore_by.new.marks c.restore_by.new.values
-    c.restore_by.ensures
+    let by = c.restore_by in
+    plan_restored c.in_ok-plan.ensures (parts by.result) a.stored.now a.marks.now a.values.now by.new.marks by.new.values by.ensures

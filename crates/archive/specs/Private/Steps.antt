@@ -1,6 +1,5 @@
 -- The clocks as the code holds them, what it carries from tick to tick, and what its loops do.
 use Rattle.std.specs.Prelude.{◌≡◌, ℕ, ◌+◌, ◌*◌, ◌≤◌, ◌<◌, Bool, true, false, cond, ◌⊎◌, List, length, get_or, eqb}
-use Rattle.table.specs.Answers.{Result, good, refused}
 use Rattle.table.specs.Rows.{max_flows}
 use Rattle.table.specs.Plain.{per_flow}
 use Rattle.checker.specs.Clocks.{Clock, every}
@@ -10,6 +9,7 @@ use Rattle.semantics.specs.Cells.{on_grid}
 use Rattle.calendar.specs.Calendar.{clock_word, cell_at}
 use Rattle.archive.specs.Columns.{points, cell_fits}
 use Rattle.archive.specs.Traces.{words_before}
+use Rattle.archive.specs.declared.plan.Next.{Next}
 
 -- flow f's period and phase in the words of the clocks
 abbrev pub period_in : List ℕ → ℕ → ℕ
@@ -45,23 +45,25 @@ next_in clocks t f = next_from (period_in clocks f) (phase_in clocks f) t
 abbrev pub place_in : ℕ → List ℕ → ℕ → ℕ → ℕ → ℕ
 place_in m clocks ticks t f = words_before (clocks_in m clocks) ticks f + points (period_in clocks f) (phase_in clocks f) t
 
--- a number for each flow, as it is at tick t
-pub record Carried (m : ℕ) (number : ℕ → ℕ → ℕ) (t : ℕ) (kept : List ℕ) : Type 0 where
-  pub each : (f : ℕ) → f < m → get_or kept f 0 ≡ number t f
+-- both together
+abbrev pub next_at : ℕ → List ℕ → ℕ → ℕ → ℕ → Next
+next_at m clocks ticks t f = record { tick = next_in clocks t f; place = place_in m clocks ticks t f }
 
--- clocks that were found are held, none of them with conditions, and so is the place of each flow's first word
-abbrev pub Opened : ℕ → ℕ → Result (List Clock) → List ℕ → List ℕ → Type 0
-Opened m ticks (good ks) clocks places = Sound m clocks × (clocks_in m clocks ≡ ks) × Carried m (place_in m clocks ticks) 0 places
-Opened m ticks (refused why f) clocks places = Unit {0}
+-- what is read where nothing is kept
+abbrev pub none : Next
+none = record { tick = 0; place = 0 }
+
+-- flow f's next due tick and the place of its word, moved on to the first due tick that is not below the end
+abbrev pub moved_to : ℕ → Next → ℕ → Next
+moved_to n from end = record { tick = point n from.tick (points n from.tick end); place = from.place + points n from.tick end }
+
+-- what is kept for each flow, as it is at tick t
+pub record Carried {A : Type 0} (d : A) (m : ℕ) (of : ℕ → ℕ → A) (t : ℕ) (kept : List A) : Type 0 where
+  pub each : (f : ℕ) → f < m → get_or kept f d ≡ of t f
 
 -- flow f's cell of tick t is as its clock says
 abbrev pub fits_at : ℕ → List ℕ → List ℕ → List ℕ → ℕ → ℕ → Bool
 fits_at m clocks marks values t f = cell_fits (on_grid (period_in clocks f) (phase_in clocks f) t) (cell_at m marks t f) (cell_at m values t f)
-
--- periods that are not too long to be added to a tick
-pub record Short (m : ℕ) (periods : List ℕ) : Type 0 where
-  pub room : m ≤ length periods
-  pub short : (f : ℕ) → f < m → get_or periods f 0 ≤ max_derived
 
 -- its cell of tick t is as its next due tick says, and where that has come it moves on
 abbrev pub cell_told : ℕ → ℕ → List ℕ → List ℕ → List ℕ → ℕ → Bool

@@ -1,12 +1,14 @@
 use mathlib.Core.Path.{◌≡◌}
-use Prim.Native.Nat.{◌≤◌, ◌-◌}
-use lib.ListN.{length}
+use Prim.Native.Nat.{◌*◌}
+use lib.ListN.{length, take}
+use Rattle.std.specs.Prelude.{flat_map}
 use Rattle.table.specs.Answers.{over}
-use Rattle.checker.specs.Private.Kept.{all_given}
+use Rattle.checker.specs.Answers.{clock_size}
+use Rattle.checker.specs.Private.Kept.{given}
 use Rattle.checker.proofs.give_all.Given as goal
 
 abbrev pub invariant-loop-f : goal.invariant-loop-f
-invariant-loop-f l = (l.f ≤ l.n) × (length l.clocks ≡ length l.initial.clocks) × (l.clocks ≡ over (all_given l.f l.kept) l.initial.clocks)
-
-abbrev pub decreases-loop-f : goal.decreases-loop-f
-decreases-loop-f l = l.n - l.f
+invariant-loop-f l = record {
+  size : length (flat_map given (take l.f l.kept)) ≡ clock_size * l.f;
+  held : l.clocks ≡ over (flat_map given (take l.f l.kept)) l.initial.clocks;
+}

@@ -1,6 +1,7 @@
 use Prim.Native.Nat.{ℕ, ◌*◌, ◌≤◌}
 use native.Mathlib.Omega.{arith}
 use lib.ListN.{length, replicate, length-replicate}
+use Rattle.std.proofs.lemmas.Result.{err_from_is_err_and}
 use Rattle.table.specs.Rows.{max_flows}
 use Rattle.checker.specs.Answers.{clock_size}
 use Rattle.influence.proofs.Calls.{handed_on, few, no_room_lem, sets_for, done}
@@ -10,34 +11,34 @@ use Rattle.influence.proofs.felt.Goals as goal
 wide : clock_size * max_flows ≤ length (replicate {A = ℕ} (clock_size * max_flows) 0)
 wide = omega (arith, length-replicate {A = ℕ} (clock_size * max_flows) 0)
 
-pub returns-then-found-ne0 : goal.returns-then-found-ne0
-returns-then-found-ne0 c =
+pub returns-in_err-check : goal.returns-in_err-check
+returns-in_err-check c =
     let a = c.args in
-    let both = handed_on a.count a.words.now _ wide c.check-found.ensures.answered c.if-found-ne0.true a.sets.now in
-    record { answered = both.0; stored = both.1 }
+    let p = err_from_is_err_and c.from_residual.result c.from_residual.ensures.1 in
+    let both = handed_on a.count a.words.now _ wide c.in_err-check.field-0.0 c.in_err-check.ensures.answered a.sets.now in
+    record { answered = rw (p.1, p.2) both.0; stored = both.1 }
 
-pub returns-then-reached-ne0 : goal.returns-then-reached-ne0
-returns-then-reached-ne0 c =
+pub returns-in_err-reached : goal.returns-in_err-reached
+returns-in_err-reached c =
     let a = c.args in
-    let k = c.reach-reached in
-    let both = no_room_lem a.count a.words.now _ wide c.check-found.ensures.answered c.if-found-ne0.false a.sets.now k.new.sets k.ensures.answered k.ensures.stored c.if-reached-ne0.true in
-    record { answered = both.0; stored = both.1 }
+    let k = c.in_err-reached in
+    let p = err_from_is_err_and c.from_residual-in_err-reached.result c.from_residual-in_err-reached.ensures.1 in
+    let both = no_room_lem a.count a.words.now _ wide c.in_ok-check.ensures.answered a.sets.now _ k.field-0.0 k.ensures.answered k.ensures.stored in
+    record { answered = rw (p.1, p.2) both.0; stored = both.1 }
 
 pub inputs-requires : goal.inputs-requires
-inputs-requires c =
-    let a = c.args in
-    few a.count a.words.now _ wide c.check-found.ensures.answered c.if-found-ne0.false
+inputs-requires c = few c.args.count c.args.words.now _ wide c.in_ok-check.ensures.answered
 
 pub keep-requires : goal.keep-requires
 keep-requires c =
     let a = c.args in
-    let k = c.reach-reached in
-    sets_for a.count a.words.now _ wide c.check-found.ensures.answered c.if-found-ne0.false a.sets.now k.new.sets k.ensures.answered k.ensures.stored c.if-reached-ne0.false
+    let k = c.in_ok-reached in
+    sets_for a.count a.words.now _ wide c.in_ok-check.ensures.answered a.sets.now _ k.ensures.answered k.ensures.stored
 
 pub returns : goal.returns
 returns c =
     let a = c.args in
-    let k = c.reach-reached in
-    let both = done a.count a.words.now _ wide c.check-found.ensures.answered c.if-found-ne0.false a.sets.now k.new.sets k.ensures.answered k.ensures.stored c.if-reached-ne0.false
-    c.inputs.result c.keep.new.sets c.inputs.ensures c.keep.ensures in
+    let k = c.in_ok-reached in
+    let both = done a.count a.words.now _ wide c.in_ok-check.ensures.answered a.sets.now _ k.ensures.answered k.ensures.stored c.inputs.result c.keep.new.sets
+    c.inputs.ensures c.keep.ensures in
     record { answered = both.0; stored = both.1 }

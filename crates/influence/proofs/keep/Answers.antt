@@ -1,25 +1,22 @@
+use mathlib.Core.Path.{refl}
 use native.Mathlib.Omega.{arith}
-use borrow.Author.Rules.{rules}
-use Rattle.influence.proofs.Masking.{masking_none, masking_more, masked_all}
+use Rattle.std.proofs.lemmas.List.{length-take-le}
+use Rattle.table.specs.Plain.{per_flow}
+use Rattle.influence.proofs.Masking.{masking_more, masked_all}
 use Rattle.influence.proofs.keep.Goals as goal
 
-pub loop-f-init : goal.loop-f-init
-loop-f-init c = masking_none _ _ _
+pub loop-set-init : goal.loop-set-init
+unfolding per_flow
+loop-set-init c = refl
 
-pub bounds-sets-f : goal.bounds-sets-f
-bounds-sets-f c = omega (arith, c.loop-f.invariant.size)
-
-pub bounds-sets-f-in-loop-f : goal.bounds-sets-f-in-loop-f
-bounds-sets-f-in-loop-f c = omega (arith, c.loop-f.invariant.size)
-
-pub loop-f-preserved : goal.loop-f-preserved
-loop-f-preserved c =
-    let l = c.loop-f in
-    masking_more _ _ _ l.f l.sets c.requires (search rules) l.invariant
-
-pub shape_of-sets : goal.shape_of-sets
-shape_of-sets c = c.loop-f.invariant.size
+pub loop-set-preserved : goal.loop-set-preserved
+loop-set-preserved c =
+    let a = c.args in
+    let l = c.loop-set in
+    masking_more a.n a.kept a.sets.now l.set-index l.set-items c.requires (omega (arith, length-take-le a.n a.sets.now c.requires)) l.invariant
 
 pub returns : goal.returns
 returns c =
-    let l = c.loop-f in masked_all _ _ _ l.f l.sets (search rules) l.invariant
+    let a = c.args in
+    let l = c.loop-set in
+    masked_all a.n a.kept a.sets.now l.set-index l.set-items c.requires (omega (arith, length-take-le a.n a.sets.now c.requires)) l.invariant

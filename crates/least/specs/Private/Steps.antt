@@ -1,35 +1,35 @@
 -- The steps of the search.
-use Rattle.std.specs.Prelude.{◌≡◌, ℕ, ◌<◌, Bool, cond, List, get_or}
-use Rattle.table.specs.Answers.{Refusal, good, refused, number}
+use Rattle.std.specs.Prelude.{◌≡◌, ℕ, ◌+◌, ◌≤◌, Bool, cond, List, Option, MatchOption}
+use Rattle.table.specs.declared.refusal.Refused.{Refused}
+use Rattle.table.specs.Answers.{good, refused, named}
+use Rattle.table.specs.Rows.{max_flows}
+use Rattle.table.specs.Plain.{joined, table_of, rows_in}
 use Rattle.reach.specs.Sets.{set_of, has}
 use Rattle.reach.specs.Reach.{closure}
-use Rattle.least.specs.declared.Choice.{Choice}
-use Rattle.least.specs.declared.Sought.{Sought}
-use Rattle.least.specs.declared.Sought.TheVariants.{Part, Refused}
-use Rattle.least.specs.Parts.{below}
-use Rattle.least.specs.Answers.{Best, least_set, seeking}
+use Rattle.least.specs.Parts.{below, part_rows}
+use Rattle.least.specs.Answers.{differing, drawn_count, Best, best, least_set, seeking}
 
 -- a field with its number in the set where it is a flow
 abbrev pub moved : ℕ → Bool → ℕ → ℕ
 moved set on x = cond on (below (has set) x) x
 
-abbrev pub shown : Choice → Best
-shown c = record { flow = c.flow; count = c.count }
+-- the check answers the part of these flows with 21
+abbrev pub part_differing : ℕ → List ℕ → ℕ → Bool
+part_differing m words x = differing (below (has x) m) (joined (part_rows m words (has x)))
 
--- the closures of n flows, as numbers
-abbrev pub Closed : List ℕ → ℕ → List ℕ → Type 0
-Closed words n sets = (f : ℕ) → f < n → get_or sets f 0 ≡ set_of (closure n words f) n
+-- the closure of the best of the flows below f as a number, where there is one
+abbrev pub Chosen : ℕ → List ℕ → ℕ → Option ℕ → Type 0
+Chosen m words f o =
+    let b : Best = best m words f in
+    MatchOption o (b.count ≡ max_flows + 1) (λ x. (x ≡ set_of (closure m words b.flow) m) × (b.count ≡ drawn_count m words b.flow))
 
--- the set of the least part's flows, or the refusal by its number
-pub record Refusing (m : ℕ) (words : List ℕ) (n f : ℕ) : Type 0 where
-  pub why : Refusal
-  pub is : n ≡ number why
-  pub comes : seeking m words ≡ refused why f
-
+-- the set of the least part's flows, or the refusal
 pub record Giving (m : ℕ) (words : List ℕ) (set : ℕ) : Type 0 where
+  pub table : table_of m words ≡ good (rows_in (table_of m words))
+  pub few : m ≤ max_flows
   pub comes : seeking m words ≡ good (least_set m words)
   pub is : set ≡ set_of (least_set m words) m
 
-abbrev pub Found : ℕ → List ℕ → Sought → Type 0
-Found m words (Part set) = Giving m words set
-Found m words (Refused n f) = Refusing m words n f
+pub record Refusing (m : ℕ) (words : List ℕ) (r : Refused) : Type 0 where
+  pub comes : seeking m words ≡ refused r.why r.flow
+  pub is : r ≡ named r.why r.flow

@@ -1,9 +1,9 @@
-use Rattle.text.proofs.Writing.{both}
+use Rattle.text.proofs.Writing.{joined}
 use Rattle.lister.specs.Private.Words.{word_text}
 use Rattle.lister.proofs.put_condition.Goals as goal
 
 pub returns : goal.returns
 unfolding word_text
 returns c =
-    let w = both c.put-next.ensures (both c.put_decimal-last.ensures (both c.put-signed.ensures c.put_view.ensures)) in
+    let w = joined c.put.ensures (joined c.put_decimal.ensures (joined c.put-2.ensures c.put_view.ensures)) in
     rw (← c.sign.ensures) w

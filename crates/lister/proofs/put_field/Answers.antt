@@ -1,5 +1,6 @@
-use Rattle.text.proofs.Writing.{both}
+use borrow.Author.Rules.{rules}
+use Rattle.text.proofs.Writing.{joined}
 use Rattle.lister.proofs.put_field.Goals as goal
 
 pub returns : goal.returns
-returns c = both c.put_decimal-next.ensures c.put.ensures
+returns c = search (rules, joined)

@@ -1,12 +1,11 @@
-use Prim.Native.Nat.{◌*◌}
-use Rattle.text.proofs.Writing.{both}
-use Rattle.checker.specs.Answers.{clock_size}
-use Rattle.lister.proofs.Lines.{clock_by}
+use Rattle.std.proofs.lemmas.List.{take_rest}
+use Rattle.text.proofs.Writing.{joined}
+use Rattle.lister.specs.Private.Words.{clock_text}
 use Rattle.lister.proofs.put_line.Goals as goal
 
 pub returns : goal.returns
+unfolding clock_text
 returns c =
-    let a = c.args in
-    let by-words = clock_by a.f (clock_size * a.f) a.words.now c.word_at-period.ensures c.word_at-phase.ensures c.word_at-n.ensures in
-    let last = both c.put_conditions-last.ensures c.put.ensures in
-    rw by-words (both c.put_field-first.ensures (both c.put_field-second.ensures (both c.put_field-third.ensures last)))
+    let conditions = rw (take_rest c.args.clock.now 3) at c.put_conditions.ensures in
+    rw (← c.word_at-period.ensures, ← c.word_at-phase.ensures, ← c.word_at-n.ensures)
+    (joined c.put_field.ensures (joined c.put_field-2.ensures (joined c.put_field-3.ensures (joined conditions c.put.ensures))))

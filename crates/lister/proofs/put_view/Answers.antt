@@ -1,12 +1,12 @@
 use borrow.Author.Tests.{eq-eqb, ne_eqb}
-use Rattle.text.proofs.Writing.{nothing, both}
+use Rattle.text.proofs.Writing.{none, joined}
 use Rattle.lister.specs.Listing.{view_text}
 use Rattle.lister.proofs.put_view.Goals as goal
 
-pub returns-then-view-eq0 : goal.returns-then-view-eq0
+pub returns-then-view-ne0 : goal.returns-then-view-ne0
 unfolding view_text
-returns-then-view-eq0 c = rw (eq-eqb c.args.view 0 c.if-view-eq0.true) (nothing _ _)
+returns-then-view-ne0 c = rw (ne_eqb c.args.view 0 c.if-view-ne0.true) (joined c.put.ensures c.put_decimal.ensures)
 
-pub returns : goal.returns
+pub returns-else-view-ne0 : goal.returns-else-view-ne0
 unfolding view_text
-returns c = rw (ne_eqb c.args.view 0 c.if-view-eq0.false) (both c.put-next.ensures c.put_decimal.ensures)
+returns-else-view-ne0 c = rw (eq-eqb c.args.view 0 c.if-view-ne0.false) (none _)

@@ -1,5 +1,5 @@
 -- The lines of clocks by their words: what the functions below the listing promise.
-use Rattle.std.specs.Prelude.{ℕ, zero, suc, ◌/◌, ◌%◌, cond, List, [], ◌∷◌, ◌++◌, get_or, drop, eqb}
+use Rattle.std.specs.Prelude.{ℕ, zero, suc, ◌+◌, ◌/◌, ◌%◌, cond, List, [], ◌∷◌, ◌++◌, get_or, drop, eqb}
 use Rattle.text.specs.Text.{line_feed, decimal}
 use Rattle.checker.specs.Rules.{max_conditions}
 use Rattle.checker.specs.Answers.{clock_size}
@@ -12,7 +12,7 @@ word_text w v = letter_c ∷ (decimal (w / 2) ++ (sign (eqb (w % 2) 1) ∷ view_
 -- n conditions; the view periods stand behind the words of the most conditions
 unfoldable pub words_text : ℕ → List ℕ → List ℕ
 words_text zero ws = []
-words_text (suc n) ws = word_text (get_or ws 0 0) (get_or ws max_conditions 0) ++ words_text n (drop 1 ws)
+words_text (suc n) ws = words_text n ws ++ word_text (get_or ws n 0) (get_or ws (n + max_conditions) 0)
 
 unfoldable pub counted_text : ℕ → List ℕ → List ℕ
 counted_text n ws = cond (eqb n 0) (minus ∷ []) (words_text n ws)

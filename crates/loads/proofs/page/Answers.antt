@@ -1,12 +1,17 @@
-use mathlib.Core.Path.{◌≡◌, ◌∙◌}
-use Prim.Native.Nat.{ℕ, ◌*◌}
+use mathlib.Core.Path.{◌≡◌, refl}
+use Prim.Native.Nat.{ℕ, ◌*◌, ◌≤◌}
 use native.Mathlib.Omega.{arith}
 use mathlib.Core.List.{List}
-use lib.ListN.{length, replicate, length-replicate}
+use lib.ListN.{length, get_or, replicate, length-replicate}
+use mir.Val.{Fits}
+use mir.Syntax.{w16}
+use Rattle.std.proofs.lemmas.Result.{err_from_is_err_and}
 use Rattle.table.specs.declared.Answer.{Answer}
 use Rattle.table.specs.Rows.{max_flows}
+use Rattle.table.proofs.AnswerLaws.{no_zero}
 use Rattle.checker.specs.Answers.{clock_size, check_answer, clocks_after}
 use Rattle.checker.proofs.Bounds.{Told}
+use Rattle.loads.specs.Loads.{max_time}
 use Rattle.loads.proofs.Pages.{handed_on, few, wrong_times_lem, short, done}
 use Rattle.loads.proofs.page.Goals as goal
 
@@ -19,51 +24,51 @@ told : (m : ℕ) (words : List ℕ) {clocks : List ℕ} {found : Answer} → fou
     → Told m words zeros clocks found
 told m words e l = record { room = omega (arith, length-replicate {A = ℕ} (clock_size * max_flows) 0); answered = e; stored = l }
 
-pub returns-then-found-ne0 : goal.returns-then-found-ne0
-returns-then-found-ne0 c =
+-- a worst time has 16 bits
+times_fit : (times : List ℕ) → ((f : ℕ) → Fits w16 (get_or times f 0)) → (f : ℕ) → get_or times f 0 ≤ max_time
+times_fit times h f = omega (arith, h f)
+
+pub returns-in_err-check : goal.returns-in_err-check
+returns-in_err-check c =
     let a = c.args in
-    let k = c.check-found in
-    let t = told a.count a.words.now k.ensures.answered k.ensures.stored in
-    let both = handed_on t a.times.now c.if-found-ne0.true a.page.now in
-    record { answered = both.0; stored = both.1 }
+    let b = c.in_err-check.field-0.0 in
+    let p = err_from_is_err_and c.from_residual.result c.from_residual.ensures.1 in
+    let k = c.in_err-check.ensures in
+    let both = handed_on (told a.count a.words.now k.answered k.stored) a.times.now (no_zero b.why) a.page.now in
+    record { answered = rw (p.1, p.2) both.0; stored = both.1 }
 
 pub returns-then-times-n : goal.returns-then-times-n
 returns-then-times-n c =
     let a = c.args in
-    let k = c.check-found in
-    let t = told a.count a.words.now k.ensures.answered k.ensures.stored in
-    let w = wrong_times_lem t a.times.now c.if-found-ne0.false c.if-times-n.true a.page.now in
-    record { answered = c.refusal.ensures ∙ w.0; stored = w.1 }
+    let k = c.in_ok-check.ensures in
+    let w = wrong_times_lem (told a.count a.words.now k.answered k.stored) a.times.now refl c.if-times-n.true a.page.now in
+    record { answered = rw c.at.ensures w.0; stored = w.1 }
 
 pub returns-then-page-n : goal.returns-then-page-n
 returns-then-page-n c =
     let a = c.args in
-    let k = c.check-found in
-    let t = told a.count a.words.now k.ensures.answered k.ensures.stored in
-    let w = short t a.times.now c.if-found-ne0.false c.if-times-n.false a.page.now c.if-page-n.true in
-    record { answered = c.refusal-then-page-n.ensures ∙ w.0; stored = w.1 }
+    let k = c.in_ok-check.ensures in
+    let w = short (told a.count a.words.now k.answered k.stored) a.times.now refl c.if-times-n.false a.page.now c.if-page-n.true in
+    record { answered = rw c.at-then-page-n.ensures w.0; stored = w.1 }
 
-pub put_page-size-requires : goal.put_page-size-requires
-put_page-size-requires c =
+pub invariant_of-flows : goal.invariant_of-flows
+invariant_of-flows c =
     let a = c.args in
-    let k = c.check-found in
-    let t = told a.count a.words.now k.ensures.answered k.ensures.stored in
-    few t a.times.now c.if-found-ne0.false
+    let k = c.in_ok-check.ensures in
+    record { few = few (told a.count a.words.now k.answered k.stored) a.times.now refl }
 
-pub overflow_cast-size : goal.overflow_cast-size
-overflow_cast-size c =
+pub overflow_cast-result : goal.overflow_cast-result
+overflow_cast-result c =
     let a = c.args in
-    let k = c.check-found in
-    let t = told a.count a.words.now k.ensures.answered k.ensures.stored in
-    let w = c.put_page-size.ensures in
-    let d = done t a.times.now c.if-found-ne0.false c.if-times-n.false c.if-page-n.false w.loaded w.wrote in
-    omega (arith, few t a.times.now c.if-found-ne0.false, d.0)
+    let k = c.in_ok-check.ensures in
+    let t = told a.count a.words.now k.answered k.stored in
+    let d = done t a.times.now refl c.if-times-n.false c.if-page-n.false (times_fit a.times.now c.type_inv.times) c.put_page.ensures in
+    omega (arith, few t a.times.now refl, d.0)
 
 pub returns : goal.returns
 returns c =
     let a = c.args in
-    let k = c.check-found in
-    let t = told a.count a.words.now k.ensures.answered k.ensures.stored in
-    let w = c.put_page-size.ensures in
-    let d = done t a.times.now c.if-found-ne0.false c.if-times-n.false c.if-page-n.false w.loaded w.wrote in
-    record { answered = c.success.ensures ∙ d.1; stored = d.2 }
+    let k = c.in_ok-check.ensures in
+    let t = told a.count a.words.now k.answered k.stored in
+    let d = done t a.times.now refl c.if-times-n.false c.if-page-n.false (times_fit a.times.now c.type_inv.times) c.put_page.ensures in
+    record { answered = d.1; stored = d.2 }

@@ -1,5 +1,5 @@
-use Rattle.text.proofs.Writing.{both}
+use Rattle.text.proofs.Writing.{joined}
 use Rattle.loads.proofs.put_field.Goals as goal
 
 pub returns : goal.returns
-returns c = both c.put_right-next.ensures c.put.ensures
+returns c = joined c.put_right.ensures c.put.ensures

@@ -4,8 +4,11 @@ use native.Mathlib.Omega.{arith}
 use mathlib.Core.List.{List}
 use lib.ListN.{length, replicate}
 use lib.Seq.{length-take-le}
-use Rattle.table.specs.Answers.{refused, answer, leaves, parts, refusal}
+use Rattle.std.specs.Prelude.{Err}
+use Rattle.table.specs.Answers.{answer, leaves, parts}
 use Rattle.table.specs.Rows.{max_flows, row_size}
+use Rattle.table.specs.Packed.{reading, read_answer}
+use Rattle.table.proofs.AnswerLaws.{told_err, refused_leaves}
 use Rattle.checker.specs.Answers.{clocks_words}
 use Rattle.packed_check.specs.Checked.{checked_in}
 use Rattle.packed_check.proofs.Joined.{read_into, read_few, read_refused, checked_refused, checked_words}
@@ -18,32 +21,33 @@ pub returns-in_default : goal.returns-in_default
 returns-in_default c =
     let bs : List ℕ = c.args.packed.now in
     let old : List ℕ = c.args.clocks.now in
-    let x = read_refused bs c.in_default.field-0 c.in_default.field-1 (ap parts (sym c.in_default.is) ∙ c.read-reading.ensures.answered) in
-    let e : checked_in bs (length old) ≡ refused x.0 x.1 = checked_refused bs (length old) x.0 x.1 x.2 in
-    let y : c.parts.result ≡ refusal x.0 x.1 = c.parts.ensures ∙ ap parts c.in_default.is ∙ x.3 in
-    record { answered = rw e y; stored = rw e }
+    let b = c.in_default.field-0 in
+    let told : parts (Err b) ≡ read_answer bs (row_size * max_flows) = sym (ap parts c.in_default.is) ∙ c.read-reading.ensures.answered in
+    let e = refused_leaves length clocks_words (checked_in bs (length old)) old b.why b.flow (checked_refused bs (length old) b.why b.flow (read_refused bs b told)) in
+    let same = told ∙ ap (answer length) (told_err length (reading bs (row_size * max_flows)) b told).0 in
+    record { answered = ap parts c.in_default.is ∙ same ∙ e.0; stored = e.1 }
 
 pub slice_bounds-words-end : goal.slice_bounds-words-end
 slice_bounds-words-end c =
-    let r = c.read-reading in
+    let r = c.in-Ok in
     let bs : List ℕ = c.args.packed.now in
-    let x = read_into bs zeros c.in-Table.count (sym (ap parts (sym c.in-Table.is) ∙ r.ensures.answered)) r.ensures.stored in
-    omega (arith, r.auto.words, read_few bs c.in-Table.count x)
+    let x = read_into bs zeros r.count r.ensures.answered r.ensures.stored in
+    omega (arith, c.read-reading.auto.words, read_few bs r.count x)
 
 pub slice_bounds-check-end : goal.slice_bounds-check-end
 slice_bounds-check-end c =
-    let r = c.read-reading in
+    let r = c.in-Ok in
     let bs : List ℕ = c.args.packed.now in
-    let x = read_into bs zeros c.in-Table.count (sym (ap parts (sym c.in-Table.is) ∙ r.ensures.answered)) r.ensures.stored in
-    let h : row_size * c.in-Table.count ≤ length r.new.words = omega (arith, r.auto.words, read_few bs c.in-Table.count x) in
-    sym (length-take-le (row_size * c.in-Table.count) r.new.words h)
+    let x = read_into bs zeros r.count r.ensures.answered r.ensures.stored in
+    let h : row_size * r.count ≤ length c.read-reading.new.words = omega (arith, c.read-reading.auto.words, read_few bs r.count x) in
+    sym (length-take-le (row_size * r.count) c.read-reading.new.words h)
 
 pub returns : goal.returns
 returns c =
-    let r = c.read-reading in
+    let r = c.in-Ok in
     let bs : List ℕ = c.args.packed.now in
     let old : List ℕ = c.args.clocks.now in
     let k = c.check in
-    let x = read_into bs zeros c.in-Table.count (sym (ap parts (sym c.in-Table.is) ∙ r.ensures.answered)) r.ensures.stored in
-    let e = checked_words bs c.in-Table.count r.new.words (length old) x in
+    let x = read_into bs zeros r.count r.ensures.answered r.ensures.stored in
+    let e = checked_words bs r.count c.read-reading.new.words (length old) x in
     record { answered = k.ensures.answered ∙ ap (answer length) e; stored = k.ensures.stored ∙ ap (λ z. leaves clocks_words z old) e }

@@ -1,40 +1,20 @@
-use mathlib.Core.Path.{refl, ◌∙◌}
+use mathlib.Core.Path.{◌≡◌, ◌∙◌, subst}
+use Prim.Native.Nat.{ℕ}
 use native.Mathlib.Omega.{arith}
-use borrow.Author.Rules.{rules}
-use Rattle.table.specs.Plain.{table_of, rows_in}
-use Rattle.table.proofs.Tables.{table_made}
-use Rattle.reach.proofs.Sweeping.{joining_more, joined_all}
+use Rattle.reach.specs.Private.Steps.{Reached}
+use Rattle.reach.proofs.Sweeping.{reached_next, reached_all}
 use Rattle.reach.proofs.close.Goals as goal
-
-pub start-requires : goal.start-requires
-start-requires c = c.requires
-
-pub loop-k-init : goal.loop-k-init
-loop-k-init c = record { upto = search rules; size = refl; done = c.start.ensures.0; left = λ f x. refl }
-
-pub sweep-requires : goal.sweep-requires
-sweep-requires c =
-    let l = c.loop-k in
-    let p = c.requires in
-    (omega (arith, p.1, l.invariant.size, c.start.auto.sets), search rules)
 
 pub loop-k-preserved : goal.loop-k-preserved
 loop-k-preserved c =
-    let l = c.loop-k in
     let a = c.args in
-    let ws = a.words.now in
-    let t = table_made a.n ws (rows_in (table_of a.n ws)) c.requires.0 in
-    let s = c.sweep in
-    joining_more ws a.n l.k _ l.sets s.new.sets t.few (search rules) l.invariant s.auto.sets s.ensures.0 s.ensures.1
-
-pub shape_of-sets : goal.shape_of-sets
-shape_of-sets c =
     let l = c.loop-k in
-    l.invariant.size ∙ c.start.auto.sets
+    let s = c.sweep in
+    (s.auto.sets ∙ l.invariant.0, reached_next a.words.now a.n l.k l.sets s.new.sets c.requires.table c.loop-k-test.true l.invariant.0 l.invariant.1 s.ensures)
 
 pub returns : goal.returns
 returns c =
-    let l = c.loop-k in
     let a = c.args in
-    let s = c.start in
-    joined_all a.words.now a.n l.k a.sets.now _ l.sets c.loop-k-test.false c.requires.1 s.auto.sets s.ensures.1 l.invariant
+    let l = c.loop-k in
+    let e : l.k ≡ a.n = omega arith in
+    reached_all a.words.now a.n l.sets l.invariant.0 (subst (λ (i : ℕ). Reached a.words.now a.n i l.sets) e l.invariant.1)

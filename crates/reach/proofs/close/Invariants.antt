@@ -1,9 +1,7 @@
-use Prim.Native.Nat.{◌-◌}
-use Rattle.reach.proofs.Sweeping.{Joining}
+use mathlib.Core.Path.{◌≡◌}
+use lib.ListN.{length}
+use Rattle.reach.specs.Private.Steps.{Reached}
 use Rattle.reach.proofs.close.Given as goal
 
 abbrev pub invariant-loop-k : goal.invariant-loop-k
-invariant-loop-k l = Joining l.words l.n l.k l.initial.sets l.sets
-
-abbrev pub decreases-loop-k : goal.decreases-loop-k
-decreases-loop-k l = l.n - l.k
+invariant-loop-k l = (length l.sets ≡ l.n) × Reached l.words l.n l.k l.sets

@@ -1,26 +1,28 @@
-use mathlib.Core.Path.{◌∙◌}
+use Rattle.std.proofs.lemmas.Result.{err_from_is_err_and}
 use Rattle.reach.proofs.Answering.{handed_on, is_table, no_room_lem, done}
 use Rattle.reach.proofs.reach.Goals as goal
 
-pub returns-then-found-ne0 : goal.returns-then-found-ne0
-returns-then-found-ne0 c =
+pub returns-in_err-examine : goal.returns-in_err-examine
+returns-in_err-examine c =
     let a = c.args in
-    let both = handed_on a.count a.words.now c.examine-found.ensures c.if-found-ne0.true a.sets.now in
-    record { answered = both.0; stored = both.1 }
+    let p = err_from_is_err_and c.from_residual.result c.from_residual.ensures.1 in
+    let both = handed_on a.count a.words.now a.sets.now c.in_err-examine.field-0.0 c.in_err-examine.ensures in
+    record { answered = rw (p.1, p.2) both.0; stored = both.1 }
 
-pub returns-then-sets-count : goal.returns-then-sets-count
-returns-then-sets-count c =
+pub returns-then-sets-n : goal.returns-then-sets-n
+returns-then-sets-n c =
     let a = c.args in
-    let w = no_room_lem a.count a.words.now c.examine-found.ensures c.if-found-ne0.false a.sets.now c.if-sets-count.true in
-    record { answered = c.refusal.ensures ∙ w.0; stored = w.1 }
+    let t = is_table a.count a.words.now a.sets.now _ c.in_ok-examine.ensures in
+    let both = no_room_lem a.count a.words.now a.sets.now t c.if-sets-n.true in
+    record { answered = rw c.at.ensures both.0; stored = both.1 }
 
-pub close-requires : goal.close-requires
-close-requires c =
-    let a = c.args in
-    (is_table a.count a.words.now c.examine-found.ensures c.if-found-ne0.false, c.if-sets-count.false)
+pub close-requires-clause-table : goal.close-requires-clause-table
+close-requires-clause-table c =
+    let a = c.args in is_table a.count a.words.now a.sets.now _ c.in_ok-examine.ensures
 
 pub returns : goal.returns
 returns c =
     let a = c.args in
-    let both = done a.count a.words.now c.examine-found.ensures c.if-found-ne0.false a.sets.now c.close.new.sets c.if-sets-count.false c.close.ensures in
+    let t = is_table a.count a.words.now a.sets.now _ c.in_ok-examine.ensures in
+    let both = done a.count a.words.now a.sets.now t c.close.new.sets c.if-sets-n.false c.close.ensures in
     record { answered = both.0; stored = both.1 }

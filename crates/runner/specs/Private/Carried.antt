@@ -1,10 +1,10 @@
 -- The words that a row carries from tick to tick, and what the code's leaves make of them. For the private functions alone: the public
 -- contract says nothing of them.
-use Rattle.std.specs.Prelude.{◌≡◌, ℕ, ◌+◌, ◌-◌, ◌*◌, ◌<◌, ◌≤◌, Bool, true, false, cond, List, ◌==◌, ◌≢◌, nat_le, nat_lt, slice_index}
+use Rattle.std.specs.Prelude.{◌≡◌, ℕ, ◌+◌, ◌-◌, ◌*◌, Bool, true, false, cond, List, ◌==◌, nat_le, nat_lt, slice_index, slice_index_or}
 use Rattle.table.specs.Rows.{Row, Op, input, constant, combine, register, faster, slower, later, head, tail, sample, merge, unrated, view}
-use Rattle.table.specs.Rows.{max_flows, decode}
+use Rattle.table.specs.Rows.{decode}
 use Rattle.runner.specs.declared.operators.Outcome.{Outcome}
-use Rattle.runner.specs.declared.carried.Sight.{Sight}
+use Rattle.runner.specs.declared.carried.Held.{Held}
 use Rattle.table.specs.Bits.{bit}
 use Rattle.semantics.specs.Cells.{Cell, absent, present, mark, value}
 use Rattle.semantics.specs.Answers.{mark_byte}
@@ -30,31 +30,19 @@ cells_in ms vs f a = cond (nat_lt a f) (cell_at (slice_index ms a) (slice_index 
 abbrev pub Combines : ℕ → Op → Type 0
 Combines k op = (a b z : ℕ) → decode k a b z ≡ combine op a b
 
--- How many words are kept for what a row carries, of which three are used at most, and for all rows.
-abbrev pub held_size : ℕ
-held_size = 4
-
-abbrev pub state_size : ℕ
-state_size = held_size * max_flows
-
 -- what a row carries
-pub record Held : Type 0 where
-  pub x : ℕ
-  pub y : ℕ
-  pub z : ℕ
+abbrev pub nothing : Held
+nothing = record { x = 0; y = 0; z = 0; spare = 0 }
 
-abbrev pub held : ℕ → ℕ → ℕ → Held
-held x y z = record { x = x; y = y; z = z }
-
-abbrev pub held_in : List ℕ → ℕ → Held
-held_in s i = held (slice_index s i) (slice_index s (i + 1)) (slice_index s (i + 2))
+abbrev pub held_at : List Held → ℕ → Held
+held_at s f = slice_index_or s f nothing
 
 -- Input, constant: x is the next tick at which it is present; of an input, y is its number among the inputs.
 abbrev pub timed_step : ℕ → ℕ → Held → Step
 timed_step t v h = cond (t == h.x) (is (present v)) (is absent)
 
 abbrev pub timed_next : ℕ → ℕ → Held → Held
-timed_next t n h = cond (t == h.x) (held (t + n) h.y h.z) h
+timed_next t n h = cond (t == h.x) (record h { x = t + n }) h
 
 -- Register: x is the value of the source's latest presence, or the initial value.
 abbrev pub register_step : Cell → Held → Step
@@ -66,12 +54,12 @@ abbrev pub faster_step : ℕ → Cell → Held → Step
 faster_step t absent h = cond (t == h.y) (cond (nat_lt h.y h.z) (is (present h.x)) (is absent)) (is absent)
 faster_step t (present v) h = cond (h.z == 0) (is (present v)) (cond (t == h.z) (is (present v)) clashes)
 
-abbrev pub begun : ℕ → ℕ → ℕ → ℕ → Held
-begun t v k g = held v (t + g) (t + k * g)
+abbrev pub begun : ℕ → ℕ → ℕ → ℕ → Held → Held
+begun t v k g h = record h { x = v; y = t + g; z = t + k * g }
 
 abbrev pub faster_next : ℕ → Cell → ℕ → ℕ → Held → Held
-faster_next t absent k g h = cond (t == h.y) (cond (nat_lt h.y h.z) (held h.x (t + g) h.z) h) h
-faster_next t (present v) k g h = cond (h.z == 0) (begun t v k g) (cond (t == h.z) (begun t v k g) h)
+faster_next t absent k g h = cond (t == h.y) (cond (nat_lt h.y h.z) (record h { y = t + g }) h) h
+faster_next t (present v) k g h = cond (h.z == 0) (begun t v k g h) (cond (t == h.z) (begun t v k g h) h)
 
 -- Slower: x is how many presences are still to be left out.
 abbrev pub slower_step : Cell → Held → Step
@@ -80,7 +68,7 @@ slower_step (present v) h = cond (h.x == 0) (is (present v)) (is absent)
 
 abbrev pub slower_next : Cell → ℕ → Held → Held
 slower_next absent k h = h
-slower_next (present v) k h = cond (h.x == 0) (held (k - 1) h.y h.z) (held (h.x - 1) h.y h.z)
+slower_next (present v) k h = cond (h.x == 0) (record h { x = k - 1 }) (record h { x = h.x - 1 })
 
 -- Later: x and y are the mark and the value of the cell d ticks before.
 abbrev pub later_step : Cell → ℕ → Held → Step
@@ -99,9 +87,9 @@ head_step t (present x) v s h = cond (nat_le t s) clashes (after_step t x h)
 
 abbrev pub after_next : ℕ → ℕ → Held → Held
 after_next t s h =
-    cond (h.x == 0) (held (t + (t - s)) h.y h.z)
+    cond (h.x == 0) (record h { x = t + (t - s) })
     (cond (h.x == 1) h
-    (cond (t == h.x) (held 1 h.y h.z) h))
+    (cond (t == h.x) (record h { x = 1 }) h))
 
 abbrev pub head_next : ℕ → Cell → ℕ → Held → Held
 head_next t absent s h = h
@@ -114,7 +102,7 @@ tail_step (present v) h = cond (h.x == 0) (is absent) (is (present v))
 
 abbrev pub tail_next : Cell → Held → Held
 tail_next absent h = h
-tail_next (present v) h = cond (h.x == 0) (held 1 h.y h.z) h
+tail_next (present v) h = cond (h.x == 0) (record h { x = 1 }) h
 
 -- A view: what is kept of the cell that governs it, 0 absent, 1 zero, 2 not zero.
 abbrev pub status : Cell → ℕ
@@ -125,19 +113,15 @@ status (present v) = 1 + bit (truth_of v)
 -- is the next tick at which c is looked at anew, y by how many ticks c began before a, and z the status that governs until then. g is the
 -- status of c's cell at tick t.
 abbrev pub noted : ℕ → ℕ → Held → Held
-noted t g h = cond (h.z == 0) (held h.x t g) h
+noted t g h = cond (h.z == 0) (record h { y = t; z = g }) h
 
 abbrev pub begun_by : Bool → ℕ → ℕ → Held → Held
-begun_by true w t h = held (t + w) (t - h.y) h.z
+begun_by true w t h = record h { x = t + w; y = t - h.y }
 begun_by false w t h = h
 
 abbrev pub view_next : ℕ → ℕ → Bool → ℕ → Held → Held
 view_next w t a g h =
-    cond (h.x == 0) (begun_by a w t (noted t g h)) (cond (t == h.x) (held (t + w) h.y g) h)
-
--- the words as the code holds them
-abbrev pub sight_of : Sight → Held
-sight_of s = held s.next s.lag s.status
+    cond (h.x == 0) (begun_by a w t (noted t g h)) (cond (t == h.x) (record h { x = t + w; z = g }) h)
 
 -- a's value x by the status that governs
 abbrev pub view_pass : Bool → ℕ → ℕ → Step
@@ -150,7 +134,7 @@ view_step u (present x) h = view_pass u x h.z
 -- before tick t, where c is to be looked at anew and began before a: far is its cell so many ticks before
 abbrev pub look_for : ℕ → ℕ → Cell → Held → Held
 look_for w t far h =
-    cond (t == h.x) (cond (h.y == 0) h (cond (nat_le h.y t) (held (t + w) h.y (status far)) h)) h
+    cond (t == h.x) (cond (h.y == 0) h (cond (nat_le h.y t) (record h { x = t + w; z = status far }) h)) h
 
 -- What a row comes to at tick t, where at is the place of the tick's first word in the log and here has the cells of lower flows.
 unfoldable pub step_of : Row → ℕ → List ℕ → ℕ → (ℕ → Cell) → Held → Step
@@ -184,12 +168,10 @@ next_of (merge c a b) t here h = h
 next_of unrated t here h = h
 next_of (view u a c w) t here h = view_next w t (mark (here a)) (status (here c)) h
 
--- A row's step: its outcome, the words that it carries from place i on, and no other word changed.
-pub record Did (step : Step) (next : Held) (i : ℕ) (s s' : List ℕ) (r : Outcome) : Type 0 where
-  pub answer : r ≡ outcome_of step
-  pub carried : held_in s' i ≡ next
-  pub before : (j : ℕ) → j < i → slice_index s' j ≡ slice_index s j
-  pub after : (j : ℕ) → i + 3 ≤ j → slice_index s' j ≡ slice_index s j
+-- A row's step: its outcome, and the words that it then carries.
+pub record Did (row : Row) (t : ℕ) (log : List ℕ) (at : ℕ) (here : ℕ → Cell) (h h' : Held) (r : Outcome) : Type 0 where
+  pub answer : r ≡ outcome_of (step_of row t log at here h)
+  pub carried : h' ≡ next_of row t here h
 
 -- The first word that a row carries into tick 0.
 unfoldable pub start_word : Row → ℕ
@@ -208,10 +190,5 @@ start_word unrated = 0
 start_word (view u a c w) = 0
 
 -- and all of them, where j inputs stand before it
-abbrev pub start_of : Row → ℕ → Held → Held
-start_of row j h = held (start_word row) j h.z
-
--- row f's words are set, and no other row's
-pub record Started (next : Held) (f : ℕ) (s s' : List ℕ) : Type 0 where
-  pub carried : held_in s' (held_size * f) ≡ next
-  pub others : (g : ℕ) → (g ≢ f) → held_in s' (held_size * g) ≡ held_in s (held_size * g)
+abbrev pub start_of : Row → ℕ → Held
+start_of row j = record nothing { x = start_word row; y = j }

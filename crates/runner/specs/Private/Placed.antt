@@ -1,19 +1,19 @@
 -- Marks and values in which each tick stands at its own place, and the tallies. For the private functions alone.
-use Rattle.std.specs.Prelude.{◌≡◌, ℕ, suc, ◌+◌, ◌-◌, ◌*◌, ◌%◌, ◌^◌, ◌<◌, ◌≤◌, Bool, cond, ◌&&◌, List, [], ◌∷◌, ◌++◌, map, length, take, drop, ◌==◌, ◌≢◌, nat_le, slice_index}
+use Rattle.std.specs.Prelude.{◌≡◌, ℕ, suc, ◌+◌, ◌-◌, ◌*◌, ◌%◌, ◌^◌, ◌<◌, ◌≤◌, Bool, cond, ◌&&◌, ◌||◌, List, [], ◌∷◌, ◌++◌, map, length, take, drop, ◌==◌, ◌≢◌, nat_le, slice_index, Ok, Err}
 use Rattle.std.proofs.Math.Option.{some}
-use Rattle.table.specs.Answers.{Refusal, too_many_ticks, wrong_log, Result, good, unless, over}
+use Rattle.table.specs.declared.refusal.Refusal.{Refusal}
+use Rattle.table.specs.declared.refusal.Refusal.TheVariants.{TooManyTicks, WrongLog}
+use Rattle.table.specs.Answers.{Result, good, refused, named, unless, over}
 use Rattle.table.specs.Rows.{Row, view}
 use Rattle.table.specs.Tables.{row_at}
-use Rattle.runner.specs.declared.Reached.{Reached}
-use Rattle.runner.specs.declared.Reached.TheVariants as reached
-use Rattle.runner.specs.declared.ticks.Ticked.{Ticked}
-use Rattle.runner.specs.declared.ticks.Ticked.TheVariants as ticked
 use Rattle.semantics.specs.Cells.{Cell, absent, value, back, first}
 use Rattle.semantics.specs.Runs.{Tick, Ticks, history, TickEnd, filled, stopped, Ran, done, clashed, run, Regular}
 use Rattle.semantics.specs.Answers.{mark_byte}
 use Rattle.semantics.specs.Windows.{tally_size}
-use Rattle.runner.specs.Private.Carried.{cell_at, held_in, held_size, look_for}
-use Rattle.runner.specs.Private.Ready.{AllCarry}
+use Rattle.runner.specs.declared.carried.Held.{Held}
+use Rattle.runner.specs.Private.Carried.{cell_at, look_for}
+use Rattle.runner.specs.Long.{window_ticks}
+use Rattle.runner.specs.Private.Ready.{AllCarry, Ticked, Reached, Tested, clash_at}
 
 -- a mask that leaves of a tick its remainder by a power of 2
 pub record Mask (mask : ℕ) : Type 0 where
@@ -23,6 +23,10 @@ pub record Mask (mask : ℕ) : Type 0 where
 -- the power of 2 that the window's ticks are
 abbrev pub window_width : ℕ
 window_width = 17
+
+-- the masks of a run that has room for every tick, and of one with a window
+abbrev pub is_mask : ℕ → Bool
+is_mask mask = (mask + 1 == 2 ^ 32) || (mask + 1 == window_ticks)
 
 -- the place of a tick's first cell: tick t stands at t modulo room
 abbrev pub first_cell : ℕ → ℕ → ℕ → ℕ
@@ -46,23 +50,15 @@ pub record Recalls (room n t : ℕ) (past : Ticks) (ms vs : List ℕ) : Type 0 w
   pub cell : (a d : ℕ) → a < n → 0 < d → d ≤ t → d ≤ room
       → cell_at (slice_index ms (first_cell room n (t - d) + a)) (slice_index vs (first_cell room n (t - d) + a)) ≡ back (history past a) (d - 1)
 
--- row f's words have the cell of flow a at d ticks before tick t, absent where there is no such tick
-pub record Fetched (room n a d f t : ℕ) (ms vs s s' : List ℕ) : Type 0 where
-  pub cell : cell_at (held_in s' (held_size * f)).x (held_in s' (held_size * f)).y
-      ≡ cond (nat_le d t) (cell_at (slice_index ms (first_cell room n (t - d) + a)) (slice_index vs (first_cell room n (t - d) + a))) absent
-  pub others : (g : ℕ) → (g ≢ f) → held_in s' (held_size * g) ≡ held_in s (held_size * g)
+-- the cell of flow a at d ticks before tick t, absent where there is no such tick
+abbrev pub cell_before : ℕ → ℕ → ℕ → ℕ → ℕ → List ℕ → List ℕ → Cell
+cell_before room n a d t ms vs =
+    cond (nat_le d t) (cell_at (slice_index ms (first_cell room n (t - d) + a)) (slice_index vs (first_cell room n (t - d) + a))) absent
 
--- row f's words after a look of its view, with view period w, at flow c
-pub record Sighted (room n c w f t : ℕ) (ms vs s s' : List ℕ) : Type 0 where
-  pub words : held_in s' (held_size * f)
-      ≡ look_for w t (cell_at (slice_index ms (first_cell room n (t - (held_in s (held_size * f)).y) + c)) (slice_index vs (first_cell room n (t - (held_in s (held_size * f)).y) + c)))
-      (held_in s (held_size * f))
-  pub others : (g : ℕ) → (g ≢ f) → held_in s' (held_size * g) ≡ held_in s (held_size * g)
-
--- the same for a row that looks back, by its kind and fields
-pub record Backward (room n kind p q r f t : ℕ) (ms vs s s' : List ℕ) : Type 0 where
-  pub fetched : kind ≡ 10 → Fetched room n p q f t ms vs s s'
-  pub sighted : (kind ≢ 10) → Sighted room n q r f t ms vs s s'
+-- what a row that looks back holds before tick t, by its kind and fields: a later row its operand's cell, a view its words after a look
+pub record Backward (room n kind p q r t : ℕ) (ms vs : List ℕ) (h h' : Held) : Type 0 where
+  pub fetched : kind ≡ 10 → cell_at h'.x h'.y ≡ cell_before room n p q t ms vs
+  pub sighted : (kind ≢ 10) → h' ≡ look_for r t (cell_before room n q h.y t ms vs) h
 
 -- Views look no further back than there is room: c begins at most so many ticks before a. And that, at every tick of a run.
 pub record Near (room : ℕ) (rows : List Row) (past : Ticks) : Type 0 where
@@ -78,15 +74,10 @@ pub record WroteAt (first : ℕ) (written : List Cell) (ms vs ms' vs' : List ℕ
   pub values : vs' ≡ splice first (map value written) vs
 
 -- how a tick ends in the whole of marks and values, its first cell at a place
-abbrev pub TickAt : ℕ → List Row → ℕ → Ticks → TickEnd → List ℕ → List ℕ → List ℕ → List ℕ → List ℕ → Ticked → Type 0
+abbrev pub TickAt : ℕ → List Row → ℕ → Ticks → TickEnd → List ℕ → List ℕ → List ℕ → List ℕ → List Held → Ticked → Type 0
 TickAt first rows t past (filled now) ms vs ms' vs' s' r =
-    (r ≡ ticked.Full) × WroteAt first now ms vs ms' vs' × (length now ≡ length rows) × AllCarry rows (suc t) (now ∷ past) s'
-TickAt first rows t past (stopped f now) ms vs ms' vs' s' r = (r ≡ ticked.Stopped f) × WroteAt first now ms vs ms' vs' × (f < length rows)
-
--- words from the first on are 0
-pub record Cleared (n : ℕ) (s s' : List ℕ) : Type 0 where
-  pub zeros : (i : ℕ) → i < n → slice_index s' i ≡ 0
-  pub rest : (i : ℕ) → n ≤ i → slice_index s' i ≡ slice_index s i
+    (r ≡ Ok tt) × WroteAt first now ms vs ms' vs' × (length now ≡ length rows) × AllCarry rows (suc t) (now ∷ past) s'
+TickAt first rows t past (stopped f now) ms vs ms' vs' s' r = (r ≡ Err f) × WroteAt first now ms vs ms' vs' × (f < length rows)
 
 -- each of k counts is below a limit; one below count_limit can grow
 abbrev pub count_limit : ℕ
@@ -105,7 +96,7 @@ pub record Counted (first k : ℕ) (ms vs ts ts' : List ℕ) : Type 0 where
 
 -- A run before tick t: its ticks so far stand at their places in marks and values, which held ms₀ and vs₀ before the first, and the rows carry
 -- what they have to.
-pub record Running (n room t : ℕ) (rows : List Row) (log ms₀ vs₀ s ms vs : List ℕ) : Type 0 where
+pub record Running (n room t : ℕ) (rows : List Row) (log ms₀ vs₀ : List ℕ) (s : List Held) (ms vs : List ℕ) : Type 0 where
   pub past : Ticks
   pub ticks : length past ≡ t
   pub so_far : run rows log t ≡ done past
@@ -125,9 +116,9 @@ pub record ClashedAt (n room to f : ℕ) (now : Tick) (past : Ticks) (ms₀ vs�
   pub values : vs ≡ placed room n value vs₀ (now ∷ past)
 
 -- how the ticks up to one end
-abbrev pub TicksEnd : ℕ → ℕ → ℕ → List Row → List ℕ → Ran → List ℕ → List ℕ → List ℕ → List ℕ → List ℕ → Reached → Type 0
-TicksEnd n room to rows log (done past) ms₀ vs₀ s ms vs r = (r ≡ reached.End) × Running n room to rows log ms₀ vs₀ s ms vs
-TicksEnd n room to rows log (clashed t f now past) ms₀ vs₀ s ms vs r = (r ≡ reached.Clash t f) × ClashedAt n room to f now past ms₀ vs₀ ms vs
+abbrev pub TicksEnd : ℕ → ℕ → ℕ → List Row → List ℕ → Ran → List ℕ → List ℕ → List Held → List ℕ → List ℕ → Reached → Type 0
+TicksEnd n room to rows log (done past) ms₀ vs₀ s ms vs r = (r ≡ Ok tt) × Running n room to rows log ms₀ vs₀ s ms vs
+TicksEnd n room to rows log (clashed t f now past) ms₀ vs₀ s ms vs r = (r ≡ Err (clash_at t f)) × ClashedAt n room to f now past ms₀ vs₀ ms vs
 
 -- no tick of a run clashes
 pub record Unclashed (rows : List Row) (log : List ℕ) : Type 0 where
@@ -140,7 +131,12 @@ stretch_ticks = 64
 -- the limits that either run tests: the most ticks, the log's length, and the cells that marks and values need
 abbrev pub limits : ℕ → ℕ → ℕ → ℕ → ℕ → Refusal → ℕ → ℕ → Result (Unit {0})
 limits ticks most logged inputs cells short marks values =
-    unless (nat_le ticks most) too_many_ticks 0
-    (unless (logged == ticks * inputs) wrong_log 0
+    unless (nat_le ticks most) TooManyTicks 0
+    (unless (logged == ticks * inputs) WrongLog 0
     (unless (nat_le cells marks && nat_le cells values) short 0
     (good tt)))
+
+-- such limits as the code gives them
+abbrev pub given : Result (Unit {0}) → Tested
+given (good u) = Ok u
+given (refused why f) = Err (named why f)

@@ -1,26 +1,29 @@
 -- What the carried words say of the ticks so far, and what a tick's code leaves. For the private functions alone.
-use Rattle.std.specs.Prelude.{◌≡◌, ℕ, suc, ◌+◌, ◌-◌, ◌*◌, ◌%◌, ◌<◌, ◌≤◌, Bool, true, false, cond, ◌||◌, ◌⊎◌, List, ◌∷◌, map, length, take, ◌==◌, ◌≢◌, nat_le, slice_index}
+use Rattle.std.specs.Prelude.{◌≡◌, ℕ, zero, suc, ◌+◌, ◌-◌, ◌*◌, ◌%◌, ◌<◌, ◌≤◌, Bool, true, false, cond, ◌||◌, ◌⊎◌, List, [], ◌∷◌, ◌++◌, map, length, take, ◌==◌, ◌≢◌, nat_le, slice_index, Result, Ok, Err}
 use Rattle.std.proofs.Math.Option.{Option, none, some}
 use Rattle.table.specs.Answers.{good, over}
-use Rattle.table.specs.Rows.{Row, input, constant, combine, register, faster, slower, later, head, tail, sample, merge, unrated, view, kind_count, first_view, row_size, on_register}
+use Rattle.table.specs.Rows.{Row, input, constant, combine, register, faster, slower, later, head, tail, sample, merge, unrated, view, kind_count, first_view, row_size, max_flows, on_register}
 use Rattle.table.specs.Plain.{table_of, rows_in as accepted}
 use Rattle.table.specs.Tables.{row_at}
 use Rattle.checker.specs.Clocks.{Clock}
 use Rattle.checker.specs.Rules.{clocks_of}
-use Rattle.runner.specs.declared.ticks.Ticked.{Ticked}
-use Rattle.runner.specs.declared.ticks.Ticked.TheVariants as ticked
+use Rattle.table.specs.declared.refusal.Refused.{Refused}
+use Rattle.runner.specs.declared.Clashed.{Clashed}
+use Rattle.runner.specs.declared.carried.Held.{Held}
 use Rattle.semantics.specs.Cells.{Cell, absent, present, value, History, back, cell_on, count, latest, first, on_grid}
 use Rattle.semantics.specs.Operators.{value_or}
 use Rattle.semantics.specs.Runs.{Tick, Ticks, history, inputs, TickEnd, filled, stopped}
 use Rattle.semantics.specs.Answers.{mark_byte}
-use Rattle.runner.specs.Private.Carried.{Held, held_in, held_size, cell_at, status}
+use Rattle.runner.specs.Private.Carried.{held_at, cell_at, status}
 
 -- the rows of a table in plain form
 unfoldable pub rows_in : ℕ → List ℕ → List Row
 rows_in m words = accepted (table_of m words)
 
-unfoldable pub Plain : ℕ → List ℕ → Type 0
-Plain m words = table_of m words ≡ good (rows_in m words)
+pub record Plain (m : ℕ) (words : List ℕ) : Type 0 where
+  pub rows : table_of m words ≡ good (rows_in m words)
+  pub few : m ≤ max_flows
+  pub size : length words ≡ row_size * m
 
 -- the check accepts it
 unfoldable pub Clocked : ℕ → List ℕ → Type 0
@@ -95,48 +98,58 @@ Follows rows f row t now past w =
     cond (on_register (λ b a. false) row) (Carries rows f row (suc t) (history (now ∷ past)) w) (Carries rows f row t (history past) w)
 
 -- the same of every row
-unfoldable pub AllCarry : List Row → ℕ → Ticks → List ℕ → Type 0
-AllCarry rows t past s = (f : ℕ) → f < length rows → Carries rows f (row_at rows f) t (history past) (held_in s (held_size * f))
+unfoldable pub AllCarry : List Row → ℕ → Ticks → List Held → Type 0
+AllCarry rows t past s = (f : ℕ) → f < length rows → Carries rows f (row_at rows f) t (history past) (held_at s f)
 
-unfoldable pub AllFollow : List Row → ℕ → Tick → Ticks → List ℕ → Type 0
-AllFollow rows t now past s = (f : ℕ) → f < length rows → Follows rows f (row_at rows f) t now past (held_in s (held_size * f))
+unfoldable pub AllFollow : List Row → ℕ → Tick → Ticks → List Held → Type 0
+AllFollow rows t now past s = (f : ℕ) → f < length rows → Follows rows f (row_at rows f) t now past (held_at s f)
 
 -- the words are ready for tick t, whose first word stands at a place in the log
-pub record Ready (rows : List Row) (past : Ticks) (t at : ℕ) (s : List ℕ) : Type 0 where
+pub record Ready (rows : List Row) (past : Ticks) (t at : ℕ) (s : List Held) : Type 0 where
   pub ticks : length past ≡ t
   pub place : at ≡ t * inputs rows
   pub carried : AllCarry rows t past s
-  pub collected : (f : ℕ) → f < length rows → Collected (row_at rows f) (history past) (held_in s (held_size * f))
+  pub collected : (f : ℕ) → f < length rows → Collected (row_at rows f) (history past) (held_at s f)
 
 -- cells were written from the first place on
 pub record Wrote (written : List Cell) (ms vs ms' vs' : List ℕ) : Type 0 where
   pub marks : ms' ≡ over (map mark_byte written) ms
   pub values : vs' ≡ over (map value written) vs
 
+-- what a tick comes to: all of it, or a clash that names a flow; and so ticks, and a test of limits
+abbrev pub Ticked : Type 0
+Ticked = Result (Unit {0}) ℕ
+
+abbrev pub Reached : Type 0
+Reached = Result (Unit {0}) Clashed
+
+abbrev pub Tested : Type 0
+Tested = Result (Unit {0}) Refused
+
+abbrev pub clash_at : ℕ → ℕ → Clashed
+clash_at t f = record { tick = t; flow = f }
+
 -- how the flows of a tick end
-abbrev pub FlowsEnd : List Row → ℕ → Ticks → TickEnd → List ℕ → List ℕ → List ℕ → List ℕ → List ℕ → Ticked → Type 0
+abbrev pub FlowsEnd : List Row → ℕ → Ticks → TickEnd → List ℕ → List ℕ → List ℕ → List ℕ → List Held → Ticked → Type 0
 FlowsEnd rows t past (filled now) ms vs ms' vs' s' r =
-    (r ≡ ticked.Full) × Wrote now ms vs ms' vs' × (length now ≡ length rows) × AllFollow rows t now past s'
-FlowsEnd rows t past (stopped f now) ms vs ms' vs' s' r = (r ≡ ticked.Stopped f) × Wrote now ms vs ms' vs' × (f < length rows)
+    (r ≡ Ok tt) × Wrote now ms vs ms' vs' × (length now ≡ length rows) × AllFollow rows t now past s'
+FlowsEnd rows t past (stopped f now) ms vs ms' vs' s' r = (r ≡ Err f) × Wrote now ms vs ms' vs' × (f < length rows)
 
 -- how the registers' test ends
-abbrev pub LatchEnd : List Row → ℕ → Ticks → Tick → Option ℕ → List ℕ → Ticked → Type 0
-LatchEnd rows t past now none s' r = (r ≡ ticked.Full) × AllCarry rows (suc t) (now ∷ past) s'
-LatchEnd rows t past now (some f) s' r = (r ≡ ticked.Stopped f) × (f < length rows)
+abbrev pub LatchEnd : List Row → ℕ → Ticks → Tick → Option ℕ → List Held → Ticked → Type 0
+LatchEnd rows t past now none s' r = (r ≡ Ok tt) × AllCarry rows (suc t) (now ∷ past) s'
+LatchEnd rows t past now (some f) s' r = (r ≡ Err f) × (f < length rows)
 
 -- how a tick ends
-abbrev pub TickDone : List Row → ℕ → Ticks → TickEnd → List ℕ → List ℕ → List ℕ → List ℕ → List ℕ → Ticked → Type 0
+abbrev pub TickDone : List Row → ℕ → Ticks → TickEnd → List ℕ → List ℕ → List ℕ → List ℕ → List Held → Ticked → Type 0
 TickDone rows t past (filled now) ms vs ms' vs' s' r =
-    (r ≡ ticked.Full) × Wrote now ms vs ms' vs' × (length now ≡ length rows) × AllCarry rows (suc t) (now ∷ past) s'
-TickDone rows t past (stopped f now) ms vs ms' vs' s' r = (r ≡ ticked.Stopped f) × Wrote now ms vs ms' vs' × (f < length rows)
+    (r ≡ Ok tt) × Wrote now ms vs ms' vs' × (length now ≡ length rows) × AllCarry rows (suc t) (now ∷ past) s'
+TickDone rows t past (stopped f now) ms vs ms' vs' s' r = (r ≡ Err f) × Wrote now ms vs ms' vs' × (f < length rows)
 
--- the numbers of the rows whose kinds pass a test, in ascending order
-pub record Listed (test : ℕ → Bool) (n : ℕ) (words list : List ℕ) (count : ℕ) : Type 0 where
-  pub room : count ≤ length list
-  pub within : (j : ℕ) → j < count → slice_index list j < n
-  pub kind : (j : ℕ) → j < count → test (slice_index words (row_size * slice_index list j)) ≡ true
-  pub rising : (i j : ℕ) → i < j → j < count → slice_index list i < slice_index list j
-  pub all : (f : ℕ) → f < n → test (slice_index words (row_size * f)) ≡ true → (j : ℕ) × (j < count) × (slice_index list j ≡ f)
+-- the numbers of the rows below n whose kinds pass a test, in ascending order
+unfoldable pub numbers : (ℕ → Bool) → ℕ → List ℕ → List ℕ
+numbers test zero words = []
+numbers test (suc n) words = numbers test n words ++ cond (test (slice_index words (row_size * n))) (n ∷ []) []
 
 -- a kind, or one from another on; so registers, and the rows that look back, later rows and views
 abbrev pub one_of : ℕ → ℕ → ℕ → Bool

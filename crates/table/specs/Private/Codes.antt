@@ -1,9 +1,10 @@
 -- What the code's own functions are held to: the numbers of fields and kinds in its tables, and what its steps find.
 use Rattle.std.specs.Prelude.{◌≡◌, ℕ, ◌+◌, ◌*◌, ◌/◌, ◌%◌, ◌^◌, ◌≤◌, Bool, false, cond, ◌&&◌, List, [], ◌∷◌, leb, ltb, eqb, length, get_or}
+use Rattle.std.specs.Prelude as std
 use Rattle.table.specs.declared.Answer.{Answer}
-use Rattle.table.specs.declared.Survey.{Survey}
-use Rattle.table.specs.declared.Survey.TheVariants.{Fits, Refused}
-use Rattle.table.specs.Answers.{Result, good, refused, number, answer, success, numbered}
+use Rattle.table.specs.declared.refusal.Refused.{Refused}
+use Rattle.table.specs.declared.refusal.Refusal.{Refusal}
+use Rattle.table.specs.Answers.{Result, good, refused, number, answer, success, parts}
 use Rattle.table.specs.Rows.{Field, operand, source, copies, period, ticks, value, unused, least, width, Kind, kind_at, kind_count, unrated_kind, Words, takes, row_by, row_size, max_flows}
 use Rattle.table.specs.Plain.{split, rows_from}
 use Rattle.table.specs.Bits.{byte_count}
@@ -97,18 +98,18 @@ verdict (refused why f) = number why
 abbrev pub Accepted : ℕ → List ℕ → Words → Bool → Type 0
 Accepted barred bs w t = (rated : Bool) (m f : ℕ) → barred ≡ barred_kind rated → m ≤ max_flows → f ≤ max_flows → bs ≡ bounds m f → t ≡ eqb (verdict (row_by rated m f w)) 0
 
--- the number of the refusal of a row that is not accepted
-abbrev pub Fault : Bool → Words → ℕ → Type 0
-Fault rated w n = (m f : ℕ) → eqb (verdict (row_by rated m f w)) 0 ≡ false → n ≡ verdict (row_by rated m f w)
+-- why a row that is not accepted is refused
+abbrev pub Fault : Bool → Words → Refusal → Type 0
+Fault rated w why = (m f : ℕ) → eqb (verdict (row_by rated m f w)) 0 ≡ false → number why ≡ verdict (row_by rated m f w)
 
 -- what a survey says of a table of m flows: what the test answers, and how many bytes it takes
-abbrev pub told : ℕ → Survey → Answer
-told m (Fits n) = success m
-told m (Refused k row) = numbered k row
+abbrev pub told : ℕ → std.Result ℕ Refused → Answer
+told m (std.Ok n) = success m
+told m (std.Err r) = parts (std.Err r)
 
-abbrev pub Sized : List Words → Survey → Type 0
-Sized ws (Fits n) = (n ≡ byte_count (count_width + length (rows_bits ws))) × (n ≤ byte_count last_place)
-Sized ws (Refused k row) = Unit {0}
+abbrev pub Sized : List Words → std.Result ℕ Refused → Type 0
+Sized ws (std.Ok n) = (n ≡ byte_count (count_width + length (rows_bits ws))) × (n ≤ byte_count last_place)
+Sized ws (std.Err r) = Unit {0}
 
 -- a draft in plain form that is not refused
 pub record Ready (m : ℕ) (words : List ℕ) : Type 0 where

@@ -1,172 +1,45 @@
-use mathlib.Core.Path.{refl, ◌∙◌}
-use native.Mathlib.Nat.{mul-le-mul_right}
-use native.Mathlib.Omega.{arith}
 use lib.ListN.{length-set}
-use Rattle.archive.specs.Private.Steps.{next_in, place_in}
-use Rattle.archive.proofs.Held.{moved_none, moved_next, moved_all, moved_tick, moved_place, place_within}
-use Rattle.archive.proofs.Storing.{block_begin, block_end, words_more}
+use mathlib.Core.Path.{◌∙◌}
+use native.Mathlib.Omega.{arith}
+use Rattle.archive.proofs.Held.{moved_next, moved_on_lem, place_within}
+use Rattle.archive.proofs.Storing.{words_more}
 use Rattle.archive.proofs.blocks.take_block.Goals as goal
 
-pub loop-f-init : goal.loop-f-init
-loop-f-init c =
-    let a = c.args in
-    let pre = c.requires in
-    let place = place_in a.m a.clocks.now a.ticks in (
-      omega arith,
-      refl,
-      refl,
-      refl,
-      moved_none a.m (next_in a.clocks.now a.begin) (next_in a.clocks.now a.finish) a.next.now pre.8.each,
-      moved_none a.m (place a.begin) (place a.finish) a.places.now pre.9.each,
-      block_begin a.m a.clocks.now a.values.now a.ticks a.begin a.finish pre.2 pre.3 a.stored.now pre.10,
-    )
-
-pub offset_bounds-next-f : goal.offset_bounds-next-f
-offset_bounds-next-f c =
-    let pre = c.requires in
-    omega (arith, pre.0.few, c.loop-f-test.true)
-
-pub bounds-next-f : goal.bounds-next-f
-bounds-next-f c =
-    let pre = c.requires in
+pub take_column-requires : goal.take_column-requires
+take_column-requires c =
+    let p = c.args.plan.now in
     let k = c.loop-f in
-    let test = c.loop-f-test in
-    omega (arith, pre.0.few, pre.5, k.invariant.1, test.true)
-
-pub offset_bounds-places-f : goal.offset_bounds-places-f
-offset_bounds-places-f c =
-    let pre = c.requires in
-    let test = c.loop-f-test in
-    omega (arith, pre.0.few, test.true)
-
-pub bounds-places-f : goal.bounds-places-f
-bounds-places-f c =
-    let pre = c.requires in
-    let k = c.loop-f in
-    let test = c.loop-f-test in
-    omega (arith, pre.0.few, pre.6, k.invariant.2, test.true)
-
-pub overflow_mul-f : goal.overflow_mul-f
-overflow_mul-f c =
-    let pre = c.requires in
-    let test = c.loop-f-test in
-    omega (arith, pre.0.few, test.true)
-
-pub overflow_add-f : goal.overflow_add-f
-overflow_add-f c =
-    let pre = c.requires in
-    let test = c.loop-f-test in
-    omega (arith, pre.0.few, test.true)
-
-pub offset_bounds-clocks-f : goal.offset_bounds-clocks-f
-offset_bounds-clocks-f c =
-    let pre = c.requires in
-    let test = c.loop-f-test in
-    omega (arith, pre.0.few, test.true)
-
-pub bounds-clocks-f : goal.bounds-clocks-f
-bounds-clocks-f c =
-    let pre = c.requires in
-    omega (arith, pre.0.room, c.loop-f-test.true)
-
-pub take_column-to-requires : goal.take_column-to-requires
-take_column-to-requires c =
-    let pre = c.requires in
-    let k = c.loop-f in
-    let a = c.args in
-    let pos = pre.0.positive k.f c.loop-f-test.true in (
-      pos,
-      pre.0.period_fits k.f c.loop-f-test.true,
-      omega (arith, pre.1, pre.3),
-      c.loop-f-test.true,
-      pre.0.few,
-      omega (arith, mul-le-mul_right a.m pre.3, pre.4),
+    let l = c.loop-f-test.true in
+    let end = c.block_end-finish.ensures in (
+      l,
+      end.1,
+      c.requires.1,
       omega (
         arith,
-        k.invariant.3,
-        pre.7,
-        place_within a.m a.clocks.now a.ticks a.begin a.finish k.f pos pre.2 _ _ (k.invariant.4.coming k.f (omega arith) c.loop-f-test.true)
-            (k.invariant.5.coming k.f (omega arith) c.loop-f-test.true) pre.3 c.loop-f-test.true,
+        k.auto.stored,
+        c.requires.2,
+        place_within p.flows p.clocks.now p.ticks c.args.begin c.block_end-finish.result k.f (p.sound.positive k.f l) (omega (arith, end.0)) _
+            (k.invariant.moved.coming k.f (omega arith) l) end.1 l,
       ),
     )
-
-pub offset_bounds-next-f-in-loop-f : goal.offset_bounds-next-f-in-loop-f
-offset_bounds-next-f-in-loop-f c =
-    let pre = c.requires in
-    omega (arith, pre.0.few, c.loop-f-test.true)
-
-pub bounds-next-f-in-loop-f : goal.bounds-next-f-in-loop-f
-bounds-next-f-in-loop-f c =
-    let pre = c.requires in
-    let k = c.loop-f in
-    omega (arith, pre.0.few, pre.5, k.invariant.1, c.loop-f-test.true)
-
-pub offset_bounds-places-f-in-loop-f : goal.offset_bounds-places-f-in-loop-f
-offset_bounds-places-f-in-loop-f c =
-    let pre = c.requires in
-    omega (arith, pre.0.few, c.loop-f-test.true)
-
-pub bounds-places-f-in-loop-f : goal.bounds-places-f-in-loop-f
-bounds-places-f-in-loop-f c =
-    let pre = c.requires in
-    let k = c.loop-f in
-    omega (arith, pre.0.few, pre.6, k.invariant.2, c.loop-f-test.true)
-
-pub overflow_add-f-in-loop-f : goal.overflow_add-f-in-loop-f
-overflow_add-f-in-loop-f c =
-    let pre = c.requires in
-    omega (arith, pre.0.few, c.loop-f-test.true)
-
-pub loop-f-smaller : goal.loop-f-smaller
-loop-f-smaller c =
-    let test = c.loop-f-test in
-    omega (arith, test.true)
 
 pub loop-f-preserved : goal.loop-f-preserved
 loop-f-preserved c =
     let a = c.args in
-    let pre = c.requires in
+    let p = a.plan.now in
     let k = c.loop-f in
-    let place = place_in a.m a.clocks.now a.ticks in
-    let pos = pre.0.positive k.f c.loop-f-test.true in
-    let here = k.invariant.4.coming k.f (omega arith) c.loop-f-test.true in
-    let on = k.invariant.5.coming k.f (omega arith) c.loop-f-test.true in
-    let done = c.take_column-to.ensures in (
-      omega (arith, c.loop-f-test.true),
-      length-set k.next k.f _ ∙ k.invariant.1,
-      length-set k.places k.f _ ∙ k.invariant.2,
-      c.take_column-to.auto.stored ∙ k.invariant.3,
-      moved_next a.m (next_in a.clocks.now a.begin) (next_in a.clocks.now a.finish) k.f _ k.next (omega (arith, pre.0.few, pre.5, k.invariant.1, c.loop-f-test.true))
-          (moved_tick a.m a.clocks.now a.ticks a.begin a.finish k.f pos pre.2 _ _ here on _ done.tick_value.0) k.invariant.4,
-      moved_next a.m (place a.begin) (place a.finish) k.f _ k.places
-          (omega (arith, pre.0.few, pre.6, k.invariant.2, c.loop-f-test.true))
-          (moved_place a.m a.clocks.now a.ticks a.begin a.finish k.f pos pre.2 _ _ here on _ done.tick_value.1) k.invariant.5,
-      words_more a.m a.clocks.now a.values.now a.ticks a.begin a.finish pre.2 pre.3 k.f c.loop-f-test.true pos _ _ here on
-          k.stored _ k.invariant.6 done.taken,
-    )
-
-pub shape_of-next : goal.shape_of-next
-shape_of-next c =
-    let k = c.loop-f in
-    k.invariant.1
-
-pub shape_of-places : goal.shape_of-places
-shape_of-places c =
-    let k = c.loop-f in
-    k.invariant.2
-
-pub shape_of-stored : goal.shape_of-stored
-shape_of-stored c =
-    let k = c.loop-f in
-    k.invariant.3
-
-pub returns : goal.returns
-returns c =
-    let a = c.args in
-    let k = c.loop-f in
-    let pre = c.requires in
-    let place = place_in a.m a.clocks.now a.ticks in (
-      record { each = moved_all a.m (next_in a.clocks.now a.begin) (next_in a.clocks.now a.finish) k.f k.next c.loop-f-test.false k.invariant.4 },
-      record { each = moved_all a.m (place a.begin) (place a.finish) k.f k.places c.loop-f-test.false k.invariant.5 },
-      block_end a.m a.clocks.now a.values.now a.ticks a.begin a.finish pre.2 pre.3 k.f k.stored c.loop-f-test.false k.invariant.6,
-    )
+    let l = c.loop-f-test.true in
+    let pos = p.sound.positive k.f l in
+    let at = k.invariant.moved.coming k.f (omega arith) l in
+    let end = c.block_end-finish.ensures in
+    let done = c.take_column.ensures in
+    record {
+      room = length-set c.loop-f.next c.loop-f.f _ ∙ c.loop-f.invariant.room;
+      moved =
+          moved_next (omega arith)
+          (done.moved ∙ moved_on_lem p.flows p.clocks.now p.ticks a.begin c.block_end-finish.result k.f pos (omega (arith, end.0)) _ at)
+          k.invariant.moved;
+      words =
+          words_more p.flows p.clocks.now a.values.now p.ticks a.begin c.block_end-finish.result (omega (arith, end.0)) end.1 k.f l pos _ at
+          k.stored _ k.invariant.words done.taken;
+    }

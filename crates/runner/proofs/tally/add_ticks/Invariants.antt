@@ -5,12 +5,6 @@ use Rattle.std.proofs.Common.{◌≡◌, ℕ, ◌+◌, ◌-◌, ◌≤◌, List,
 use Rattle.runner.proofs.tally.add_ticks.Given as goal
 
 abbrev pub invariant-loop-t : goal.invariant-loop-t
-invariant-loop-t l = (l.from ≤ l.t)
-    × (l.t ≤ l.to)
-    × (length l.tallies ≡ length l.initial.tallies)
-    × Low l.n (l.t + 1) l.tallies
-    × ((past : Ticks) (ts : List ℕ) → length past ≡ l.to → l.to ≤ l.from + (l.mask + 1) → Recalls (l.mask + 1) l.n l.to past l.marks l.values
-    → Tallied l.n (drop (l.to - l.from) past) ts l.initial.tallies → Tallied l.n (drop (l.to - l.t) past) ts l.tallies)
-
-abbrev pub decreases-loop-t : goal.decreases-loop-t
-decreases-loop-t l = l.to - l.t
+invariant-loop-t l = Low l.plan.n (l.t + 1) l.tallies
+    × ((past : Ticks) (ts : List ℕ) → length past ≡ l.to → l.to ≤ l.from + (l.plan.mask + 1) → Recalls (l.plan.mask + 1) l.plan.n l.to past l.marks l.values
+    → Tallied l.plan.n (drop (l.to - l.from) past) ts l.initial.tallies → Tallied l.plan.n (drop (l.to - l.t) past) ts l.tallies)

@@ -1,13 +1,12 @@
-use Rattle.std.proofs.Common.{◌≡◌, ℕ, ◌-◌, ◌≤◌, List, length}
+use Rattle.std.proofs.Common.{◌≡◌, ℕ, List, length}
 use Rattle.semantics.specs.Runs.{Tick, Ticks}
-use Rattle.runner.specs.Private.Ready.{rows_in, Wrote, AllFollow}
+use Rattle.runner.specs.Private.Ready.{Wrote, AllFollow}
 use Rattle.runner.proofs.Latching.{Latching}
-use Rattle.runner.specs.Private.Carried.{state_size}
+use Rattle.runner.specs.Private.Plans.{plan_rows}
 use Rattle.runner.proofs.ticks.latch.Given as goal
 
-abbrev pub invariant-loop-j : goal.invariant-loop-j
-invariant-loop-j l = (l.j ≤ l.count) × (length l.state ≡ state_size) × ((past : Ticks) (cells : Tick) (ms vs : List ℕ) (t : ℕ) → length cells ≡ l.n → Wrote cells ms vs l.marks l.values
-    → AllFollow (rows_in l.n l.words) t cells past l.initial.state → Latching l.n t l.words l.registers (rows_in l.n l.words) cells past l.initial.state l.state l.j)
-
-abbrev pub decreases-loop-j : goal.decreases-loop-j
-decreases-loop-j l = l.count - l.j
+abbrev pub invariant-loop-row : goal.invariant-loop-row
+invariant-loop-row l =
+    (past : Ticks) (cells : Tick) (ms vs : List ℕ) (t : ℕ) → length cells ≡ l.plan.n
+    → Wrote cells ms vs l.marks l.values → AllFollow (plan_rows l.plan) t cells past l.initial.state
+    → Latching l.plan.n t l.plan.words.now l.plan.registers.now (plan_rows l.plan) cells past l.initial.state l.state l.row-index

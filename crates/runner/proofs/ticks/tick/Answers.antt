@@ -1,24 +1,29 @@
 use Rattle.runner.proofs.Ticking.{stops, latches}
-use Rattle.runner.proofs.Tabled.{plain_table}
-use Rattle.runner.specs.Private.Ready.{rows_in}
+use Rattle.runner.proofs.Plans as plans
+use Rattle.runner.specs.Private.Plans.{plan_rows}
 use Rattle.semantics.specs.Runs.{flows_from, tick_of}
 use Rattle.std.proofs.Common.{[]}
+use Rattle.std.proofs.lemmas.Result.{err_from_is_err_and}
 use Rattle.runner.proofs.ticks.tick.Goals as goal
 
-pub returns-in-Stopped : goal.returns-in-Stopped
+pub returns-in_err-flows : goal.returns-in_err-flows
 unfolding tick_of
-returns-in-Stopped c =
-    let args = c.args in
-    λ past R. stops (rows_in args.n args.words.now) args.t past args.marks.now args.values.now _ _ _ args.state.now
-    (flows_from (rows_in args.n args.words.now) args.log.now past [] (rows_in args.n args.words.now)) _ _
-    (c.flows.ensures past R) c.in-Stopped.is
+returns-in_err-flows c =
+    let a = c.args in
+    let p = a.plan in
+    let e = err_from_is_err_and c.from_residual.result c.from_residual.ensures.1 in
+    λ past R. rw (e.1, e.2)
+    (stops (plan_rows p) a.t past a.marks.now a.values.now _ _ _ a.state.now
+    (flows_from (plan_rows p) p.log.now past [] (plan_rows p)) _ _
+    (c.flows.ensures past R) c.in_err-flows.was)
 
-pub returns-in-Full : goal.returns-in-Full
+pub returns : goal.returns
 unfolding tick_of
-returns-in-Full c =
-    let args = c.args in
-    λ past R. latches (rows_in args.n args.words.now) args.t past args.marks.now args.values.now _ _ _ _ args.n
-    (plain_table args.n args.words.now c.requires.0).size
-    (flows_from (rows_in args.n args.words.now) args.log.now past [] (rows_in args.n args.words.now)) _ _
-    (c.flows.ensures past R) c.in-Full.is
-    (λ cells ms vs z w F. c.latch.ensures past cells ms vs args.t z w F)
+returns c =
+    let a = c.args in
+    let p = a.plan in
+    λ past R. latches (plan_rows p) a.t past a.marks.now a.values.now _ _ _ _ p.n
+    (plans.table p).size
+    (flows_from (plan_rows p) p.log.now past [] (plan_rows p)) _ _
+    (c.flows.ensures past R) c.in_ok-flows.was
+    (λ cells ms vs z w F. c.latch.ensures past cells ms vs a.t z w F)

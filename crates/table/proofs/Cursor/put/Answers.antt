@@ -3,14 +3,11 @@ use mathlib.Core.List.{List, ◌++◌}
 use Prim.Native.Nat.{ℕ, ◌+◌, ◌-◌, ◌/◌, ◌%◌, ◌<◌}
 use native.Mathlib.Nat.{mod-lt, zero-lt-suc}
 use native.Mathlib.Omega.{arith}
-use lib.ListN.{get_or, take, drop}
+use lib.ListN.{length, get_or, take, drop}
 use Rattle.table.specs.Private.Laid.{nine}
 use Rattle.table.proofs.Puts.{nine_word, put_law}
 use Rattle.table.proofs.Cursor.put.Goals as goal
-use Rattle.table.proofs.Cursor.put.Goals.{then-i-size, else-i-size}
-
-pub overflow_cast-before : goal.overflow_cast-before
-overflow_cast-before c = omega (arith, c.slice_known-2-1.given (c.args.self.at / 8))
+use Rattle.table.proofs.Cursor.put.Goals.{then-i-out, else-i-out}
 
 pub returns : goal.returns
 returns c =
@@ -21,14 +18,14 @@ returns c =
     let b : get_or out i 0 < 256 = omega (arith, c.slice_known-2-1.given i) in
     let e = nine_word (get_or out i 0) (a.self.at % 8) a.w a.v b (mod-lt a.self.at (zero-lt-suc 7)) (omega arith) p.3 in (
       refl,
-      elim c.if-i-size.branch [
-        | then-i-size w ↦
-            put_law a.size a.self.at a.w a.v 9 out p.3 p.4 p.5 (omega arith) (omega arith) (omega (arith, w.if-i-size.true)) c.if-i-size.out
-            (w.out-is ∙ w.store.ensures ∙ ap (λ (v : ℕ). take i out ++ (take 9 (nine v) ++ drop (i + 9) out)) e)
-        | else-i-size w ↦
+      elim c.if-i-out.branch [
+        | then-i-out w ↦
+            put_law (length out) a.self.at a.w a.v 9 out p.3 p.4 (omega arith) (omega arith) (omega arith) (omega (arith, w.if-i-out.true)) c.if-i-out.out
+            (w.out-is ∙ (rw c.from.ensures at w.store.ensures) ∙ ap (λ (v : ℕ). take i out ++ (take 9 (nine v) ++ drop (i + 9) out)) e)
+        | else-i-out w ↦
             (let n = w.byte_count.result - i in
             let end = w.byte_count.ensures in
-            put_law a.size a.self.at a.w a.v n out p.3 p.4 p.5 (omega (arith, end)) (omega (arith, end, w.if-i-size.false)) (omega (arith, end)) c.if-i-size.out
-            (w.out-is ∙ w.store-else-i-size.ensures ∙ ap (λ (v : ℕ). take i out ++ (take n (nine v) ++ drop (i + n) out)) e))
+            put_law (length out) a.self.at a.w a.v n out p.3 p.4 (omega arith) (omega (arith, end)) (omega (arith, end, w.if-i-out.false)) (omega (arith, end)) c.if-i-out.out
+            (w.out-is ∙ (rw c.from.ensures at w.store-else-i-out.ensures) ∙ ap (λ (v : ℕ). take i out ++ (take n (nine v) ++ drop (i + n) out)) e))
       ],
     )

@@ -12,7 +12,7 @@ use Rattle.table.proofs.bits.store.Goals as goal
 
 pub loop-k-init : goal.loop-k-init
 loop-k-init c =
-    let a = c.args in (search rules, refl, paste-zero a.out.now a.i (nine (a.x * 256 + a.y)))
+    let a = c.args in (refl, paste-zero a.out.now a.i (nine (a.x * 256 + a.y)))
 
 pub loop-k-preserved : goal.loop-k-preserved
 loop-k-preserved c =
@@ -20,14 +20,13 @@ loop-k-preserved c =
     let l = c.loop-k in
     let v : List ℕ = nine (a.x * 256 + a.y) in
     let b = c.byte_of in (
-      search rules,
-      length-set l.out (a.i + l.k) b.result ∙ l.invariant.1,
+      length-set l.out (a.i + l.k) b.result ∙ l.invariant.0,
       ap (set l.out (a.i + l.k)) (b.ensures ∙ sym (nine_at (a.x * 256 + a.y) l.k (omega arith)))
-          ∙ rw (l.invariant.2, add-one) (paste-suc a.out.now a.i v l.k 0 (omega arith) (omega arith)),
+          ∙ rw (l.invariant.1, add-one) (paste-suc a.out.now a.i v l.k 0 (omega arith) (omega arith)),
     )
 
 pub shape_of-out : goal.shape_of-out
-shape_of-out c = c.loop-k.invariant.1
+shape_of-out c = c.loop-k.invariant.0
 
 pub returns : goal.returns
 returns c =
@@ -35,4 +34,4 @@ returns c =
     let l = c.loop-k in
     let v : List ℕ = nine (a.x * 256 + a.y) in
     let e : l.k ≡ a.n = omega arith in
-    l.invariant.2 ∙ ap (paste a.out.now a.i v) e ∙ append_assoc (take a.i a.out.now) (take a.n v) (drop (a.i + a.n) a.out.now)
+    l.invariant.1 ∙ ap (paste a.out.now a.i v) e ∙ append_assoc (take a.i a.out.now) (take a.n v) (drop (a.i + a.n) a.out.now)

@@ -6,7 +6,4 @@ use Rattle.table.specs.Private.Laid.{nine}
 use Rattle.table.proofs.bits.store.Given as goal
 
 abbrev pub invariant-loop-k : goal.invariant-loop-k
-invariant-loop-k l = (l.k ≤ l.n) × (length l.out ≡ length l.initial.out) × (l.out ≡ paste l.initial.out l.i (nine (l.x * 256 + l.y)) l.k)
-
-abbrev pub decreases-loop-k : goal.decreases-loop-k
-decreases-loop-k l = l.n - l.k
+invariant-loop-k l = (length l.out ≡ length l.initial.out) × (l.out ≡ paste l.initial.out l.i (nine (l.x * 256 + l.y)) l.k)

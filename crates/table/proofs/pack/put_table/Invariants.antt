@@ -6,7 +6,4 @@ use Rattle.table.proofs.WriteLaws.{Putting}
 use Rattle.table.proofs.pack.put_table.Given as goal
 
 abbrev pub invariant-loop-row : goal.invariant-loop-row
-invariant-loop-row l = (l.row ≤ l.count) × (l.cursor.at ≤ 8 + longest_record * l.row) × (length l.out ≡ length l.initial.out) × Putting l.count l.row l.cursor.at l.size l.words l.out l.initial.out
-
-abbrev pub decreases-loop-row : goal.decreases-loop-row
-decreases-loop-row l = l.count - l.row
+invariant-loop-row l = (l.cursor.at ≤ 8 + longest_record * l.row) × (length l.out ≡ length l.fn.out) × Putting l.count l.row l.cursor.at (length l.fn.out) l.words l.out l.initial.out

@@ -8,11 +8,11 @@ use Rattle.table.proofs.plain.survey.Goals as goal
 
 pub returns-then-not-count_fits : goal.returns-then-not-count_fits
 unfolding table_by
-returns-then-not-count_fits c = rw (sym c.count_fits.ensures ∙ not-true c.count_fits.result c.if-not-count_fits.true-raw) (refl, tt)
+returns-then-not-count_fits c = rw (c.at.ensures, sym c.count_fits.ensures ∙ not-true c.count_fits.result c.if-not-count_fits.true-raw) (refl, tt)
 
 pub returns-then-words-count : goal.returns-then-words-count
 unfolding table_by
-returns-then-words-count c = rw (sym c.count_fits.ensures ∙ not-false c.count_fits.result c.if-not-count_fits.false-raw, ne_eqb _ _ c.if-words-count.true) (refl, tt)
+returns-then-words-count c = rw (c.at-then-words-count.ensures, sym c.count_fits.ensures ∙ not-false c.count_fits.result c.if-not-count_fits.false-raw, ne_eqb _ _ c.if-words-count.true) (refl, tt)
 
 pub survey_rows-requires : goal.survey_rows-requires
 survey_rows-requires c =

@@ -10,10 +10,7 @@ use Rattle.table.specs.Private.Codes.{bounds}
 use Rattle.table.proofs.plain.survey_rows.Given as goal
 
 abbrev pub invariant-loop-row : goal.invariant-loop-row
-invariant-loop-row l = (l.row ≤ l.count) × (l.bits ≤ 8 + longest_record * l.row) × (set l.bound 0 l.row ≡ bounds l.count l.row)
+invariant-loop-row l = (l.bits ≤ 8 + longest_record * l.row) × (set l.bound 0 l.row ≡ bounds l.count l.row)
     × (answer (λ rs. l.count) (rows_from l.rated l.count l.row (split (l.count - l.row) (drop (row_size * l.row) l.words)))
     ≡ answer (λ rs. l.count) (rows_from l.rated l.count 0 (split l.count l.words)))
     × (l.bits + length (rows_bits (split (l.count - l.row) (drop (row_size * l.row) l.words))) ≡ 8 + length (rows_bits (split l.count l.words)))
-
-abbrev pub decreases-loop-row : goal.decreases-loop-row
-decreases-loop-row l = l.count - l.row

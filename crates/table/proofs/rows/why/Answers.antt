@@ -15,7 +15,7 @@ returns-then-not-known c =
 pub all_within-requires : goal.all_within-requires
 all_within-requires c =
     let a = c.args in
-    (kind_is a.rated 0 0 (words_of a.r) (sym (c.known.ensures.0 a.rated c.barred_kind.ensures) ∙ not-false _ c.if-not-known.false-raw), refl, refl, refl)
+    kind_is a.rated 0 0 (words_of a.r) (sym (c.known.ensures.0 a.rated c.barred_kind.ensures) ∙ not-false _ c.if-not-known.false-raw)
 
 pub returns-then-all_within : goal.returns-then-all_within
 returns-then-all_within c =

@@ -22,4 +22,4 @@ returns c =
     let a = c.args in
     let p = c.requires in
     ended a.s.now a.at (c.up.result - a.at) p.0 p.1 (rw c.byte_count.ensures at c.if-byte_count-s.false)
-    (ap (λ n. n - a.at) c.up.ensures) c.in-Got.fill c.in-Got.field-1 (sym c.take.ensures ∙ ap taking_parts c.in-Got.is)
+    (ap (λ n. n - a.at) c.up.ensures) c.in-Some.fill c.in-Some.field-0-1 (sym c.take.ensures ∙ ap taking_parts c.in-Some.is)

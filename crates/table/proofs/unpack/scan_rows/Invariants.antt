@@ -9,8 +9,5 @@ use Rattle.table.proofs.unpack.scan_rows.Given as goal
 
 -- the place and the words are those of the rows so far; with the row's number at place 0, the list of bounds is that of the row
 abbrev pub invariant-loop-row : goal.invariant-loop-row
-invariant-loop-row l = (l.row ≤ l.count) × (l.cursor.at ≤ 8 + longest_record * l.row) × (l.cursor.at ≤ length (bits l.s)) × (length l.words ≡ length l.initial.words)
+invariant-loop-row l = (l.cursor.at ≤ 8 + longest_record * l.row) × (l.cursor.at ≤ length (bits l.s)) × (length l.words ≡ length l.initial.words)
     × (set l.bound 0 l.row ≡ bounds l.count l.row) × Unpacking (bits l.s) l.count l.row l.cursor.at l.words
-
-abbrev pub decreases-loop-row : goal.decreases-loop-row
-decreases-loop-row l = l.count - l.row
