@@ -6,8 +6,10 @@ use native.Mathlib.Decide.{dec_lt}
 use native.Mathlib.Omega.{arith}
 use mathlib.Core.Bool.{Bool, true, false, cond}
 use mathlib.Core.List.{List}
-use lib.ListN.{length, get_or, drop, set, length-set}
+use lib.ListN.{length, get_or, take, drop, set, replicate, length-set, length-replicate}
 use lib.Seq.{get_or-set_same, get_or-set_other, get_or-drop}
+use borrow.Rule.Slice.PartMut.{mid_of, put_mid, same_len_mid}
+use Rattle.std.proofs.lemmas.List.{length-take-le, length-drop, get_or-take, get_or-append_right, get_or_append_left, get_or-replicate}
 use Rattle.table.specs.Bits.{bit}
 use Rattle.table.proofs.Tests.{Tried, passed, failed, try}
 use Rattle.checker.specs.Clocks.{Clock}
@@ -61,6 +63,44 @@ module _ {m n p f c t v : ℕ} {given : ℕ → ℕ} {old new : List ℕ} (pos :
       }
 
 -- A BLOCK OF TICKS
+-- the cells of the block were filled with 0
+module _ (m begin end ticks : ℕ) (old part : List ℕ) (a : begin ≤ end) (b : end ≤ ticks) (fits : length old ≡ ticks * m)
+    (zeros : part ≡ replicate (length (mid_of (begin * m) (end * m - begin * m) old)) 0) where
+  abbrev new : List ℕ
+  new = put_mid (begin * m) (end * m - begin * m) old part
+
+  pub blank_size : length new ≡ ticks * m
+  blank_size = same_len_mid (begin * m) (end * m - begin * m) old part (ap length zeros ∙ length-replicate (length (mid_of (begin * m) (end * m - begin * m) old)) 0) ∙ fits
+
+  from_fits : begin * m ≤ end * m
+  from_fits = mul-le-mul_right m a
+
+  to_fits : end * m ≤ length old
+  to_fits = omega (arith, mul-le-mul_right m b, fits)
+
+  filled : part ≡ replicate (end * m - begin * m) 0
+  filled = zeros ∙ ap (λ (n : ℕ). replicate n 0) (length-take-le (end * m - begin * m) (drop (begin * m) old) (omega (arith, length-drop (begin * m) old, from_fits, to_fits)))
+
+  head : length (take (begin * m) old) ≡ begin * m
+  head = length-take-le (begin * m) old (omega (arith, from_fits, to_fits))
+
+  blank_inside : (i : ℕ) → begin * m ≤ i → i < end * m → get_or new i 0 ≡ 0
+  blank_inside i x y =
+      get_or-append_right (take (begin * m) old) _ (begin * m) i 0 head x
+      ∙ get_or_append_left part _ 0 (i - begin * m) (omega (arith, ap length filled, length-replicate {A = ℕ} (end * m - begin * m) 0))
+      ∙ ap (λ (l : List ℕ). get_or l (i - begin * m) 0) filled
+      ∙ get_or-replicate (end * m - begin * m) (i - begin * m) 0 0 (omega arith)
+
+  blank_before : (i : ℕ) → i < begin * m → get_or new i 0 ≡ get_or old i 0
+  blank_before i x = get_or_append_left (take (begin * m) old) _ 0 i (omega (arith, head)) ∙ get_or-take (begin * m) old i 0 x
+
+  pub blank : (want : ℕ → ℕ → ℕ) → FilledTo m begin want old → Filled m begin end 0 want new
+  blank want h = record {
+    early = record { before = λ t g x y. blank_before (t * m + g) (omega (arith, mul-le-mul_right m x, suc-mul t m)) ∙ h.before t g x y };
+    inside = λ t g x y z. absurd (omega arith);
+    beside = λ t g x y z u. blank_inside (t * m + g) (omega (arith, mul-le-mul_right m x)) (omega (arith, mul-le-mul_right m y, suc-mul t m));
+  }
+
 module _ (m : ℕ) (want : ℕ → ℕ → ℕ) where
   pub fill_all : (ticks begin : ℕ) (l : List ℕ) → ticks ≤ begin → length l ≡ ticks * m → FilledTo m begin want l → l ≡ cells_of m want ticks
   fill_all ticks begin l k e h = sym (cells_are m want ticks l e (λ t g x y. h.before t g (omega arith) y))

@@ -2,14 +2,13 @@
 // word are carried from block to block.
 ghost use Rattle.std.specs.Prelude.{◌≡◌, ◌+◌, ◌≤◌, ◌<◌, ◌^◌, length};
 ghost use Rattle.archive.specs.Traces.{stored_of, restored_mark, restored_value, cells_of};
-ghost use Rattle.archive.specs.Private.Steps.{Cleared};
 ghost use Rattle.archive.specs.Private.Plans.{clocks_of, words_of, IsTrace, after, due, CarriedBy, TakenBy, MarksPut, ValuesPut, StoredTo, MarksTo, ValuesTo};
 
 use crate::MAX_FLOWS;
 use crate::plan::{Next, Plan};
 
 // The ticks of a block: so many of all flows stay in the first cache.
-const BLOCK: u32 = 80;
+const BLOCK: u32 = 64;
 
 // Where a block of ticks ends.
 fn block_end(begin: u32, ticks: u32) -> u32
@@ -19,7 +18,8 @@ fn block_end(begin: u32, ticks: u32) -> u32
     (begin + BLOCK).min(ticks)
 }
 
-// Flow f's values, from its next due tick on and below `finish`, are stored from the place of its word on.
+// Flow f's values, from its next due tick on and below `finish`, are stored from the place of its word on. The tick at which it stops is carried
+// on, which a `for` by steps does not give.
 fn take_column(
     plan: &Plan,
     f: usize,
@@ -73,6 +73,7 @@ fn take_block(
 }
 
 // The values are stored, a block of ticks after the other, from each flow's first due tick and the place of its first word on.
+// A `while`: under `step_by` every invariant would speak of the lesser of a block's begin and the ticks.
 pub(crate) fn take_all(
     plan: &Plan,
     values: &[u32],
@@ -90,7 +91,8 @@ pub(crate) fn take_all(
     }
 }
 
-// Flow f's words, from the place of its next one on, are given back at its due ticks from the next one on and below `finish`.
+// Flow f's words, from the place of its next one on, are given back at its due ticks from the next one on and below `finish`, where it stops as
+// above. What a caller lends stays beside the plan here and below: a struct of lent slices would be made anew at every block.
 fn put_column(
     plan: &Plan,
     f: usize,
@@ -124,16 +126,6 @@ fn put_column(
     next.place = place;
 }
 
-// The cells from one place to another are made absent.
-fn clear(from: usize, to: usize, marks: &mut [u8], values: &mut [u32])
-    requires { (from ≤ to) × (to ≤ length marks.old) × (to ≤ length values.old) }
-    ensures marks { Cleared from to marks.old marks.new }
-    ensures values { Cleared from to values.old values.new }
-{
-    marks[from..to].fill(0);
-    values[from..to].fill(0);
-}
-
 // The cells of a block of ticks are made absent, and then filled flow by flow. Where the block ends.
 fn put_block(
     plan: &Plan,
@@ -156,12 +148,10 @@ fn put_block(
     ensures values { ValuesTo plan.now stored.now result values.new }
 {
     let finish = block_end(begin, plan.ticks);
-    clear(
-        (begin as usize) * plan.flows,
-        (finish as usize) * plan.flows,
-        marks,
-        values,
-    );
+    let from = (begin as usize) * plan.flows;
+    let to = (finish as usize) * plan.flows;
+    marks[from..to].fill(0);
+    values[from..to].fill(0);
     for f in 0..plan.flows {
         put_column(plan, f, &mut next[f], finish, stored, marks, values);
     }
@@ -169,6 +159,7 @@ fn put_block(
 }
 
 // The words are given back, a block of ticks after the other, from each flow's first due tick and the place of its first word on.
+// A `while`: under `step_by` every invariant would speak of the lesser of a block's begin and the ticks.
 pub(crate) fn put_all(
     plan: &Plan,
     stored: &[u32],

@@ -10,7 +10,7 @@ ghost use Rattle.archive.specs.Private.Plans.{clocks_of, IsTrace, PeriodsIn};
 use crate::MAX_FLOWS;
 use crate::plan::Plan;
 
-// 1 where two numbers are equal, else 0.
+// 1 where two numbers are equal, else 0: misfits are added without a branch.
 fn same(a: u32, b: u32) -> u32
     ensures value { result ≡ bit (eqb a b) }
     ensures upper_bound { result ≤ 1 }
@@ -18,16 +18,17 @@ fn same(a: u32, b: u32) -> u32
     u32::from(a == b)
 }
 
-// 0 where a cell is as its clock says, which is due (1) or not (0).
+// 0 where a cell is as its clock says, which is due (1) or not (0). Mark and value as C lends them.
 fn misfit(due: u32, mark: u8, value: u32) -> u32
     requires { due ≤ 1 }
     ensures result_value { eqb result 0 ≡ cell_fits (eqb due 1) mark value }
     ensures upper_bound { result ≤ 2 }
 {
-    (1 - same(mark as u32, due)) + (1 - due) * (1 - same(value, 0))
+    (1 - same(u32::from(mark), due)) + (1 - due) * (1 - same(value, 0))
 }
 
 // Whether the cells of tick t, from the place of its first one on, are as the next due ticks say; those that are due move on by their periods.
+// Marks and values are two slices, as C lends them.
 fn tick_fits(
     plan: &Plan,
     t: u32,
@@ -58,9 +59,11 @@ pub(crate) fn fits(plan: &Plan, marks: &[u8], values: &[u32]) -> bool
     requires { (IsTrace plan.now marks.now) × (IsTrace plan.now values.now) }
     ensures { result ≡ trace_fits (clocks_of plan.now) plan.now.flows marks.now values.now plan.now.ticks plan.now.flows }
 {
+    // Two arrays: so the compiler takes several cells at once.
     let mut periods = [0u32; MAX_FLOWS];
     let mut next = [0u32; MAX_FLOWS];
     plan.gather(&mut periods, &mut next);
+    // Carried, not multiplied out at each tick.
     let mut first = 0;
     for t in 0..plan.ticks {
         if !tick_fits(plan, t, first, &periods, marks, values, &mut next) {

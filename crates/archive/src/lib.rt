@@ -20,7 +20,7 @@ use table::{ROW_SIZE, Refusal, Refused};
 
 const MAX_FLOWS: usize = table::MAX_FLOWS as usize;
 
-// Whether a row of this kind samples, merges or views.
+// Whether a row of this kind samples, merges or views. By the number, as the table has it.
 fn samples(kind: u32) -> bool
     ensures { result ≡ calendar.samples kind }
 {

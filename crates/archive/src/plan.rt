@@ -6,7 +6,7 @@ ghost use Rattle.archive.specs.Private.Steps.{Sound};
 use crate::MAX_FLOWS;
 use checker::CLOCK_SIZE;
 
-// The words of a clock that are read here.
+// The words of a clock that are read here: by their place, as C reads them.
 const PERIOD: usize = 0;
 
 const PHASE: usize = 1;

@@ -14,7 +14,7 @@ ghost use Rattle.checker.specs.Private.Kept.{kept_at, given, combined, rule, fit
 use rules::{condition, every, faster, head, later, merged, same, sampled, slower, tail, viewed};
 use table::{ROW_SIZE, Record, Refusal, Refused, record_at, word_at};
 
-// A clock as the check keeps it. A condition is one word, and those that are not used are 0.
+// A clock as the check keeps it. A condition is one word, and those that are not used are 0: a list of as many as there are would need the heap.
 #[derive(Clone, Copy)]
 struct Clock {
     period: u32,
@@ -55,7 +55,7 @@ fn combined(a: &Clock, b: &Clock) -> Result<Clock, Refusal>
     Ok(*a)
 }
 
-// A row's clock from the clocks kept, or why it is refused: one decision over the kind.
+// A row's clock from the clocks kept, or why it is refused: one decision over the kind, in the paper's form.
 #[tactic(auto, unfolding(crate::specs::Private::Kept::rule, crate::specs::Private::Kept::rule_of, table::specs::Rows::kinds))]
 fn rule(row: Record, kept: &[Clock; FLOWS]) -> Result<Clock, Refusal>
     ensures { result ≡ rule (kept_at kept.now) row.kind row.one row.two row.three }
@@ -127,7 +127,7 @@ impl<'a> Plan<'a> {
         same(clock_at(kept, row.three), clock_at(kept, row.two))
     }
 
-    // The lowest register whose source has another clock than its beat.
+    // The lowest register whose source has another clock than its beat. A for: find takes 5 instructions a row more.
     fn bad_register(self, kept: &[Clock; FLOWS]) -> Option<u32>
         ensures { place result ≡ bad_register (fits_in kept.now) 0 (rows_of self.entry.count self.entry.words.now) }
     {
@@ -152,7 +152,7 @@ impl<'a> Plan<'a> {
     }
 }
 
-// Gives out a clock: the view periods apart from flows and truths.
+// Gives out a clock, as C reads it: the view periods apart from flows and truths. Word by word: copied from an array it takes 15 instructions more.
 fn give(k: &Clock, words: &mut [u32])
     requires { length words.old ≡ clock_size }
     ensures { words.new ≡ given k.now }

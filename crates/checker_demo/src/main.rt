@@ -3,7 +3,7 @@
 
 use std::io;
 
-// Writes the listing of a packed table.
+// Writes the listing of a packed table. As `list` does: programs share no code.
 fn show(rt: &impl Print, packed: &[u8]) -> io::Result<()> {
     let mut text = [0u8; lister::LONGEST];
     let Ok(size) = lister::listing(packed, &mut text) else {

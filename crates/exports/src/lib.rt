@@ -18,7 +18,7 @@ ghost use Rattle.exports.specs.Parts.{Given, answer_of};
 
 use table::Refused;
 
-// Gives an answer's parts out: the number returned, the others through pointers.
+// Gives an answer's parts out as C takes them: the number returned, the others through pointers.
 fn give(answered: Result<u32, Refused>, flow: &mut u32, tick: &mut u32, count: &mut u32) -> u32
     ensures { Given (parts answered) result flow.new tick.new count.new }
 {

@@ -4,11 +4,12 @@ use Prim.Native.Nat.{ℕ, ◌*◌, ◌≤◌, ◌<◌}
 use native.Mathlib.Decide.{dec_lt}
 use native.Mathlib.Omega.{arith}
 use mathlib.Core.Bool.{Bool, ◌&&◌}
-use mathlib.Core.List.{List}
+use mathlib.Core.List.{List, ◌++◌}
 use lib.Bits.{bit_and}
-use lib.ListN.{length, get_or, drop, length-append}
+use lib.ListN.{length, get_or, take, drop, length-append}
 use borrow.Author.Tests.{le-leb, lt-leb}
 use Rattle.std.specs.Prelude.{Err}
+use Rattle.std.proofs.lemmas.List.{get_or-take, length-take-le}
 use Rattle.table.specs.declared.Answer.{Answer}
 use Rattle.table.specs.declared.refusal.Refusal.{Refusal}
 use Rattle.table.specs.declared.refusal.Refusal.TheVariants.{NoRoom}
@@ -98,6 +99,9 @@ module _ (m : ℕ) (words : List ℕ) (room : ℕ) (wide : clock_size * max_flow
           let e : new ≡ over sets old = swept ∙ rw (reach_told m words (length old) p.rows p.is_table room_for) in
           rw e (omega (arith, length-append sets (drop (length sets) old), per_length (λ f. set_of (closure m words f) m) m))
 
+      pub first_sets : m ≡ length (take m new)
+      first_sets = sym (length-take-le m new sets_for)
+
       -- the input rows of a closure are what the flow feels
       kept : (inputs f : ℕ) → f < m → inputs ≡ set_of (input_at words) m → bit_and inputs (get_or new f 0) ≡ set_of (feels m words ks f) m
       unfolding feels
@@ -106,13 +110,19 @@ module _ (m : ℕ) (words : List ℕ) (room : ℕ) (wide : clock_size * max_flow
           ∙ set_and (input_at words) (closure m words f) m
           ∙ set_same _ _ m (λ g x. ap (λ (b : Bool). input_at words g && b) (sym (same_closure m words ks p f g l)))
 
-      pub done : (inputs : ℕ) (last : List ℕ) → inputs ≡ set_of (input_at words) m → last ≡ over (per_flow (λ f. bit_and inputs (get_or new f 0)) m) new → Felt m words old (success k) last
+      pub done : (inputs : ℕ) (last : List ℕ) → inputs ≡ set_of (input_at words) m
+          → last ≡ per_flow (λ f. bit_and inputs (get_or (take m new) f 0)) (length (take m new)) → Felt m words old (success k) (last ++ drop m new)
       done inputs last e x =
           let sets : List ℕ = felt_sets m words ks m in
           let r = reach_told m words (length old) p.rows p.is_table room_for in
           let f = felt_told m words (length old) ks are room_for in
           let size : length (sets_of m words m) ≡ length sets = per_length _ m ∙ sym (per_length _ m) in
-          let masked : per_flow (λ f. bit_and inputs (get_or new f 0)) m ≡ sets = per_same _ _ m (λ g l. kept inputs g l e) in (
+          let masked : last ≡ sets =
+          x ∙ ap (per_flow _) (sym first_sets) ∙ per_same _ _ m (λ g l. ap (bit_and inputs) (get_or-take m new g 0 l) ∙ kept inputs g l e) in (
             closed ∙ ap (answer length) r ∙ ap success size ∙ ap (answer length) (sym f),
-            x ∙ ap (λ (l : List ℕ). over l new) masked ∙ ap (over sets) (swept ∙ rw r) ∙ over_again sets (sets_of m words m) old (sym size) ∙ rw f,
+            ap (λ (l : List ℕ). l ++ drop m new) masked
+                ∙ ap (λ (i : ℕ). sets ++ drop i new) (sym (per_length _ m))
+                ∙ ap (over sets) (swept ∙ rw r)
+                ∙ over_again sets (sets_of m words m) old (sym size)
+                ∙ rw f,
           )

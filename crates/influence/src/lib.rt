@@ -3,7 +3,7 @@
 
 ghost use Rattle.std.specs.Prelude.{◌≡◌, ◌≤◌, length, get_or};
 ghost use Rattle.std.specs.Int.Bits.{bit_and};
-ghost use Rattle.table.specs.Answers.{over, parts};
+ghost use Rattle.table.specs.Answers.{parts};
 ghost use Rattle.table.specs.Rows.{max_flows};
 ghost use Rattle.table.specs.Plain.{per_flow};
 ghost use Rattle.reach.specs.Sets.{set_of};
@@ -29,12 +29,11 @@ fn inputs(n: u32, words: &[u32]) -> u64
     set
 }
 
-// Of each of the first n sets what is in another set too.
-fn keep(n: u32, kept: u64, sets: &mut [u64])
-    requires { n ≤ length sets.old }
-    ensures { sets.new ≡ over (per_flow (λ f. bit_and kept (get_or sets.old f 0)) n) sets.old }
+// Of each set what is in another set too.
+fn keep(kept: u64, sets: &mut [u64])
+    ensures { sets.new ≡ per_flow (λ f. bit_and kept (get_or sets.old f 0)) (length sets.old) }
 {
-    for set in &mut sets[..n as usize] {
+    for set in sets.iter_mut() {
         *set &= kept;
     }
 }
@@ -48,6 +47,6 @@ pub fn felt(count: u32, words: &[u32], sets: &mut [u64]) -> Result<u32, Refused>
     let mut clocks = [0u32; CLOCKS];
     checker::check(count, words, &mut clocks)?;
     let reached = reach::reach(count, words, sets)?;
-    keep(count, inputs(count, words), sets);
+    keep(inputs(count, words), &mut sets[..count as usize]);
     Ok(reached)
 }

@@ -27,7 +27,7 @@ struct Plan<'a> {
 // The words of the most flows.
 const WORDS: usize = ROW_SIZE * (MAX_FLOWS as usize);
 
-// Whether the check answers a plan with 21.
+// Whether the check answers a plan with 21. By its number: `checker::number` is public.
 fn differs(count: u32, words: &[u32]) -> bool
     ensures { result ≡ differing count words.now }
 {

@@ -21,7 +21,7 @@ pub(crate) fn rank(set: u64, f: u32) -> u32
     (set & ((1u64 << f) - 1)).count_ones()
 }
 
-// A field with its number in the set, where it is a flow.
+// A field with its number in the set, where it is a flow: a field that is none is kept, so it is no Option.
 fn moved(set: u64, on: bool, x: u32) -> u32
     ensures { result ≡ moved set on x }
 {
@@ -42,7 +42,7 @@ fn renumbered(set: u64, row: Record) -> Record
     }
 }
 
-// The flows of a part, from the first word on; their count.
+// The flows of a part, from the first word on; their count, which goes on only for a flow of the set.
 #[tactic(auto, using(crate::proofs::Numbers::below_le, crate::proofs::Numbers::below_lt))]
 pub(crate) fn store_flows(n: u32, set: u64, flows: &mut [u32]) -> u32
     requires few { n ≤ max_flows }
@@ -60,7 +60,8 @@ pub(crate) fn store_flows(n: u32, set: u64, flows: &mut [u32]) -> u32
     at
 }
 
-// The rows of a part, from the first word on; their count.
+// The rows of a part, from the first word on; their count. A loop of its own beside that of the flows: one walk for both would ask of every call
+// that there is room.
 #[tactic(auto, using(crate::proofs::Numbers::below_le))]
 pub(crate) fn store_rows(n: u32, words: &[u32], set: u64, rows: &mut [u32]) -> u32
     requires few { n ≤ max_flows }

@@ -5,7 +5,7 @@
 use std::io;
 use table::Refused;
 
-// A line with the four parts of an answer, and the words of a buffer.
+// A line with the four parts of an answer, and the words of a buffer. As `rates_demo` has it: programs share no code.
 fn line(rt: &impl Print, answered: Result<u32, Refused>, words: &[u32]) -> io::Result<()> {
     let answer = table::parts(answered);
     print!(rt; "{answer}:")?;

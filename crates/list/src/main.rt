@@ -11,7 +11,8 @@ use std::process::ExitCode;
 // One byte more than the longest table has: it decides every longer input.
 const ROOM: usize = table::LONGEST_TABLE + 1;
 
-// Reads to the end of the input, or until the buffer is full, and answers how many bytes it read.
+// Reads to the end of the input, or until the buffer is full, and answers how many bytes it read. A read may give fewer than there is room for, and
+// `read_to_end` would take memory.
 fn read_all(input: &mut impl Read, packed: &mut [u8]) -> io::Result<usize>
     ensures { IfOk result (λ size. Within size packed.new) }
 {
@@ -26,7 +27,7 @@ fn read_all(input: &mut impl Read, packed: &mut [u8]) -> io::Result<usize>
     Ok(size)
 }
 
-// Writes the listing of a packed table.
+// Writes the listing of a packed table. As `checker_demo` does: programs share no code.
 fn list(rt: &impl Print, packed: &[u8]) -> io::Result<()> {
     let mut text = [0u8; lister::LONGEST];
     let Ok(size) = lister::listing(packed, &mut text) else {

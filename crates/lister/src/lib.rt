@@ -85,7 +85,7 @@ fn put_conditions(writer: &mut Writer, words: &[u32], n: u32)
     }
 }
 
-// Writes the line of flow f by the words of its clock.
+// Writes the line of flow f by the words of its clock, read by their place, as C reads them.
 fn put_line(writer: &mut Writer, f: u32, clock: &[u32])
     requires { 3 ≤ length clock.now }
     ensures { Writes (clock_text f clock.now) writer.old writer.new }

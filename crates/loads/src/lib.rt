@@ -70,7 +70,7 @@ fn put_total(writer: &mut Writer, sum: u32)
 impl Flows<'_> {
     ghost use Rattle.loads.specs.Private.Words.{line_at, lines_of, line_by};
 
-    // The load of flow f.
+    // The load of flow f. Here and below a clock's words are read by their place, as C reads them.
     fn load_of(&self, f: u32) -> u32
         requires { f < max_flows }
         ensures value { result ≡ load (line_at self.now f) }
@@ -80,7 +80,7 @@ impl Flows<'_> {
         load(worst, word_at(self.clocks, CLOCK_SIZE * (f as usize)))
     }
 
-    // The sum of the loads.
+    // The sum of the loads. A for: that the sum fits is known of the loads so far.
     fn sum(&self) -> u32
         ensures { result ≡ total (lines_of self.now) }
     {

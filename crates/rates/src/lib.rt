@@ -24,7 +24,7 @@ const WORDS: usize = ROW_SIZE * FLOWS;
 // What is known of the rates of the flows.
 type Rates = [Option<Rate>; FLOWS];
 
-// One step between the result of row f and flow a, where the test is passed: whether it adds a rate.
+// One step between the result of row f and flow a, where the test is passed, which tells whether a field holds a flow: whether it adds a rate.
 fn join(rates: &mut Rates, r: Record, f: u32, on: bool, a: u32) -> bool
     requires { (r.kind < kind_count) × (f < max_flows) × (on ≡ true → a < max_flows) }
     ensures { Stepped on (row_made (words_of r)) f a rates.old result rates.new }
@@ -60,7 +60,7 @@ fn join_fields(kind: u32) -> FlowFields
     }
 }
 
-// Whether the check accepts the table in the first rows.
+// Whether the check accepts the table in the first rows. By its number: `checker::number` is public.
 fn accepted(count: u32, rows: &[u32]) -> bool
     requires { row_size * count ≤ length rows.now }
     ensures { result ≡ eqb (check_number count (take (row_size * count) rows.now)) 0 }
@@ -114,7 +114,7 @@ impl Draft<'_> {
         rates
     }
 
-    // Spreads the rates of the rated rows until nothing is left to spread.
+    // Spreads the rates of the rated rows until nothing is left to spread: how many passes that takes is not known before.
     fn spread(self) -> Rates
         ensures { Settled self.entry.count self.entry.words.now result }
     {

@@ -21,7 +21,8 @@ pub(crate) const NO_RATE: Rate = Rate {
     phase: 0,
 };
 
-// A period and a phase where the test is passed and an accepted clock may have them; else the rate that no flow has.
+// A period and a phase where the test (data, no choice of a step) is passed and an accepted clock may have them; else the rate that no flow has,
+// which counts as known: 39 is for flows that are joined to no rate.
 fn given(test: bool, period: u64, phase: u64) -> Rate
     ensures { result ≡ given test period phase }
 {
@@ -34,7 +35,8 @@ fn given(test: bool, period: u64, phase: u64) -> Rate
     NO_RATE
 }
 
-// From the rate of a flow with which a row joins its result to that of the result. A flow gets its rate once, so this stands out of the loop of a pass.
+// From the rate of a flow with which a row joins its result to that of the result. A flow gets its rate once, so this stands out of the loop of a
+// pass. The kinds are numbers, as in the words of a row.
 #[tactic(auto, unfolding(table::specs::Rows::kinds))]
 #[inline(never)]
 pub(crate) fn rise(r: Record, rate: Rate) -> Rate
@@ -79,7 +81,7 @@ pub(crate) fn fall(r: Record, rate: Rate) -> Rate
     }
 }
 
-// The rate of a rated row.
+// The rate of a rated row. Over the number itself: the words lent may hold any.
 pub(crate) fn begin(r: Record) -> Option<Rate>
     ensures { result ≡ begun (words_of r) }
 {

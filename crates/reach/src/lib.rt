@@ -21,7 +21,7 @@ pub fn has(set: u64, flow: u32) -> bool
     (set >> flow) % 2 == 1
 }
 
-// A set, and flow x with it where the test is passed.
+// A set, and flow x with it where the test is passed. The test is handed in, since each caller has one.
 pub fn with_flow(set: u64, on: bool, x: u32) -> u64
     ensures { result ≡ with_flow set on x }
 {

@@ -11,14 +11,23 @@ use Rattle.semantics.specs.Operators.{Step, is, clashes}
 use Rattle.semantics.specs.Runs.{Tick, Ticks, cell_in, history, inputs, cell_of, TickEnd, filled, stopped, on_step, flows_from}
 use Rattle.semantics.specs.Answers.{mark_byte}
 use Rattle.runner.specs.declared.carried.Held.{Held}
-use Rattle.runner.specs.Private.Carried.{clash_mark, outcome_of, held_at, cells_in, step_of, next_of, Did}
+use Rattle.runner.specs.Private.Carried.{clash_mark, outcome_of, mark_of, value_of, held_at, cells_in, step_of, next_of, Did}
 use Rattle.runner.specs.Private.Ready.{Carries, Collected, Follows, AllCarry, AllFollow, Ready, Wrote, FlowsEnd}
 use Rattle.runner.proofs.Written.{wrote_more, here_is}
 use Rattle.runner.proofs.Tabled.{words_at, made_of, RowAt, row_of_lem}
 use Rattle.runner.proofs.Steps.{row_steps, row_follows, follows_on}
 
+-- the mark and the value of an outcome that is a cell
+mark_is : (c : Cell) → mark_of (outcome_of (is c)) ≡ mark_byte c
+mark_is absent = refl
+mark_is (present v) = refl
+
+value_is : (c : Cell) → value_of (outcome_of (is c)) ≡ value c
+value_is absent = refl
+value_is (present v) = refl
+
 -- what an outcome tells of the step
-clash_told : (x : Step) → (outcome_of x).mark ≡ clash_mark → x ≡ clashes
+clash_told : (x : Step) → mark_of (outcome_of x) ≡ clash_mark → x ≡ clashes
 clash_told (is absent) e = absurd (omega (arith, e))
 clash_told (is (present v)) e = absurd (omega (arith, e))
 clash_told clashes e = refl
@@ -27,7 +36,7 @@ record Told (x : Step) : Type 0 where
   pub cell : Cell
   pub told : x ≡ is cell
 
-cell_told_lem : (x : Step) → ((outcome_of x).mark ≡ clash_mark → ⊥) → Told x
+cell_told_lem : (x : Step) → (mark_of (outcome_of x) ≡ clash_mark → ⊥) → Told x
 cell_told_lem (is c) u = record { cell = c; told = refl }
 cell_told_lem clashes u = absurd (u refl)
 
@@ -97,9 +106,9 @@ module _ (n : ℕ) (words log : List ℕ) (rows : List Row) (T : Table n words r
         abbrev s' : List Held
         s' = set s f h
 
-        pub stops : (ms' vs' : List ℕ) → r.mark ≡ clash_mark → ms' ≡ ms → vs' ≡ vs → FlowsEnd rows t past (flows_from rows log past [] rows) ms₀ vs₀ ms' vs' s' (Err f)
+        pub stops : (ms' vs' : List ℕ) → mark_of r ≡ clash_mark → ms' ≡ ms → vs' ≡ vs → FlowsEnd rows t past (flows_from rows log past [] rows) ms₀ vs₀ ms' vs' s' (Err f)
         stops ms' vs' e em ev =
-            let c : cell_of rows log past G.now (row_at rows f) ≡ clashes = sym step_is ∙ sym near ∙ clash_told _ (ap (λ (o : Outcome). o.mark) (sym D.answer) ∙ e) in
+            let c : cell_of rows log past G.now (row_at rows f) ≡ clashes = sym step_is ∙ sym near ∙ clash_told _ (ap mark_of (sym D.answer) ∙ e) in
             let q : flows_from rows log past [] rows ≡ stopped (length G.now) G.now =
             unroll ∙ ap (λ (x : Step). on_step x G.now (λ c. flows_from rows log past (G.now ++ (c ∷ [])) (drop (suc f) rows))) c in
             subst (λ (x : TickEnd). FlowsEnd rows t past x ms₀ vs₀ ms' vs' s' (Err f)) (sym q)
@@ -143,9 +152,10 @@ module _ (n : ℕ) (words log : List ℕ) (rows : List Row) (T : Table n words r
                 (subst (λ (i : ℕ). Follows rows f (row_at rows f) i G.now past (next_of (row_at rows f) (length past) (cell_in G.now) (held_at s f))) R.ticks
                 (row_follows n f rows log past G.now (held_at s f) at (row_at rows f) c row.fits carried collected (sym near ∙ e)))))
 
-        pub goes_on : (ms' vs' : List ℕ) → (r.mark ≡ clash_mark → ⊥) → f < length ms₀ → f < length vs₀ → ms' ≡ set ms f r.mark → vs' ≡ set vs f r.value
+        pub goes_on : (ms' vs' : List ℕ) → (mark_of r ≡ clash_mark → ⊥) → f < length ms₀ → f < length vs₀ → ms' ≡ set ms f (mark_of r) → vs' ≡ set vs f (value_of r)
             → Going rows log past t s₀ ms₀ vs₀ s' ms' vs' (f + 1)
         goes_on ms' vs' u lm lv em ev =
-            let k = cell_told_lem _ (λ e. u (ap (λ (o : Outcome). o.mark) D.answer ∙ e)) in
+            let k = cell_told_lem _ (λ e. u (ap mark_of D.answer ∙ e)) in
             let a : r ≡ outcome_of (is k.cell) = D.answer ∙ ap outcome_of k.told in
-            grown k.cell ms' vs' k.told lm lv (em ∙ ap (λ (o : Outcome). set ms f o.mark) a) (ev ∙ ap (λ (o : Outcome). set vs f o.value) a)
+            grown k.cell ms' vs' k.told lm lv (em ∙ ap (λ (o : Outcome). set ms f (mark_of o)) a ∙ ap (set ms f) (mark_is k.cell))
+            (ev ∙ ap (λ (o : Outcome). set vs f (value_of o)) a ∙ ap (set vs f) (value_is k.cell))

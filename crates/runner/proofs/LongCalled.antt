@@ -10,8 +10,9 @@ use Rattle.table.specs.Rows.{Row, max_flows}
 use Rattle.table.specs.Plain.{table_of, rows_in as goodRows}
 use Rattle.table.proofs.Tables.{rows_good, table_made}
 use Rattle.checker.specs.Rules.{clocks_of}
-use Rattle.checker.specs.Answers.{clock_size, clocks_for, check_answer}
-use Rattle.checker.proofs.Bounds.{accepted_rows, told_refusal}
+use Rattle.checker.specs.Answers.{clock_size, clocks_for, checking, check_answer}
+use Rattle.checker.proofs.Bounds.{accepted_rows, checked_within, told_refusal}
+use Rattle.table.proofs.AnswerLaws.{told_ok}
 use Rattle.semantics.specs.Runs.{inputs}
 use Rattle.semantics.specs.Windows.{tally_size, Tallied}
 use Rattle.semantics.proofs.Tallies.{tallied_from}
@@ -98,6 +99,12 @@ unfolding rows_in Clocked
 accepted m words room r e z =
     let x = accepted_rows m words room (ap (λ (a : Answer). a.number) (sym e) ∙ z) in
     (plain m words (rows_good true m words x.0 x.2), (x.1, ap (λ (y : Result (List Row)). clocks_of (goodRows y)) x.2 ∙ x.3))
+
+-- a check that accepts a plan counts its flows
+pub counted : (m : ℕ) (words : List ℕ) (room n : ℕ) → parts (Ok n) ≡ check_answer m words room → n ≡ m
+counted m words room n e =
+    let x = told_ok length (checking m words room) n e in
+    x.1.1 ∙ (checked_within m words room x.0 x.1.0).0
 
 -- what follows on table and check
 module _ (m : ℕ) (log : List ℕ) (ticks a b c : ℕ) where

@@ -1,9 +1,10 @@
 -- The words that the rows carry into tick 0. Assumes nothing.
-use Rattle.std.proofs.Common.{◌≡◌, ℕ, zero, suc, ◌+◌, ◌*◌, ◌<◌, ◌≤◌, Bool, true, false, eqb, List, [], ◌∷◌, length, get_or, set, take, sym}
+use Rattle.std.proofs.Common.{◌≡◌, ℕ, zero, suc, ◌+◌, ◌<◌, ◌≤◌, Bool, true, false, eqb, List, [], ◌∷◌, length, set, take, sym}
 use Rattle.std.proofs.Common.{refl, ap, ◌∙◌, subst, ⊎_elim, eq-or-lt_of_le, add-one, arith, take_all, get_or-set_other, get_or-set_same}
 use native.Mathlib.Nat.{zero-mod}
 use lib.Seq.{take-length}
-use Rattle.table.specs.Rows.{Row, input, constant, combine, register, faster, slower, later, head, tail, sample, merge, unrated, view, row_size}
+use Rattle.table.specs.Plain.{row_words}
+use Rattle.table.specs.Rows.{Row, Words, input, constant, combine, register, faster, slower, later, head, tail, sample, merge, unrated, view}
 use Rattle.table.specs.Bits.{bit}
 use Rattle.table.specs.Tables.{Fits, row_at}
 use Rattle.table.proofs.Tables.{Table}
@@ -12,7 +13,7 @@ use Rattle.semantics.specs.Runs.{history, inputs, is_input}
 use Rattle.runner.specs.declared.carried.Held.{Held}
 use Rattle.runner.specs.Private.Carried.{held_at, start_word, start_of}
 use Rattle.runner.specs.Private.Ready.{unseen, never, waiting, Carries, AllCarry}
-use Rattle.runner.proofs.Tabled.{words_at, made_of, RowAt, row_of_lem}
+use Rattle.runner.proofs.Tabled.{words_at, made_of, words_read, RowAt, row_of_lem}
 use Rattle.runner.proofs.Histories.{timed_starts}
 
 row_starts : (m f : ℕ) (rows : List Row) (row : Row) → Fits m f row → Carries rows f row 0 (history []) (start_of row (inputs (take f rows)))
@@ -61,12 +62,14 @@ module _ (n : ℕ) (words : List ℕ) (rows : List Row) (T : Table n words rows)
   starts s = record { before = refl; set = λ g l. absurd (omega arith) }
 
   pub goes_on :
-      (s : List Held) (h : Held) (f j j' : ℕ) → f < n → f < length s → Starting rows s f j → h ≡ start_of (made_of (words_at words f)) j
-      → j' ≡ j + bit (eqb (get_or words (row_size * f) 0) 0) → Starting rows (set s f h) (f + 1) j'
-  goes_on s h f j j' l room S q e =
+      (s : List Held) (h : Held) (w : Words) (f j j' : ℕ) → f < n → f < length s → Starting rows s f j → w ≡ row_words words f
+      → h ≡ start_of (made_of w) j → j' ≡ j + bit (eqb w.kind 0) → Starting rows (set s f h) (f + 1) j'
+  goes_on s h w f j j' l room S is q e =
+      let u : w ≡ words_at words f = words_read words f w is in
       let r : RowAt n words (row_at rows f) f = row_of_lem n words rows T f l in
+      let known : bit (eqb w.kind 0) ≡ bit (is_input (row_at rows f)) = ap (λ (i : Words). bit (eqb i.kind 0)) u ∙ ap bit (sym r.is_input_lem) in
       record {
-        before = omega (arith, e, S.before, ap bit r.is_input_lem, ap (λ (i : ℕ). inputs (take i rows)) (add-one f), inputs_step rows f (omega (arith, T.size)));
+        before = omega (arith, e ∙ ap (λ (i : ℕ). j + i) known, S.before, ap (λ (i : ℕ). inputs (take i rows)) (add-one f), inputs_step rows f (omega (arith, T.size)));
         set = λ g b. ⊎_elim (same r g) (below g) (eq-or-lt_of_le {n = g} {m = f} (omega arith));
       }
     where
@@ -80,6 +83,7 @@ module _ (n : ℕ) (words : List ℕ) (rows : List Row) (T : Table n words rows)
           (sym
           (get_or-set_same s f h _ room
           ∙ q
+          ∙ ap (λ (i : Words). start_of (made_of i) j) (words_read words f w is)
           ∙ ap (λ (i : Row). start_of i j) r.made
           ∙ ap (λ (i : ℕ). start_of (row_at rows f) i) S.before))
           (row_starts n f rows (row_at rows f) r.fits))

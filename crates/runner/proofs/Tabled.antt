@@ -2,7 +2,7 @@
 use Rattle.std.proofs.Common.{◌≡◌, ℕ, ◌+◌, ◌*◌, ◌<◌, Bool, true, false, eqb, List, get_or, sym, ap, ◌∙◌, subst, ne_eqb}
 use Rattle.table.specs.Rows.{Row, kind_count, kind_at, decode, max_flows, row_size, Words, on_register}
 use Rattle.table.specs.Answers.{good}
-use Rattle.table.specs.Plain.{table_of}
+use Rattle.table.specs.Plain.{table_of, row_words}
 use Rattle.table.specs.Tables.{row_at, FieldsFit, Fits}
 use Rattle.table.proofs.Tables.{Made, fields_fit, fit_more, row_fits, Table, table_made, four_read}
 use Rattle.table.proofs.Registers.{register_by}
@@ -25,6 +25,10 @@ words_at words f =
 
 abbrev pub made_of : Words → Row
 made_of w = decode w.kind w.one w.two w.three
+
+-- the same as a row is read at once
+pub words_read : (words : List ℕ) (f : ℕ) (w : Words) → w ≡ row_words words f → w ≡ words_at words f
+words_read words f w e = e ∙ sym (four_read words (row_size * f))
 
 pub plain_table : (m : ℕ) (words : List ℕ) → Plain m words → Table m words (rows_in m words)
 plain_table m words P = table_made m words (rows_in m words) P.rows

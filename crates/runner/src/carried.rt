@@ -9,10 +9,12 @@ ghost use Rattle.runner.specs.Private.Carried.{cell_at, status, noted, view_next
 ghost use Rattle.runner.specs.Private.Plans.{cells_of};
 
 use crate::cells::Cells;
-use crate::operators::{ABSENT, CLASH, Outcome};
+use crate::operators::Outcome;
+use table::MAX_FLOWS;
 
 // The words that a row carries from tick to tick. Which of them a row uses, and what they say, is told at its operator; none uses the fourth.
 // With four words, as many as a row has in the table, one count of bytes serves for the rows and for what they carry: two instructions a cell.
+// Where 0 stands for none yet (a faster row's z, a head's x, a view's x and z), or 1 for none to come (a head's x): an Option would take a word more.
 #[derive(Clone, Copy)]
 pub(crate) struct Held {
     pub(crate) x: u32,
@@ -20,6 +22,9 @@ pub(crate) struct Held {
     pub(crate) z: u32,
     pub(crate) spare: u32,
 }
+
+// What all rows carry. The length is the most flows' whatever the table: so it is known wherever a state is lent.
+pub(crate) type State = [Held; MAX_FLOWS as usize];
 
 pub(crate) const NOTHING: Held = Held {
     x: 0,
@@ -36,16 +41,13 @@ pub(crate) fn input(t: u32, period: u32, log: &[u32], at: usize, held: &mut Held
 {
     if t == held.x {
         held.x = t + period;
-        Outcome {
-            mark: 1,
-            value: table::word_at(log, at + (held.y as usize)),
-        }
+        Outcome::Present(table::word_at(log, at + (held.y as usize)))
     } else {
-        ABSENT
+        Outcome::Absent
     }
 }
 
-// Constant: x is the next tick at which it is present.
+// Constant: x is the next tick at which it is present. Apart from an input, whose word is looked up only where it is present.
 pub(crate) fn constant(t: u32, value: u32, period: u32, held: &mut Held) -> Outcome
     requires { (t < 2 ^ 24) × (period < 2 ^ 12) }
     ensures answer { result ≡ outcome_of (timed_step t value held.old) }
@@ -53,9 +55,9 @@ pub(crate) fn constant(t: u32, value: u32, period: u32, held: &mut Held) -> Outc
 {
     if t == held.x {
         held.x = t + period;
-        Outcome { mark: 1, value }
+        Outcome::Present(value)
     } else {
-        ABSENT
+        Outcome::Absent
     }
 }
 
@@ -68,7 +70,7 @@ fn begin(t: u32, v: u32, k: u32, gap: u32, held: &mut Held) -> Outcome
     held.x = v;
     held.y = t + gap;
     held.z = t + k * gap;
-    Outcome { mark: 1, value: v }
+    Outcome::Present(v)
 }
 
 // The copy of a faster row's latest presence, at its tick.
@@ -79,12 +81,9 @@ fn copied(t: u32, gap: u32, held: &mut Held) -> Outcome
 {
     if t == held.y && held.y < held.z {
         held.y = t + gap;
-        Outcome {
-            mark: 1,
-            value: held.x,
-        }
+        Outcome::Present(held.x)
     } else {
-        ABSENT
+        Outcome::Absent
     }
 }
 
@@ -100,7 +99,7 @@ pub(crate) fn faster(t: u32, cells: Cells, a: u32, k: u32, gap: u32, held: &mut 
     } else if held.z == 0 || t == held.z {
         begin(t, cells.values[j], k, gap, held)
     } else {
-        CLASH
+        Outcome::Clash
     }
 }
 
@@ -112,18 +111,15 @@ pub(crate) fn slower(cells: Cells, a: u32, k: u32, held: &mut Held) -> Outcome
 {
     let j = a as usize;
     if cells.marks[j] == 0 {
-        return ABSENT;
+        return Outcome::Absent;
     }
     let left = held.x;
     if left == 0 {
         held.x = k - 1;
-        Outcome {
-            mark: 1,
-            value: cells.values[j],
-        }
+        Outcome::Present(cells.values[j])
     } else {
         held.x = left - 1;
-        ABSENT
+        Outcome::Absent
     }
 }
 
@@ -134,12 +130,9 @@ fn same(cells: Cells, a: u32) -> Outcome
 {
     let j = a as usize;
     if cells.marks[j] == 0 {
-        ABSENT
+        Outcome::Absent
     } else {
-        Outcome {
-            mark: 1,
-            value: cells.values[j],
-        }
+        Outcome::Present(cells.values[j])
     }
 }
 
@@ -152,12 +145,9 @@ pub(crate) fn later(d: u32, cells: Cells, a: u32, held: &Held) -> Outcome
         return same(cells, a);
     }
     if held.x == 0 {
-        ABSENT
+        Outcome::Absent
     } else {
-        Outcome {
-            mark: 1,
-            value: held.y,
-        }
+        Outcome::Present(held.y)
     }
 }
 
@@ -169,16 +159,16 @@ fn after(t: u32, x: u32, s: u32, held: &mut Held) -> Outcome
 {
     if held.x == 0 {
         held.x = t + (t - s);
-        return Outcome { mark: 1, value: x };
+        return Outcome::Present(x);
     }
     if held.x == 1 {
-        return Outcome { mark: 1, value: x };
+        return Outcome::Present(x);
     }
     if t == held.x {
         held.x = 1;
-        Outcome { mark: 1, value: x }
+        Outcome::Present(x)
     } else {
-        CLASH
+        Outcome::Clash
     }
 }
 
@@ -191,12 +181,12 @@ pub(crate) fn head(t: u32, cells: Cells, a: u32, v: u32, s: u32, held: &mut Held
     let j = a as usize;
     if cells.marks[j] == 0 {
         if t == s {
-            Outcome { mark: 1, value: v }
+            Outcome::Present(v)
         } else {
-            ABSENT
+            Outcome::Absent
         }
     } else if t <= s {
-        CLASH
+        Outcome::Clash
     } else {
         after(t, cells.values[j], s, held)
     }
@@ -210,16 +200,13 @@ pub(crate) fn tail(cells: Cells, a: u32, held: &mut Held) -> Outcome
 {
     let j = a as usize;
     if cells.marks[j] == 0 {
-        return ABSENT;
+        return Outcome::Absent;
     }
     if held.x == 0 {
         held.x = 1;
-        ABSENT
+        Outcome::Absent
     } else {
-        Outcome {
-            mark: 1,
-            value: cells.values[j],
-        }
+        Outcome::Present(cells.values[j])
     }
 }
 
@@ -252,9 +239,9 @@ fn note(t: u32, here: u32, held: Held) -> Held
     }
 }
 
-// The words of a view after tick t; whether a is present is given, and the status of c's cell. Before a's first presence x is 0; z is 0, or from
-// c's first presence on the status of that cell, and y its tick. From then on x is the next tick at which c is looked at anew, y by how many
-// ticks c began before a, and z the status that governs.
+// The words of a view after tick t; whether a is present is given (data, no choice of a step), and the status of c's cell. Before a's first
+// presence x is 0; z is 0, or from c's first presence on the status of that cell, and y its tick. From then on x is the next tick at which c is
+// looked at anew, y by how many ticks c began before a, and z the status that governs.
 fn watch(w: u32, t: u32, present: bool, here: u32, held: Held) -> Held
     requires { (t < 2 ^ 24) × (w < 2 ^ 12) }
     ensures { result ≡ view_next w t «present» here held }
@@ -280,24 +267,24 @@ fn watch(w: u32, t: u32, present: bool, here: u32, held: Held) -> Held
     held
 }
 
-// A cell by the status that governs it.
+// A cell by the status that governs it. It is given by its mark and value, as it stands in what C lends.
 fn governed(truth: bool, mark: u8, value: u32, held: Held) -> Outcome
     ensures { result ≡ outcome_of (view_step truth (cell_at mark value) held) }
 {
     if mark == 0 {
-        return ABSENT;
+        return Outcome::Absent;
     }
     if held.z == 0 {
-        return CLASH;
+        return Outcome::Clash;
     }
     if held.z == wanted(truth) {
-        Outcome { mark: 1, value }
+        Outcome::Present(value)
     } else {
-        ABSENT
+        Outcome::Absent
     }
 }
 
-// When-seen and when-not-seen: a, where c's cell that governs has the truth.
+// When-seen and when-not-seen: a, where c's cell that governs has the truth, which is data of the row, no choice of a step.
 pub(crate) fn viewed(
     truth: bool,
     t: u32,

@@ -21,7 +21,7 @@ mod state;
 mod tally;
 mod ticks;
 
-use crate::carried::Held;
+use crate::carried::State;
 use crate::plan::Plan;
 use crate::state::{LATER, REGISTER};
 use semantics::MAX_TICKS;
@@ -38,18 +38,18 @@ struct Clashed {
 }
 
 // The parts of marks and values that start at the tick's own first cell are lent to the tick.
+// What a caller lends stays beside the plan, here and below: a struct of lent slices would be made anew at every tick.
 fn tick_at(
     plan: Plan,
     first: usize,
     at: usize,
     t: u32,
-    state: &mut [Held],
+    state: &mut State,
     marks: &mut [u8],
     values: &mut [u32],
 ) -> Result<(), usize>
     requires { (first + plan.n ≤ length marks.old)
         × (first + plan.n ≤ length values.old)
-        × (plan.n ≤ length state.old)
         × (t < 2 ^ 24)
         × (at < 2 ^ 40) }
     ensures { (past : Ticks)
@@ -72,13 +72,12 @@ fn turn(
     plan: Plan,
     backward: &[u32],
     t: u32,
-    state: &mut [Held],
+    state: &mut State,
     marks: &mut [u8],
     values: &mut [u32],
 ) -> Result<(), usize>
     requires { (Fitting (plan.mask + 1) plan.n (t + 1) (length marks.old))
         × (Fitting (plan.mask + 1) plan.n (t + 1) (length values.old))
-        × (plan.n ≤ length state.old)
         × (t < 2 ^ 24)
         × (backward.now ≡ numbers looks_back plan.n plan.words.now) }
     ensures { (past : Ticks)
@@ -99,7 +98,7 @@ fn turn(
 pub(crate) fn run_ticks(
     from: u32,
     to: u32,
-    state: &mut [Held],
+    state: &mut State,
     marks: &mut [u8],
     values: &mut [u32],
     backward: &[u32],
@@ -107,7 +106,6 @@ pub(crate) fn run_ticks(
 ) -> Result<(), Clashed>
     requires { (Fitting (plan.mask + 1) plan.n to (length marks.old))
         × (Fitting (plan.mask + 1) plan.n to (length values.old))
-        × (plan.n ≤ length state.old)
         × (from ≤ to)
         × (to < 2 ^ 24)
         × (Nearby (plan.mask + 1) (plan_rows plan) plan.log.now)
@@ -126,7 +124,8 @@ pub(crate) fn run_ticks(
     Ok(())
 }
 
-// The limits of either run, on lengths: 31 above the most ticks, 32, and `short` where marks or values have too few cells.
+// The limits of either run, on lengths: 31 above the most ticks, 32, and `short` where marks or values have too few cells. Eight numbers: the
+// two runs ask for different lengths.
 pub(crate) fn limits(
     ticks: u32,
     most: u32,
@@ -239,6 +238,6 @@ pub fn long_run(
         tallies.old marks.new values.new tallies.new (parts result) }
 {
     let mut clocks = [0u32; checker::CLOCKS];
-    checker::check(count, words, &mut clocks)?;
-    long::replay(count as usize, words, log, ticks, marks, values, tallies)
+    let flows = checker::check(count, words, &mut clocks)?;
+    long::replay(flows as usize, words, log, ticks, marks, values, tallies)
 }

@@ -7,7 +7,7 @@ ghost use Rattle.runner.specs.Private.Ready.{Plain, Clocked, AllCarry, numbers, 
 ghost use Rattle.runner.specs.Private.Plans.{plan_rows};
 ghost use Rattle.runner.specs.Private.Placed.{Nearby, Unclashed};
 
-use crate::carried::Held;
+use crate::carried::State;
 use crate::plan::Plan;
 use crate::state::{LATER, REGISTER};
 use crate::tally::TALLY_SIZE;
@@ -23,12 +23,13 @@ const WINDOW: usize = 131072;
 // The ticks that are worked out before they are tallied: few enough for their cells to stay in the first cache.
 const STRETCH: u32 = 64;
 
-// All ticks, a stretch at a time: no tick clashes, so each is filled, and is then tallied.
+// All ticks, a stretch at a time: no tick clashes, so each is filled, and is then tallied. A `while`: the last stretch
+// may be shorter. What a caller lends stays beside the plan, as in a run.
 fn long_ticks(
     plan: Plan,
     backward: &[u32],
     ticks: u32,
-    state: &mut [Held],
+    state: &mut State,
     marks: &mut [u8],
     values: &mut [u32],
     tallies: &mut [u32],
@@ -36,7 +37,6 @@ fn long_ticks(
     requires { (plan.mask + 1 ≡ window_ticks)
         × (window_ticks * plan.n ≤ length marks.old)
         × (window_ticks * plan.n ≤ length values.old)
-        × (plan.n ≤ length state.old)
         × (ticks < 2 ^ 24)
         × (AllCarry (plan_rows plan) 0 [] state.old)
         × (tally_size * plan.n ≤ length tallies.old)
@@ -56,7 +56,8 @@ fn long_ticks(
     }
 }
 
-// The long run of such a table: its limits, 35 where the tallies have too few words, and then all its ticks.
+// The long run of such a table: its limits, 35 where the tallies have too few words, and then all its ticks. Beside the run's `replay`: a function of
+// what both do first would hand on eight values.
 pub(crate) fn replay(
     n: usize,
     words: &[u32],

@@ -11,27 +11,19 @@ ghost use Rattle.runner.specs.Private.Plans.{cells_of};
 use crate::carried::Held;
 use crate::cells::Cells;
 
-// What a row comes to at a tick: the mark and the value of its cell, or the mark of a clash.
+// What a row comes to at a tick: its cell, absent or present with a value, or a clash.
 #[derive(Clone, Copy)]
-pub struct Outcome {
-    pub mark: u8,
-    pub value: u32,
+pub enum Outcome {
+    Absent,
+    Present(u32),
+    Clash,
 }
-
-pub(crate) const ABSENT: Outcome = Outcome { mark: 0, value: 0 };
-
-// The mark of a clash. No cell has it.
-pub(crate) const CLASHED: u8 = 2;
-
-pub(crate) const CLASH: Outcome = Outcome {
-    mark: CLASHED,
-    value: 0,
-};
 
 // The bit that tells the sign of a number in two's complement.
 const SIGN_BIT: u32 = 0x8000_0000;
 
-// The order of less and larger. With the sign bit flipped, numbers in two's complement stand in the order of their words.
+// The order of less and larger. With the sign bit flipped, numbers in two's complement stand in the order of their words. Signed order over
+// words: no derive gives it.
 fn below(x: u32, y: u32) -> bool
     ensures { result ≡ below x y }
 {
@@ -45,7 +37,7 @@ fn larger(x: u32, y: u32) -> u32
     if below(x, y) { y } else { x }
 }
 
-// The value of kinds 2 to 6.
+// The value of kinds 2 to 6. Over the number itself: an enum would be a decision of its own before this one.
 fn apply(kind: u32, x: u32, y: u32) -> u32
     requires { (2 ≤ kind) × (kind ≤ 6) }
     ensures { (op : Op) → Combines kind op → result ≡ apply op x y }
@@ -69,15 +61,16 @@ pub(crate) fn combined(kind: u32, cells: Cells, a: u32, b: u32) -> Outcome
     let i = a as usize;
     let j = b as usize;
     if cells.marks[i] == 0 {
-        if cells.marks[j] == 0 { ABSENT } else { CLASH }
+        if cells.marks[j] == 0 {
+            Outcome::Absent
+        } else {
+            Outcome::Clash
+        }
     } else {
         if cells.marks[j] == 0 {
-            CLASH
+            Outcome::Clash
         } else {
-            Outcome {
-                mark: 1,
-                value: apply(kind, cells.values[i], cells.values[j]),
-            }
+            Outcome::Present(apply(kind, cells.values[i], cells.values[j]))
         }
     }
 }
@@ -88,16 +81,14 @@ pub(crate) fn registered(cells: Cells, b: u32, held: &Held) -> Outcome
     ensures { result ≡ outcome_of (register_step (cells_of cells.entry b) held.now) }
 {
     if cells.marks[b as usize] == 0 {
-        ABSENT
+        Outcome::Absent
     } else {
-        Outcome {
-            mark: 1,
-            value: held.x,
-        }
+        Outcome::Present(held.x)
     }
 }
 
-// When, when-not: present where both are and c has the truth wanted.
+// When, when-not: present where both are and c has the truth wanted. The truth is data of the row, no choice of a step. The same four cases as above:
+// a mark and a value fetched together took one instruction a cell more (docs/DECISIONS.md).
 pub(crate) fn sampled(wanted: bool, cells: Cells, a: u32, c: u32) -> Outcome
     requires { (a < cells.f) × (c < cells.f) }
     ensures { result ≡ outcome_of (sampled wanted (cells_of cells.entry a) (cells_of cells.entry c)) }
@@ -105,10 +96,14 @@ pub(crate) fn sampled(wanted: bool, cells: Cells, a: u32, c: u32) -> Outcome
     let i = a as usize;
     let j = c as usize;
     if cells.marks[i] == 0 {
-        if cells.marks[j] == 0 { ABSENT } else { CLASH }
+        if cells.marks[j] == 0 {
+            Outcome::Absent
+        } else {
+            Outcome::Clash
+        }
     } else {
         if cells.marks[j] == 0 {
-            CLASH
+            Outcome::Clash
         } else {
             chosen(wanted, cells.values[i], cells.values[j])
         }
@@ -121,15 +116,15 @@ fn chosen(wanted: bool, x: u32, y: u32) -> Outcome
 {
     if y == 0 {
         if wanted {
-            ABSENT
+            Outcome::Absent
         } else {
-            Outcome { mark: 1, value: x }
+            Outcome::Present(x)
         }
     } else {
         if wanted {
-            Outcome { mark: 1, value: x }
+            Outcome::Present(x)
         } else {
-            ABSENT
+            Outcome::Absent
         }
     }
 }
@@ -141,11 +136,11 @@ fn alone(cells: Cells, one: u32, other: u32) -> Outcome
 {
     let i = one as usize;
     if cells.marks[i] == 0 {
-        return CLASH;
+        return Outcome::Clash;
     }
     let value = cells.values[i];
-    let given = Outcome { mark: 1, value };
-    let both = CLASH;
+    let given = Outcome::Present(value);
+    let both = Outcome::Clash;
     if cells.marks[other as usize] == 0 {
         given
     } else {
@@ -159,9 +154,9 @@ fn neither(cells: Cells, a: u32, b: u32) -> Outcome
     ensures { result ≡ outcome_of (neither (cells_of cells.entry a) (cells_of cells.entry b)) }
 {
     if cells.marks[a as usize] == 0 && cells.marks[b as usize] == 0 {
-        ABSENT
+        Outcome::Absent
     } else {
-        CLASH
+        Outcome::Clash
     }
 }
 

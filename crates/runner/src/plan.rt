@@ -28,7 +28,7 @@ pub(crate) struct Plan<'a> {
 }
 
 impl<'a> Plan<'a> {
-    // The third field of row f.
+    // The third field of row f, by its place: a row is read word by word where it is worked out.
     pub(crate) fn third(self, f: usize) -> u32
         requires { f < self.n }
         ensures { result ≡ slice_index self.entry.words.now (row_size * f + 3) }

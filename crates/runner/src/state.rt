@@ -8,23 +8,23 @@ ghost use Rattle.runner.specs.Private.Placed.{Fitting, Recalls, cell_before, Bac
 ghost use Rattle.runner.specs.Private.Plans.{plan_rows};
 
 use crate::carried;
-use crate::carried::Held;
+use crate::carried::{Held, State};
 use crate::plan::Plan;
-use table::ROW_SIZE;
+use table::{ROW_SIZE, Record};
 
 // The kinds of registers and of later rows.
 pub(crate) const REGISTER: u32 = 7;
 
 pub(crate) const LATER: u32 = 10;
 
-// Whether k is the kind, or one from another on.
+// Whether k is the kind, or one from another on. Two numbers, the second KINDS for none: with a closure the contract would say the kinds again.
 fn one_of(kind: u32, from: u32, k: u32) -> bool
     ensures { result ≡ one_of kind from k }
 {
     k == kind || from <= k
 }
 
-// Row f is added to the list where it is of one of the kinds.
+// Row f is added to the list where it is of one of the kinds. The place after the last: a list that grows would need the heap.
 fn listed_with(
     kind: u32,
     from: u32,
@@ -59,52 +59,48 @@ pub(crate) fn listed(kind: u32, from: u32, n: usize, words: &[u32], list: &mut [
 }
 
 // The first word that a row carries into tick 0: the phase of an input or a constant, the initial value of a register.
+// Over the number itself: an enum would be a decision of its own before this one.
 #[tactic(auto, unfolding(table::specs::Rows::kinds, crate::specs::Private::Carried::start_word))]
-fn first_word(kind: u32, p: u32, q: u32, r: u32) -> u32
-    requires { kind < kind_count }
-    ensures { result ≡ start_word (decode kind p q r) }
+fn first_word(row: Record) -> u32
+    requires { row.kind < kind_count }
+    ensures { result ≡ start_word (decode row.kind row.one row.two row.three) }
 {
-    match kind {
-        0 => q,
-        1 => r,
-        7 => p,
+    match row.kind {
+        0 => row.two,
+        1 => row.three,
+        7 => row.one,
         _ => 0,
     }
 }
 
 // The words that a row carries into tick 0, where j inputs stand before it.
-fn first_words(kind: u32, p: u32, q: u32, r: u32, j: u32) -> Held
-    requires { kind < kind_count }
-    ensures { result ≡ start_of (decode kind p q r) j }
+fn first_words(row: Record, j: u32) -> Held
+    requires { row.kind < kind_count }
+    ensures { result ≡ start_of (decode row.kind row.one row.two row.three) j }
 {
     Held {
-        x: first_word(kind, p, q, r),
+        x: first_word(row),
         y: j,
         ..carried::NOTHING
     }
 }
 
 // The words that the rows carry into tick 0, and the count of inputs.
-pub(crate) fn start(n: usize, words: &[u32], state: &mut [Held]) -> u32
-    requires { (Plain n words.now) × (n ≤ length state.old) }
+pub(crate) fn start(n: usize, words: &[u32], state: &mut State) -> u32
+    requires { Plain n words.now }
     ensures { (result ≡ inputs (rows_in n words.now)) × (AllCarry (rows_in n words.now) 0 [] state.new) }
 {
     let mut j = 0;
     for f in 0..n {
-        let kind = words[ROW_SIZE * f];
-        state[f] = first_words(
-            kind,
-            words[ROW_SIZE * f + 1],
-            words[ROW_SIZE * f + 2],
-            words[ROW_SIZE * f + 3],
-            j,
-        );
-        j += u32::from(kind == 0);
+        let row = table::record_at(words, f as u32);
+        state[f] = first_words(row, j);
+        j += u32::from(row.kind == 0);
     }
     j
 }
 
 // What a later row needs of an earlier tick.
+// What a caller lends stays beside the plan, here and below: a struct of lent slices would be made anew at every tick.
 fn collect_row(plan: Plan, a: usize, d: u32, t: u32, marks: &[u8], values: &[u32], held: &mut Held)
     requires { (a < plan.n)
         × (Fitting (plan.mask + 1) plan.n (t + 1) (length marks.now))
@@ -170,11 +166,10 @@ pub(crate) fn collect(
     t: u32,
     marks: &[u8],
     values: &[u32],
-    state: &mut [Held],
+    state: &mut State,
 )
     requires { (Fitting (plan.mask + 1) plan.n (t + 1) (length marks.now))
         × (Fitting (plan.mask + 1) plan.n (t + 1) (length values.now))
-        × (plan.n ≤ length state.old)
         × (t < 2 ^ 24)
         × (backward.now ≡ numbers looks_back plan.n plan.words.now) }
     ensures { (past : Ticks) (at : ℕ)
@@ -185,6 +180,7 @@ pub(crate) fn collect(
         → AllCarry (plan_rows plan.entry) t past state.old
         → Ready (plan_rows plan.entry) past t at state.new }
 {
+    // The words one by one: `record_at` would test the length anew, for each such row at each tick.
     for row in backward {
         let f = *row as usize;
         look_back(

@@ -10,7 +10,7 @@ use crate::plan::Plan;
 // How many words a tally has.
 pub(crate) const TALLY_SIZE: usize = 2;
 
-// Flow f's tally takes its cell.
+// Flow f's tally takes its cell. Mark, value and the two words of a tally stand as C lends them.
 fn add_cell(f: usize, mark: u8, value: u32, tallies: &mut [u32])
     requires { (f < max_flows)
         × (tally_size * f + 1 < length tallies.old)

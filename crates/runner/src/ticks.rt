@@ -2,15 +2,15 @@
 ghost use Rattle.std.specs.Prelude.{◌≡◌, ℕ, ◌+◌, ◌*◌, ◌^◌, ◌<◌, ◌≤◌, List, [], length, if◌then◌else◌, ◌==◌, nat_eq, slice_index, slice_set};
 ghost use Rattle.table.specs.Rows.{max_flows, kind_count, kind_at, decode, bad_register, row_size};
 ghost use Rattle.table.specs.Tables.{FieldsFit};
-ghost use Rattle.runner.specs.Private.Carried.{clash_mark, Did};
+ghost use Rattle.runner.specs.Private.Carried.{clash_mark, mark_of, value_of, Did};
 ghost use Rattle.semantics.specs.Runs.{Tick, Ticks, flows_from, source_meets, tick_of};
 ghost use Rattle.runner.specs.Private.Ready.{Ready, AllFollow, Wrote, FlowsEnd, LatchEnd, TickDone};
 ghost use Rattle.runner.specs.Private.Plans.{plan_rows};
 ghost use Rattle.runner.specs.Private.Plans.{cells_of};
 
-use crate::carried::Held;
+use crate::carried::{Held, State};
 use crate::cells::Cells;
-use crate::operators::{ABSENT, CLASH, CLASHED, Outcome};
+use crate::operators::Outcome;
 use crate::plan::Plan;
 use crate::{carried, operators};
 use table::ROW_SIZE;
@@ -38,12 +38,12 @@ fn outcome(
         held.old held.new result }
 {
     if table::KINDS <= kind {
-        return CLASH;
+        return Outcome::Clash;
     }
     match kind {
         18 => carried::viewed(false, t, cells, p, q, plan.third(cells.f), held),
         17 => carried::viewed(true, t, cells, p, q, plan.third(cells.f), held),
-        16 => ABSENT,
+        16 => Outcome::Absent,
         15 => operators::merged(cells, p, q, plan.third(cells.f)),
         14 => operators::sampled(false, cells, p, q),
         13 => operators::sampled(true, cells, p, q),
@@ -61,39 +61,41 @@ fn outcome(
             4 => operators::combined(4, cells, p, q),
             5 => operators::combined(5, cells, p, q),
             6 => operators::combined(6, cells, p, q),
-            _ => CLASH,
+            _ => Outcome::Clash,
         },
-        19..=4294967295 => CLASH,
+        19..=4294967295 => Outcome::Clash,
     }
 }
 
-// The cell at f is written, unless it is a clash: whether it is one.
-fn put(marks: &mut [u8], values: &mut [u32], f: usize, mark: u8, value: u32) -> bool
+// The cell at f is written, unless it is a clash: whether it is one, which names no more than f.
+fn put(marks: &mut [u8], values: &mut [u32], f: usize, o: Outcome) -> bool
     requires { (f < length marks.old) × (f < length values.old) }
-    ensures { (result ≡ (mark == clash_mark))
-        × (marks.new ≡ (if nat_eq mark clash_mark then marks.old else slice_set marks.old f mark))
-        × (values.new ≡ (if nat_eq mark clash_mark then values.old else slice_set values.old f value)) }
+    ensures { (result ≡ (mark_of o == clash_mark))
+        × (marks.new ≡ (if nat_eq (mark_of o) clash_mark then marks.old else slice_set marks.old f (mark_of o)))
+        × (values.new ≡ (if nat_eq (mark_of o) clash_mark then values.old else slice_set values.old f (value_of o))) }
 {
-    if mark == CLASHED {
-        return true;
-    }
+    let (mark, value) = match o {
+        Outcome::Clash => return true,
+        Outcome::Absent => (0, 0),
+        Outcome::Present(value) => (1, value),
+    };
     marks[f] = mark;
     values[f] = value;
     false
 }
 
-// The cells of the flows in ascending order, up to one that clashes. `at` is the place of the tick's first word in the log.
+// The cells of the flows in ascending order, up to one that clashes. `at` is the place of the tick's first word in the log. Words by
+// place: see `collect`.
 fn flows(
     plan: Plan,
     at: usize,
     t: u32,
-    state: &mut [Held],
+    state: &mut State,
     marks: &mut [u8],
     values: &mut [u32],
 ) -> Result<(), usize>
     requires { (plan.n ≤ length marks.old)
         × (plan.n ≤ length values.old)
-        × (plan.n ≤ length state.old)
         × (t < 2 ^ 24)
         × (at < 2 ^ 40) }
     ensures { (past : Ticks)
@@ -113,14 +115,14 @@ fn flows(
             &mut state[f],
             cells,
         );
-        if put(marks, values, f, o.mark, o.value) {
+        if put(marks, values, f, o) {
             return Err(f);
         }
     }
     Ok(())
 }
 
-// A register's word after a tick in which its source had a cell.
+// A register's word after a tick in which its source had a cell, which is given by its mark and value.
 fn latched(held: u32, mark: u8, value: u32) -> u32
     ensures { result ≡ (if nat_eq mark 0 then held else value) }
 {
@@ -129,8 +131,8 @@ fn latched(held: u32, mark: u8, value: u32) -> u32
 
 // After all flows: the lowest register whose source and beat are not both present or both absent. Each register before it takes its
 // source's value.
-fn latch(plan: Plan, state: &mut [Held], marks: &[u8], values: &[u32]) -> Result<(), usize>
-    requires { (plan.n ≤ length marks.now) × (plan.n ≤ length values.now) × (plan.n ≤ length state.old) }
+fn latch(plan: Plan, state: &mut State, marks: &[u8], values: &[u32]) -> Result<(), usize>
+    requires { (plan.n ≤ length marks.now) × (plan.n ≤ length values.now) }
     ensures { (past : Ticks) (cells : Tick) (ms vs : List ℕ) (t : ℕ)
         → length cells ≡ plan.entry.n
         → Wrote cells ms vs marks.now values.now
@@ -156,13 +158,12 @@ pub(crate) fn tick(
     plan: Plan,
     at: usize,
     t: u32,
-    state: &mut [Held],
+    state: &mut State,
     marks: &mut [u8],
     values: &mut [u32],
 ) -> Result<(), usize>
     requires { (plan.n ≤ length marks.old)
         × (plan.n ≤ length values.old)
-        × (plan.n ≤ length state.old)
         × (t < 2 ^ 24)
         × (at < 2 ^ 40) }
     ensures { (past : Ticks)

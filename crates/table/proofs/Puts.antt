@@ -5,11 +5,12 @@ use mathlib.Core.List.{List, [], ◌∷◌, ◌++◌, append_assoc, append-nil}
 use Prim.Native.Nat.{ℕ, zero, suc, ◌+◌, ◌-◌, ◌*◌, ◌/◌, ◌%◌, ◌^◌, ◌≤◌, ◌<◌}
 use native.Mathlib.Nat.{add-zero, mul_assoc, mod-lt, mod-eq_of_lt}
 use native.Mathlib.Omega.{arith}
-use lib.ListN.{length, get_or, take, drop, length-append, take-append-drop, replicate}
+use lib.ListN.{length, get_or, take, drop, length-append, length-drop, take-append-drop, replicate}
 use lib.Seq.{drop-cons, drop-drop, take-append-le, take-append-add, take-take, take_at, length-take-le, paste, length-paste, drop-paste}
 use lib.Pow.{pow_pos, pow-add, shl_lt, shr_lt, shl_exact, shl-shr, shr-shr, split, high, low, mod-pow-add, mod-mod-pow}
 use lib.Arith.{digits_lt}
 use lib.Bits.{bit_or, or_shifted}
+use borrow.Rule.Slice.PartMut.{put_mid}
 use Rattle.table.specs.Bits.{to_bits, bits, byte_count}
 use Rattle.table.specs.Private.Laid.{nine_byte, nine, whole, fill, Begun, Put}
 use Rattle.table.proofs.BitLaws.{length_to_bits, to_bits_append, to_bits_behind, to_bits_low, zeros, bits_append, length_bits, take_bits}
@@ -196,8 +197,9 @@ module _ (size at w v n : ℕ) (out : List ℕ) (hv : v < 2 ^ w) (room : at + w 
       ∙ ap (λ (t : List Bool). to_bits o before_at ++ t) (take_behind w v g (replicate f false))
       ∙ ap (λ (t : List Bool). to_bits o before_at ++ (to_bits w v ++ t)) (take_zeros g f (omega arith))
 
-  pub put_law : (new : List ℕ) → new ≡ take i out ++ (take n (nine number) ++ drop (i + n) out) → Put size at (to_bits w v) out new
-  put_law new e bs old len b =
+  pub put_law : (new part : List ℕ) (x : ℕ) → x ≡ number → part ≡ take (length (take n (drop i out))) (nine x) → new ≡ put_mid i n out part
+      → Put size at (to_bits w v) out new
+  put_law new part x ex ep en bs old len b =
       let f = to_bits w v in
       let head = bits (take i out) in
       let m = 8 * (byte_count (at + w) - i) in
@@ -206,6 +208,9 @@ module _ (size at w v n : ℕ) (out : List ℕ) (hv : v < 2 ^ w) (room : at + w 
       let at_place : 8 * i + o ≡ at = omega arith in
       let end : length (bs ++ f) ≡ at + w = length-append bs f ∙ ap₂ ◌+◌ len (length_to_bits w v) in
       let in_out : i ≤ length out = omega arith in
+      let room_is : length (take n (drop i out)) ≡ n = length-take-le n (drop i out) (omega (arith, length-drop i out)) in
+      let e : new ≡ take i out ++ (stored ++ rest) =
+      en ∙ ap (λ (t : List ℕ). take i out ++ t) (ap₂ ◌++◌ (ep ∙ ap₂ (λ (k y : ℕ). take k (nine y)) room_is ex) (drop-drop n i out)) in
       let is : new ≡ paste out i (nine number) n = e ∙ sym (append_assoc (take i out) stored rest) in
       let first : head ++ to_bits o before_at ≡ bs =
       sym (bits_before out i o (omega arith) (omega arith)) ∙ ap (λ (k : ℕ). take k (bits out)) at_place

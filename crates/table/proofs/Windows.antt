@@ -9,7 +9,7 @@ use native.Mathlib.Omega.{arith}
 use lib.Dec.{leb}
 use lib.Bits.{bit_and, and_mask}
 use lib.ListN.{length, get_or, take, drop, length-take, length-drop, take-append-drop}
-use lib.Seq.{drop-drop, take-suc, take-take, get_or-drop, length-take-le}
+use lib.Seq.{drop-drop, take-suc, take-take, length-take-le}
 use lib.Pow.{pow_pos, pow_mono, shl_exact, high, low}
 use borrow.Author.Tests.{le-leb, lt-leb, leb-true, leb-false}
 use Rattle.table.specs.declared.Cursor.{Cursor}
@@ -43,22 +43,20 @@ divided bs at w r e =
 -- ---- eight bytes
 
 -- one byte more
-pub joined_more : (s : List ℕ) (i k : ℕ) → i + k < length s → get_or s (i + k) 0 < 256
-    → from_bits (bits (take (k + 1) (drop i s))) ≡ from_bits (bits (take k (drop i s))) * 256 + get_or s (i + k) 0
+pub joined_more : (s : List ℕ) (k : ℕ) → k < length s → get_or s k 0 < 256
+    → from_bits (bits (take (k + 1) s)) ≡ from_bits (bits (take k s)) * 256 + get_or s k 0
 unfolding bits
-joined_more s i k l h =
-    let b = get_or s (i + k) 0 in
-    let below : k < length (drop i s) = omega (arith, length-drop i s) in
-    let e : take (k + 1) (drop i s) ≡ take k (drop i s) ++ (b ∷ []) =
-    ap (λ (n : ℕ). take n (drop i s)) (add-one k) ∙ take-suc (drop i s) k 0 below ∙ ap (λ (x : ℕ). take k (drop i s) ++ (x ∷ [])) (get_or-drop i s k 0) in
-    ap (λ (x : List ℕ). from_bits (bits x)) e ∙ ap from_bits (bits_append (take k (drop i s)) (b ∷ []) ∙ ap (λ (x : List Bool). bits (take k (drop i s)) ++ x) (append-nil (to_bits 8 b)))
-    ∙ from_bits_append (bits (take k (drop i s))) (to_bits 8 b) ∙ ap₂ (λ (n x : ℕ). from_bits (bits (take k (drop i s))) * 2 ^ n + x) (length_to_bits 8 b) (from_to 8 h)
+joined_more s k l h =
+    let b = get_or s k 0 in
+    let e : take (k + 1) s ≡ take k s ++ (b ∷ []) = ap (λ (n : ℕ). take n s) (add-one k) ∙ take-suc s k 0 l in
+    ap (λ (x : List ℕ). from_bits (bits x)) e ∙ ap from_bits (bits_append (take k s) (b ∷ []) ∙ ap (λ (x : List Bool). bits (take k s) ++ x) (append-nil (to_bits 8 b)))
+    ∙ from_bits_append (bits (take k s)) (to_bits 8 b) ∙ ap₂ (λ (n x : ℕ). from_bits (bits (take k s)) * 2 ^ n + x) (length_to_bits 8 b) (from_to 8 h)
 
 -- before the eighth byte there is room for one more
-pub joined_lt : (s : List ℕ) (i k : ℕ) → k < 8 → from_bits (bits (take k (drop i s))) < 2 ^ 56
-joined_lt s i k h =
-    let l : length (bits (take k (drop i s))) ≤ 56 = rw (length_bits (take k (drop i s)), length-take k (drop i s)) (omega arith) in
-    lt_of_lt_of_le (from_bits_lt (bits (take k (drop i s)))) (pow_mono l)
+pub joined_lt : (s : List ℕ) (k : ℕ) → k < 8 → from_bits (bits (take k s)) < 2 ^ 56
+joined_lt s k h =
+    let l : length (bits (take k s)) ≤ 56 = rw (length_bits (take k s), length-take k s) (omega arith) in
+    lt_of_lt_of_le (from_bits_lt (bits (take k s))) (pow_mono l)
 
 -- a window's bits
 window_bits : (s : List ℕ) (n : ℕ) → bits (window s n) ≡ drop (8 * (n - 8)) (take (8 * n) (bits s))

@@ -1,5 +1,5 @@
 // Bits of packed bytes, most significant first: a field is taken and put at a bit place by shifts and masks.
-ghost use Rattle.std.specs.Prelude.{◌≡◌, ◌+◌, ◌*◌, ◌<◌, ◌≤◌, ◌^◌, ◌%◌, length, take, drop, ◌++◌};
+ghost use Rattle.std.specs.Prelude.{◌≡◌, ◌+◌, ◌*◌, ◌<◌, ◌≤◌, ◌^◌, ◌%◌, length, take, drop};
 ghost use Rattle.table.specs.Bits.{bits, to_bits, from_bits, byte_count};
 ghost use Rattle.table.specs.Places.{taking_parts, take_at_bit, last_place, longest_record};
 ghost use Rattle.table.specs.Private.Laid.{window, whole, nine, nine_byte, Put};
@@ -21,13 +21,13 @@ fn join(high: u64, low: u64) -> u64
     (high << 8) | low
 }
 
-// The n bytes from i on as one number.
-fn joined(s: &[u8], i: usize, n: usize) -> u64
-    requires { (n ≤ 8) × (i + n ≤ length s.now) }
-    ensures { result ≡ from_bits (bits (take n (drop i s.now))) }
+// Up to eight bytes as one number.
+fn joined(bytes: &[u8]) -> u64
+    requires { length bytes.now ≤ 8 }
+    ensures { result ≡ from_bits (bits bytes.now) }
 {
     let mut x: u64 = 0;
-    for byte in &s[i..i + n] {
+    for byte in bytes {
         x = join(x, u64::from(*byte));
     }
     x
@@ -39,9 +39,9 @@ fn window_to(s: &[u8], n: usize) -> u64
     ensures { result ≡ from_bits (bits (window s.now n)) }
 {
     if 8 <= n {
-        return joined(s, n - 8, 8);
+        return joined(&s[n - 8..n]);
     }
-    joined(s, 0, n)
+    joined(&s[..n])
 }
 
 // The w low bits of x.
@@ -88,13 +88,13 @@ fn byte_of(x: u64, y: u8, k: usize) -> u8
     ((x >> (56 - 8 * k)) % 256) as u8
 }
 
-// Stores the first n of the nine bytes from i on.
-fn store(out: &mut [u8], i: usize, n: usize, x: u64, y: u8)
-    requires { (n ≤ 9) × (i + n ≤ length out.old) }
-    ensures { out.new ≡ take i out.old ++ (take n (nine (x * 256 + y)) ++ drop (i + n) out.old) }
+// Stores as many of the nine bytes as there is room for.
+fn store(out: &mut [u8], x: u64, y: u8)
+    requires { length out.old ≤ 9 }
+    ensures { out.new ≡ take (length out.old) (nine (x * 256 + y)) }
 {
-    for k in 0..n {
-        out[i + k] = byte_of(x, y, k);
+    for (k, byte) in out.iter_mut().enumerate() {
+        *byte = byte_of(x, y, k);
     }
 }
 
@@ -143,9 +143,9 @@ impl Cursor {
         let x = ((before << 1) << (63 - at % 8)) | (field >> (at % 8));
         let y = ((field << (8 - at % 8)) % 256) as u8;
         if i + 9 <= out.len() {
-            store(out, i, 9, x, y);
+            store(&mut out[i..i + 9], x, y);
         } else {
-            store(out, i, byte_count(at + w) - i, x, y);
+            store(&mut out[i..byte_count(at + w)], x, y);
         }
         Cursor { at: at + w }
     }

@@ -19,7 +19,7 @@ pub use refusal::{Refusal, Refused};
 use rows::Fields;
 use std::fmt;
 
-// What a call answers: number 0 is success. A row is given in the flow part; parts that are not named are 0.
+// What a call answers as C gets it, in four numbers: number 0 is success. A row is given in the flow part; parts that are not named are 0.
 #[derive(Clone, Copy)]
 pub struct Answer {
     pub number: u32,
@@ -78,7 +78,7 @@ pub struct Reader<'a> {
     pub at: usize,
 }
 
-// The four words of a row.
+// The four words of a row. The kind is a number, since the words that are handed in may have any.
 #[derive(Clone, Copy)]
 pub struct Record {
     pub kind: u32,
@@ -87,7 +87,7 @@ pub struct Record {
     pub three: u32,
 }
 
-// Which fields of a kind hold flow numbers.
+// Which fields of a kind hold flow numbers. Of a kind, not of a row: so no Option of a flow.
 #[derive(Clone, Copy)]
 pub struct FlowFields {
     pub one: bool,
@@ -113,14 +113,14 @@ const WORDS: usize = ROW_SIZE * (MAX_FLOWS as usize);
 // The bytes of the longest packed table.
 pub const LONGEST_TABLE: usize = (Cursor::LAST + 7) / 8;
 
-// The word at i, 0 past the end.
+// The word at i, 0 past the end. A function of its own: docs/CONTRACTS.md names it.
 pub fn word_at(words: &[u32], i: usize) -> u32
     ensures { result ≡ get_or words.now i 0 }
 {
     words.get(i).copied().unwrap_or(0)
 }
 
-// The words of a row, 0 past the end.
+// The words of a row, 0 past the end. By place, as C lends them.
 pub fn record_at(words: &[u32], row: u32) -> Record
     ensures { words_of result ≡ row_words words.now row }
 {
@@ -170,7 +170,7 @@ pub fn flow_fields(kind: u32) -> FlowFields
     }
 }
 
-// Copies the first n words, where both have as many.
+// Copies the first n words, where both have as many. A function of its own: docs/CONTRACTS.md names it.
 pub fn copy(n: usize, from: &[u32], to: &mut [u32])
     ensures { to.new ≡ copied n from.now to.old }
 {
@@ -191,7 +191,7 @@ pub fn examine(count: u32, words: &[u32]) -> Result<u32, Refused>
     Ok(count)
 }
 
-// The same of a draft, whose inputs may be unrated.
+// The same of a draft, whose inputs may be unrated. Both names are public; the test is one.
 pub fn examine_draft(count: u32, words: &[u32]) -> Result<u32, Refused>
     ensures { parts result ≡ draft_answer count words.now }
 {
@@ -214,7 +214,7 @@ pub fn read(packed: &[u8], words: &mut [u32]) -> Result<u32, Refused>
     Ok(count)
 }
 
-// The four parts of what a call answers.
+// The four parts of what a call answers, for C.
 pub fn parts(answered: Result<u32, Refused>) -> Answer
     ensures { result ≡ parts answered }
 {

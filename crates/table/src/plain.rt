@@ -38,6 +38,7 @@ pub(crate) fn count_fits(count: u32) -> bool
 }
 
 // A table in plain form: its bytes in packed form, or why it is refused.
+// `rated` is data of the call, no choice of a step: which kind is barred.
 pub(crate) fn survey(rated: bool, count: u32, words: &[u32]) -> Result<usize, Refused>
     ensures { (answer (λ rs. count) (table_by rated count words.now) ≡ told count result) × Sized (split count words.now) result }
 {

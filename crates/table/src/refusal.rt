@@ -34,7 +34,7 @@ pub enum Refusal {
     OffCalendar,
 }
 
-// A refusal with the row or flow that it names and, of a clash, the tick; 0 where it names none.
+// A refusal with the row or flow that it names and, of a clash, the tick; 0 where it names none, as the paper and C have it.
 #[derive(Clone, Copy, Debug, PartialEq, Eq)]
 pub struct Refused {
     pub why: Refusal,

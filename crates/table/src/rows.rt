@@ -8,6 +8,7 @@ ghost use Rattle.table.specs.Private.Codes.{code, field_list, kind_fields, least
 
 use super::{KINDS, Record, Refusal, UNRATED};
 
+// The fields. Numbers and no enum: three of them stand in one number of FIELDS.
 const OPERAND: u32 = 0;
 
 const SOURCE: u32 = 1;
@@ -175,7 +176,8 @@ impl Layout {
     }
 }
 
-// The kind that is not known: where the rates are asked for, that of an unrated input; else one that there is not.
+// The kind that is not known: where the rates are asked for (data, no choice of a step), that of an unrated input; else one that there is not, so
+// that one comparison serves both.
 pub(crate) fn barred_kind(rated: bool) -> u32
     ensures { result ≡ barred_kind rated }
 {

@@ -92,12 +92,6 @@ pub record WordsTo (m : ℕ) (clocks values : List ℕ) (ticks begin : ℕ) (sto
   pub words : (g j : ℕ) → g < m → j < points (period_in clocks g) (phase_in clocks g) begin
       → get_or stored (words_before (clocks_in m clocks) ticks g + j) 0 ≡ cell_at m values (point (period_in clocks g) (phase_in clocks g) j) g
 
--- the places from one to another are 0, and those before them are as they were
-pub record Cleared (from to : ℕ) (old new : List ℕ) : Type 0 where
-  pub size : length new ≡ length old
-  pub inside : (i : ℕ) → from ≤ i → i < to → get_or new i 0 ≡ 0
-  pub before : (i : ℕ) → i < from → get_or new i 0 ≡ get_or old i 0
-
 -- the first c due cells of flow f have been given what is theirs, and the other places are as they were
 pub record Put (m n p f c : ℕ) (given : ℕ → ℕ) (old new : List ℕ) : Type 0 where
   pub size : length new ≡ length old

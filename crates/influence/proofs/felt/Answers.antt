@@ -4,7 +4,7 @@ use lib.ListN.{length, replicate, length-replicate}
 use Rattle.std.proofs.lemmas.Result.{err_from_is_err_and}
 use Rattle.table.specs.Rows.{max_flows}
 use Rattle.checker.specs.Answers.{clock_size}
-use Rattle.influence.proofs.Calls.{handed_on, few, no_room_lem, sets_for, done}
+use Rattle.influence.proofs.Calls.{handed_on, few, no_room_lem, sets_for, first_sets, done}
 use Rattle.influence.proofs.felt.Goals as goal
 
 -- the buffer of the clocks has room for any plan
@@ -29,11 +29,17 @@ returns-in_err-reached c =
 pub inputs-requires : goal.inputs-requires
 inputs-requires c = few c.args.count c.args.words.now _ wide c.in_ok-check.ensures.answered
 
-pub keep-requires : goal.keep-requires
-keep-requires c =
+pub slice_bounds-keep-end : goal.slice_bounds-keep-end
+slice_bounds-keep-end c =
     let a = c.args in
     let k = c.in_ok-reached in
     sets_for a.count a.words.now _ wide c.in_ok-check.ensures.answered a.sets.now _ k.ensures.answered k.ensures.stored
+
+pub slice_bounds-keep-end-2 : goal.slice_bounds-keep-end-2
+slice_bounds-keep-end-2 c =
+    let a = c.args in
+    let k = c.in_ok-reached in
+    first_sets a.count a.words.now _ wide c.in_ok-check.ensures.answered a.sets.now _ k.ensures.answered k.ensures.stored
 
 pub returns : goal.returns
 returns c =

@@ -42,7 +42,6 @@ run_ticks-requires c =
     let W = within a.n a.words.now a.log.now a.ticks a.marks.now a.values.now c.requires _ limited in (
       whole_fits (2 ^ 32) a.n a.ticks (length a.marks.now) (omega arith) W.3,
       whole_fits (2 ^ 32) a.n a.ticks (length a.values.now) (omega arith) W.4,
-      omega (arith, c.start-inputs.auto.state, c.requires.few),
       omega arith,
       omega (arith, W.1),
       everywhere (2 ^ 32) _ a.log.now (omega arith),

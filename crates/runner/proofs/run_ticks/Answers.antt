@@ -17,9 +17,8 @@ turn-requires c =
     let h = c.loop-t-test.true in (
       fits p.mask p.n l.t a.to l.marks a.marks.now l.auto.marks h c.requires.0,
       fits p.mask p.n l.t a.to l.values a.values.now l.auto.values h c.requires.1,
-      omega (arith, l.auto.state),
       omega (arith, h),
-      c.requires.6,
+      c.requires.5,
     )
 
 pub returns-in-Err : goal.returns-in-Err
@@ -33,7 +32,7 @@ returns-in-Err c =
     λ ms vs R₀.
     let R = l.invariant ms vs R₀ in
     let seen = recall R (fewer l.t (omega arith) fm) (fewer l.t (omega arith) fv) in
-    let near = close R (omega (arith, h)) c.requires.5 in
+    let near = close R (omega (arith, h)) c.requires.4 in
     stops R _ _ _ _ (plans.table p).size (c.turn.ensures R.past R.ticks seen near R.carried) a.to _ c.in-Err.is h
 
 pub loop-t-preserved : goal.loop-t-preserved
@@ -47,7 +46,7 @@ loop-t-preserved c =
     λ ms vs R₀.
     let R = l.invariant ms vs R₀ in
     let seen = recall R (fewer l.t (omega arith) fm) (fewer l.t (omega arith) fv) in
-    let near = close R (omega (arith, h)) c.requires.5 in
+    let near = close R (omega (arith, h)) c.requires.4 in
     goes_on R _ _ _ _ (plans.table p).size (c.turn.ensures R.past R.ticks seen near R.carried) c.in_default.is c.turn.auto.marks c.turn.auto.values
 
 pub returns : goal.returns

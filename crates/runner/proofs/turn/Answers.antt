@@ -3,7 +3,7 @@ use Rattle.std.proofs.Common.{ℕ, ◌*◌, ap, arith}
 use Rattle.runner.proofs.turn.Goals as goal
 
 pub overflow_mul-at : goal.overflow_mul-at
-overflow_mul-at c = omega (arith, plans.logged c.args.plan c.args.t c.requires.3)
+overflow_mul-at c = omega (arith, plans.logged c.args.plan c.args.t c.requires.2)
 
 pub tick_at-requires : goal.tick_at-requires
 tick_at-requires c =
@@ -11,9 +11,8 @@ tick_at-requires c =
     let first = c.first_cell-first.ensures in (
       omega (arith, first, pre.0.place c.args.t (omega arith)),
       omega (arith, first, pre.1.place c.args.t (omega arith)),
-      omega (arith, c.collect.auto.state),
-      pre.3,
-      omega (arith, plans.logged c.args.plan c.args.t pre.3),
+      pre.2,
+      omega (arith, plans.logged c.args.plan c.args.t pre.2),
     )
 
 pub returns : goal.returns

@@ -4,23 +4,35 @@ use Rattle.std.specs.Prelude.{◌≡◌, ℕ, ◌+◌, ◌-◌, ◌*◌, Bool, t
 use Rattle.table.specs.Rows.{Row, Op, input, constant, combine, register, faster, slower, later, head, tail, sample, merge, unrated, view}
 use Rattle.table.specs.Rows.{decode}
 use Rattle.runner.specs.declared.operators.Outcome.{Outcome}
+use Rattle.runner.specs.declared.operators.Outcome.TheVariants.{Absent, Present, Clash}
 use Rattle.runner.specs.declared.carried.Held.{Held}
 use Rattle.table.specs.Bits.{bit}
-use Rattle.semantics.specs.Cells.{Cell, absent, present, mark, value}
-use Rattle.semantics.specs.Answers.{mark_byte}
+use Rattle.semantics.specs.Cells.{Cell, absent, present, mark}
 use Rattle.semantics.specs.Operators.{Step, is, clashes, combined, sampled, merged, truth_of}
 
 -- a cell from its mark and its value
 abbrev pub cell_at : ℕ → ℕ → Cell
 cell_at m v = cond (m == 0) absent (present v)
 
--- a step as an outcome: the cell's mark and value, or the mark of a clash
+-- the mark of a clash, which no cell has
 abbrev pub clash_mark : ℕ
 clash_mark = 2
 
+-- a step as an outcome, and the mark and the value of an outcome
 abbrev pub outcome_of : Step → Outcome
-outcome_of (is c) = record { mark = mark_byte c; value = value c }
-outcome_of clashes = record { mark = clash_mark; value = 0 }
+outcome_of (is absent) = Absent
+outcome_of (is (present v)) = Present v
+outcome_of clashes = Clash
+
+abbrev pub mark_of : Outcome → ℕ
+mark_of Absent = 0
+mark_of (Present v) = 1
+mark_of Clash = clash_mark
+
+abbrev pub value_of : Outcome → ℕ
+value_of Absent = 0
+value_of (Present v) = v
+value_of Clash = 0
 
 -- the cells of a tick's flows below f
 abbrev pub cells_in : List ℕ → List ℕ → ℕ → ℕ → Cell

@@ -4,7 +4,6 @@ use Rattle.table.specs.declared.Cursor.{Cursor}
 use Rattle.table.specs.declared.Record.{Record}
 use Rattle.table.specs.declared.refusal.Refused.{Refused}
 use Rattle.std.specs.Prelude as std
-use Rattle.table.specs.declared.refusal.Refusal.{Refusal}
 use Rattle.table.specs.declared.refusal.Refusal.TheVariants.{BadFilling}
 use Rattle.table.specs.Answers.{Result, good, refused, unless, then, named}
 use Rattle.table.specs.Rows.{Words, row_of, row_size}

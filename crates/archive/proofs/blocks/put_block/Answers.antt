@@ -1,20 +1,23 @@
 use lib.ListN.{length-set}
 use mathlib.Core.Path.{◌∙◌}
 use native.Mathlib.Omega.{arith}
+use Rattle.std.proofs.Common.{rules}
 use Rattle.archive.proofs.Held.{moved_next, moved_on_lem, place_within}
-use Rattle.archive.proofs.Restoring.{marks_more, values_more}
+use Rattle.archive.proofs.Restoring.{blank_size, blank, marks_more, values_more}
 use Rattle.archive.proofs.blocks.put_block.Goals as goal
 
 pub put_column-requires : goal.put_column-requires
 put_column-requires c =
-    let p = c.args.plan.now in
+    let a = c.args in
+    let p = a.plan.now in
     let k = c.loop-f in
     let l = c.loop-f-test.true in
+    let t = c.block_end-finish.result in
     let end = c.block_end-finish.ensures in (
       l,
       end.1,
-      k.auto.marks ∙ c.clear.auto.marks ∙ c.requires.1,
-      k.auto.values ∙ c.clear.auto.values ∙ c.requires.2,
+      k.auto.marks ∙ blank_size p.flows a.begin t p.ticks a.marks.now _ (omega (arith, end.0)) end.1 c.requires.1 (c.fill.ensures.after (λ y e. e)),
+      k.auto.values ∙ blank_size p.flows a.begin t p.ticks a.values.now _ (omega (arith, end.0)) end.1 c.requires.2 (c.fill-2.ensures.after (λ y e. e)),
       omega (
         arith,
         c.requires.3,
@@ -22,6 +25,19 @@ put_column-requires c =
             (k.invariant.moved.coming k.f (omega arith) l) end.1 l,
       ),
     )
+
+pub loop-f-init : goal.loop-f-init
+loop-f-init c =
+    let a = c.args in
+    let p = a.plan.now in
+    let t = c.block_end-finish.result in
+    let end = c.block_end-finish.ensures in
+    record {
+      room = search rules;
+      moved = record { passed = λ g l. absurd (omega arith); coming = λ g x y. c.requires.4.each g y };
+      marks = blank p.flows a.begin t p.ticks a.marks.now _ (omega (arith, end.0)) end.1 c.requires.1 (c.fill.ensures.after (λ y e. e)) _ c.requires.5;
+      values = blank p.flows a.begin t p.ticks a.values.now _ (omega (arith, end.0)) end.1 c.requires.2 (c.fill-2.ensures.after (λ y e. e)) _ c.requires.6;
+    }
 
 pub loop-f-preserved : goal.loop-f-preserved
 loop-f-preserved c =

@@ -15,7 +15,7 @@ running : (mask : ℕ) {n t : ℕ} {rows : List Row} {log ms₀ vs₀ : List ℕ
 running mask e R = rw e R
 
 pub loop-t-init : goal.loop-t-init
-loop-t-init c = let pre = c.requires in (omega arith, begun _ _ _ _ _ _ _ pre.5 pre.7)
+loop-t-init c = let pre = c.requires in (omega arith, begun _ _ _ _ _ _ _ pre.4 pre.6)
 
 pub run_ticks-requires : goal.run_ticks-requires
 run_ticks-requires c =
@@ -26,11 +26,10 @@ run_ticks-requires c =
     rw pre.0 (
       window_fits window_ticks p.n next (length l.marks) (omega arith) (omega (arith, pre.1, l.auto.marks)),
       window_fits window_ticks p.n next (length l.values) (omega arith) (omega (arith, pre.2, l.auto.values)),
-      omega (arith, l.auto.state),
       omega arith,
       omega arith,
-      pre.8,
-      pre.10,
+      pre.7,
+      pre.9,
     )
 
 pub add_ticks-requires : goal.add_ticks-requires
@@ -46,7 +45,7 @@ add_ticks-requires c =
       omega arith,
       window_fits window_ticks p.n next _ (omega arith) (omega (arith, pre.1, l.auto.marks, kept.marks)),
       window_fits window_ticks p.n next _ (omega arith) (omega (arith, pre.2, l.auto.values, kept.values)),
-      omega (arith, pre.6, l.auto.tallies),
+      omega (arith, pre.5, l.auto.tallies),
       tallied_low p.n l.t U.running.past _ _ U.running.ticks U.tallied,
     )
 
@@ -59,7 +58,7 @@ loop-t-preserved c =
     let kept = c.run_ticks.auto in (
       omega arith,
       stretched p.n l.t c.min-next.result (plan_rows p) p.log.now a.marks.now a.values.now a.tallies.now
-          l.state l.marks l.values l.tallies _ _ _ _ c.run_ticks.result l.invariant.1 pre.9 (omega arith) (omega arith)
+          l.state l.marks l.values l.tallies _ _ _ _ c.run_ticks.result l.invariant.1 pre.8 (omega arith) (omega arith)
           (omega (arith, pre.1, l.auto.marks, kept.marks)) (omega (arith, pre.2, l.auto.values, kept.values))
           (rw pre.0 at (c.run_ticks.ensures a.marks.now a.values.now (running p.mask pre.0 l.invariant.1.running))) (rw pre.0 at c.add_ticks.ensures),
     )

@@ -50,12 +50,14 @@ long_ticks-requires c =
     let a = c.args in
     let limited = rw c.start-inputs.ensures.0 at c.in_ok-limits.ensures in
     let pre = c.requires in
-    let T = tallied_cleared a.n a.tallies.now c.fill.new.self (c.fill.ensures.after (λ y e. e) ∙ ap (λ (k : ℕ). replicate k 0) (length-take-le (tally_size * a.n) a.tallies.now c.if-tallies-n.false)) c.if-tallies-n.false in
+    let room = c.if-tallies-n.false in
+    let T =
+    tallied_cleared a.n a.tallies.now c.fill.new.self
+    (c.fill.ensures.after (λ y e. e) ∙ ap (λ (k : ℕ). replicate k 0) (length-take-le (tally_size * a.n) a.tallies.now room)) room in
     let W = within a.n a.words.now a.log.now a.ticks a.marks.now a.values.now a.tallies.now pre.0 pre.1 _ limited in (
       refl,
       W.3,
       W.4,
-      omega (arith, c.start-inputs.auto.state, pre.0.few),
       omega (arith, W.1),
       c.start-inputs.ensures.1,
       omega (arith, T.size),
@@ -69,5 +71,8 @@ pub returns : goal.returns
 returns c =
     let a = c.args in
     let limited = rw c.start-inputs.ensures.0 at c.in_ok-limits.ensures in
-    let T = tallied_cleared a.n a.tallies.now c.fill.new.self (c.fill.ensures.after (λ y e. e) ∙ ap (λ (k : ℕ). replicate k 0) (length-take-le (tally_size * a.n) a.tallies.now c.if-tallies-n.false)) c.if-tallies-n.false in
+    let room = c.if-tallies-n.false in
+    let T =
+    tallied_cleared a.n a.tallies.now c.fill.new.self
+    (c.fill.ensures.after (λ y e. e) ∙ ap (λ (k : ℕ). replicate k 0) (length-take-le (tally_size * a.n) a.tallies.now room)) room in
     (ran a.n a.words.now a.log.now a.ticks a.marks.now a.values.now a.tallies.now c.requires.0 c.requires.1 _ limited _ _ _ _ c.if-tallies-n.false T c.long_ticks.ensures)

@@ -4,5 +4,5 @@ use Rattle.runner.proofs.state.first_word.Goals as goal
 
 pub returns-in_default : goal.returns-in_default
 returns-in_default c =
-    let a = c.args in
-    sym (no_start a.kind a.p a.q a.r c.requires (omega arith) (omega arith) (omega arith))
+    let r = c.args.row in
+    sym (no_start r.kind r.one r.two r.three c.requires (omega arith) (omega arith) (omega arith))

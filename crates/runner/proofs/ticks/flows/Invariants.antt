@@ -1,3 +1,5 @@
+use Rattle.std.proofs.Common.{◌≡◌, length}
+use Rattle.table.specs.Rows.{max_flows}
 use Rattle.semantics.specs.Runs.{Ticks}
 use Rattle.runner.specs.Private.Ready.{Ready}
 use Rattle.runner.proofs.Flowing.{Going}
@@ -6,5 +8,5 @@ use Rattle.runner.proofs.ticks.flows.Given as goal
 
 abbrev pub invariant-loop-f : goal.invariant-loop-f
 invariant-loop-f l =
-    (past : Ticks) → Ready (plan_rows l.plan) past l.t l.at l.initial.state
-    → Going (plan_rows l.plan) l.plan.log.now past l.t l.initial.state l.initial.marks l.initial.values l.state l.marks l.values l.f
+    (length l.state ≡ max_flows) × ((past : Ticks) → Ready (plan_rows l.plan) past l.t l.at l.initial.state
+    → Going (plan_rows l.plan) l.plan.log.now past l.t l.initial.state l.initial.marks l.initial.values l.state l.marks l.values l.f)

@@ -1,4 +1,4 @@
-use Rattle.std.proofs.Common.{arith}
+use Rattle.std.proofs.Common.{◌∙◌, length-set, arith}
 use Rattle.runner.proofs.Plans as plans
 use Rattle.runner.proofs.Latching.{ends, stops, goes_on, operands_low}
 use Rattle.runner.proofs.ticks.latch.Goals as goal
@@ -20,9 +20,9 @@ bounds-marks-a c =
 
 pub bounds-marks-b : goal.bounds-marks-b
 bounds-marks-b c =
-    let a = c.args in
-    let p = a.plan in
-    omega (arith, (plans.registers p).within c.loop-row.row-index c.loop-row-test.true, operands_low p.n p.words.now p.registers.now _ (plans.table p) (plans.registers p) c.loop-row.row-index c.loop-row-test.true)
+    let p = c.args.plan in
+    let low = (plans.registers p).within c.loop-row.row-index c.loop-row-test.true in
+    omega (arith, low, operands_low p.n p.words.now p.registers.now _ (plans.table p) (plans.registers p) c.loop-row.row-index c.loop-row-test.true)
 
 pub returns-then-marks-a : goal.returns-then-marks-a
 returns-then-marks-a c =
@@ -31,7 +31,7 @@ returns-then-marks-a c =
     let p = a.plan in
     λ past cells ms vs t z w F.
     stops p.n p.words.now p.registers.now _ (plans.table p) (plans.registers p) past cells
-    ms vs a.marks.now a.values.now a.state.now t z w F l.state l.row-index (l.invariant past cells ms vs t z w F)
+    ms vs a.marks.now a.values.now a.state.now t z w F l.state l.row-index (l.invariant.1 past cells ms vs t z w F)
     c.loop-row-test.true c.if-marks-a.true
 
 pub bounds-marks-a-in-loop-row : goal.bounds-marks-a-in-loop-row
@@ -51,10 +51,13 @@ loop-row-preserved c =
     let l = c.loop-row in
     let a = c.args in
     let p = a.plan in
-    λ past cells ms vs t z w F.
-    goes_on p.n p.words.now p.registers.now _ (plans.table p) (plans.registers p)
-    past cells ms vs a.marks.now a.values.now a.state.now t z w F l.state l.row-index
-    (l.invariant past cells ms vs t z w F) c.loop-row-test.true _ (omega (arith, (plans.registers p).within l.row-index c.loop-row-test.true)) c.latched-held.ensures c.if-marks-a.false
+    let low = (plans.registers p).within l.row-index c.loop-row-test.true in (
+      length-set l.state _ _ ∙ l.invariant.0,
+      λ past cells ms vs t z w F.
+          goes_on p.n p.words.now p.registers.now _ (plans.table p) (plans.registers p)
+          past cells ms vs a.marks.now a.values.now a.state.now t z w F l.state l.row-index
+          (l.invariant.1 past cells ms vs t z w F) c.loop-row-test.true _ (omega (arith, l.invariant.0, low)) c.latched-held.ensures c.if-marks-a.false,
+    )
 
 pub returns : goal.returns
 returns c =
@@ -63,5 +66,5 @@ returns c =
     let p = a.plan in
     λ past cells ms vs t z w F.
     ends p.n p.words.now p.registers.now _ (plans.table p) (plans.registers p) past cells
-    ms vs a.marks.now a.values.now a.state.now t z w F l.state l.row-index (l.invariant past cells ms vs t z w F)
+    ms vs a.marks.now a.values.now a.state.now t z w F l.state l.row-index (l.invariant.1 past cells ms vs t z w F)
     c.loop-row-test.false (omega arith)

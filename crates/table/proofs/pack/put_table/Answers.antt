@@ -1,4 +1,4 @@
-use mathlib.Core.Path.{◌≡◌, refl, ◌∙◌, subst}
+use mathlib.Core.Path.{◌≡◌, ◌∙◌, subst}
 use mathlib.Core.List.{List, ◌++◌}
 use Prim.Native.Nat.{ℕ}
 use native.Mathlib.Omega.{arith}
@@ -12,7 +12,6 @@ use Rattle.table.proofs.BitLaws.{length_to_bits}
 use Rattle.table.proofs.Lengths.{row_le}
 use Rattle.table.proofs.Puts.{put_put, put_first}
 use Rattle.table.proofs.WriteLaws.{putting_starts, putting_ends, known_row, room_row, putting_goes}
-use borrow.Author.Rules.{rules}
 use Rattle.table.proofs.pack.put_table.Goals as goal
 
 pub put-cursor-requires : goal.put-cursor-requires

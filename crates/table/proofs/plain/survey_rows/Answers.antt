@@ -5,7 +5,7 @@ use Prim.Native.Nat.{ℕ, ◌+◌, ◌-◌, ◌*◌, ◌<◌}
 use native.Mathlib.Nat.{sub-zero}
 use native.Mathlib.Omega.{arith}
 use lib.Dec.{eqb}
-use lib.ListN.{length, drop, set}
+use lib.ListN.{drop, set}
 use borrow.Author.Tests.{eqb-true, not-true, not-false}
 use borrow.Author.Rules.{rules}
 use Rattle.table.specs.Answers.{number}

@@ -1,4 +1,4 @@
-use mathlib.Core.Path.{refl, sym, ◌∙◌}
+use mathlib.Core.Path.{sym, ◌∙◌}
 use Rattle.table.specs.Rows.{ranged, kind_at, max_flows}
 use Rattle.table.specs.Plain.{words_of}
 use Rattle.table.specs.Private.Codes.{bounds, bounded}

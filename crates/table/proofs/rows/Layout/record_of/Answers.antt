@@ -1,7 +1,6 @@
-use mathlib.Core.Path.{◌≡◌, refl, ap}
+use mathlib.Core.Path.{◌≡◌, refl}
 use Prim.Native.Nat.{◌+◌, ◌/◌, ◌%◌, ◌^◌}
 use native.Mathlib.Omega.{arith}
-use lib.ListN.{length}
 use Rattle.table.specs.Rows.{width, Kind, kind_at}
 use Rattle.table.specs.Private.Codes.{widths, fields_in}
 use Rattle.table.proofs.Entries.{field_lt, field_width}
