@@ -1,4 +1,5 @@
 // Traces in the archive: the values of a trace stored flow after flow, and given back.
+// A cast by `as` stands where std has no `From`, or a constant may call none; that nothing is lost is proved.
 #![tactic(auto)]
 
 ghost use Rattle.std.specs.Prelude.{◌≡◌, ◌*◌, ◌≤◌, List, ℕ, length, MatchResult};

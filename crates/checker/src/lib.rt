@@ -1,4 +1,5 @@
 // The check: each flow's clock, or a refusal.
+// A cast by `as` stands where std has no `From`, or a constant may call none; that nothing is lost is proved.
 #![tactic(auto)]
 
 mod rules;
@@ -116,7 +117,7 @@ impl<'a> Plan<'a> {
         Ok(self.count)
     }
 
-    // Whether row f, where it is a register, has a source with its beat's clock.
+    // Whether row f, where it is a register (by the number of its kind, as the words have it), has a source with its beat's clock.
     fn source_fits(self, kept: &[Clock; FLOWS], f: u32) -> bool
         ensures { result ≡ source_in kept.now (row_words self.entry.words.now f) }
     {

@@ -1,4 +1,5 @@
 // Writes the listings of some packed tables.
+// A cast by `as` stands where std has no `From`, or a constant may call none; that nothing is lost is proved.
 #![tactic(auto)]
 
 use std::io;

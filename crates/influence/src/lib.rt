@@ -1,4 +1,5 @@
 // Which inputs a flow feels, as sets: bit i of a set is row i.
+// A cast by `as` stands where std has no `From`, or a constant may call none; that nothing is lost is proved.
 #![tactic(auto)]
 
 ghost use Rattle.std.specs.Prelude.{◌≡◌, ◌≤◌, length, get_or};
@@ -16,7 +17,7 @@ use table::{Refused, record_at};
 // The kind of an input.
 const INPUT: u32 = 0;
 
-// Those of the first n rows that are inputs, as a set.
+// Those of the first n rows that are inputs, as a set: by the number of their kind, as the words have it.
 fn inputs(n: u32, words: &[u32]) -> u64
     requires { n ≤ max_flows }
     ensures { result ≡ set_of (input_at words.now) n }

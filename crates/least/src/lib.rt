@@ -1,4 +1,5 @@
 // The least part of a plan that the check still answers with 21.
+// A cast by `as` stands where std has no `From`, or a constant may call none; that nothing is lost is proved.
 #![tactic(auto)]
 
 ghost use Rattle.std.specs.Prelude.{◌≡◌, true, ◌*◌, ◌≤◌, MatchResult, length};

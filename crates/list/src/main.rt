@@ -1,4 +1,5 @@
 // Writes the listing of the packed table on standard input, or says why it cannot be read.
+// A cast by `as` stands where std has no `From`, or a constant may call none; that nothing is lost is proved.
 #![tactic(auto)]
 
 ghost use Rattle.std.specs.Prelude.{IfOk};

@@ -1,4 +1,5 @@
 // The listing of a packed table, as text.
+// A cast by `as` stands where std has no `From`, or a constant may call none; that nothing is lost is proved.
 #![tactic(auto)]
 
 ghost use Rattle.std.specs.Prelude.{◌≡◌, ◌*◌, ◌%◌, ◌≤◌, length, eqb};

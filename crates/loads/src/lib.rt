@@ -1,4 +1,5 @@
 // The load page of a plan, as text: what each flow costs, and the total.
+// A cast by `as` stands where std has no `From`, or a constant may call none; that nothing is lost is proved.
 #![tactic(auto)]
 
 ghost use Rattle.std.specs.Prelude.{◌≡◌, ◌*◌, ◌%◌, ◌≤◌, ◌<◌, length, map};

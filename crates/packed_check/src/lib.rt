@@ -1,4 +1,5 @@
 // A packed table, read and checked: `table::read` and `checker::check` by their contracts alone.
+// A cast by `as` stands where std has no `From`, or a constant may call none; that nothing is lost is proved.
 #![tactic(auto)]
 
 ghost use Rattle.std.specs.Prelude.{◌≡◌, length};

@@ -1,4 +1,5 @@
 // The call that fills in the rates of inputs that have none written.
+// A cast by `as` stands where std has no `From`, or a constant may call none; that nothing is lost is proved.
 #![tactic(auto)]
 
 mod steps; // steps.rt: how a rate spreads along a row
@@ -45,7 +46,7 @@ fn join(rates: &mut Rates, r: Record, f: u32, on: bool, a: u32) -> bool
     }
 }
 
-// The fields of a kind that hold the flows with which a row joins its result: of a view the first only.
+// The fields of a kind, by its number, that hold the flows with which a row joins its result: of a view the first only.
 fn join_fields(kind: u32) -> FlowFields
     ensures { result ≡ join_fields kind }
 {

@@ -92,7 +92,7 @@ pub(crate) fn begin(r: Record) -> Option<Rate>
     }
 }
 
-// A row with a rate filled in, where it is unrated.
+// A row with a rate filled in, where it is unrated: by the number of its kind, as the words have it.
 pub(crate) fn fill_row(r: Record, rate: Rate) -> Record
     ensures { words_of result ≡ filled_row (rate_of rate) (words_of r) }
 {

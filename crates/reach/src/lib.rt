@@ -1,4 +1,5 @@
 // The flows to which each flow of a plan leads, as sets: bit g of a set is flow g.
+// A cast by `as` stands where std has no `From`, or a constant may call none; that nothing is lost is proved.
 #![tactic(auto)]
 
 ghost use Rattle.std.specs.Prelude.{◌≡◌, ◌<◌, length};

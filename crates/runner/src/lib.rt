@@ -1,4 +1,5 @@
 // The runs: each flow's cell at each tick, or a clash. A run has room for every tick, a long run for a window of them.
+// A cast by `as` stands where std has no `From`, or a constant may call none; that nothing is lost is proved.
 #![tactic(auto)]
 
 ghost use Rattle.std.specs.Prelude.{◌≡◌, ℕ, ◌+◌, ◌*◌, ◌^◌, ◌<◌, ◌≤◌, List, length};

@@ -85,7 +85,7 @@ fn first_words(row: Record, j: u32) -> Held
     }
 }
 
-// The words that the rows carry into tick 0, and the count of inputs.
+// The words that the rows carry into tick 0, and the count of inputs, by the number of their kind.
 pub(crate) fn start(n: usize, words: &[u32], state: &mut State) -> u32
     requires { Plain n words.now }
     ensures { (result ≡ inputs (rows_in n words.now)) × (AllCarry (rows_in n words.now) 0 [] state.new) }
@@ -133,7 +133,7 @@ fn look_row(plan: Plan, c: usize, w: u32, t: u32, marks: &[u8], values: &[u32], 
     }
 }
 
-// What a row that looks back needs of an earlier tick.
+// What a row that looks back needs of an earlier tick: by the number of its kind, as the words have it.
 fn look_back(
     plan: Plan,
     kind: u32,

@@ -1,5 +1,6 @@
 // Reads and writes tables, refused ones among them, and prints each answer and then the whole buffer:
 // number, flow, tick, count, a colon, and the cells. Buffers hold 7 everywhere before a call.
+// A cast by `as` stands where std has no `From`, or a constant may call none; that nothing is lost is proved.
 #![tactic(auto)]
 
 use std::{fmt, io};
