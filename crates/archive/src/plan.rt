@@ -47,7 +47,7 @@ impl Plan<'_> {
     ghost use Rattle.archive.specs.Private.Plans.{words_of, PeriodsIn, TicksIn, CarriedBy};
 
     // Flow f's period.
-    pub fn period(&self, f: usize) -> u32
+    pub(crate) fn period(&self, f: usize) -> u32
         requires { f < self.now.flows }
         ensures value { result ≡ period_in self.now.clocks.now f }
         ensures positive { 0 < result }
@@ -57,7 +57,7 @@ impl Plan<'_> {
     }
 
     // Its phase.
-    pub fn phase(&self, f: usize) -> u32
+    pub(crate) fn phase(&self, f: usize) -> u32
         requires { f < self.now.flows }
         ensures { result ≡ phase_in self.now.clocks.now f }
     {
@@ -65,7 +65,7 @@ impl Plan<'_> {
     }
 
     // How many cells the trace has.
-    pub fn cells(&self) -> usize
+    pub(crate) fn cells(&self) -> usize
         ensures value { result ≡ self.now.ticks * self.now.flows }
         ensures fits { result < 2 ^ 32 }
     {
@@ -73,7 +73,7 @@ impl Plan<'_> {
     }
 
     // Each flow's first due tick with the place of its first word, and how many words there are.
-    pub fn place_words(&self, next: &mut [Next; MAX_FLOWS]) -> u32
+    pub(crate) fn place_words(&self, next: &mut [Next; MAX_FLOWS]) -> u32
         ensures value { result ≡ words_of self.now }
         ensures carried { CarriedBy self.now 0 next.new }
     {
@@ -90,7 +90,7 @@ impl Plan<'_> {
     }
 
     // Each flow's period and first due tick.
-    pub fn gather(&self, periods: &mut [u32; MAX_FLOWS], ticks: &mut [u32; MAX_FLOWS])
+    pub(crate) fn gather(&self, periods: &mut [u32; MAX_FLOWS], ticks: &mut [u32; MAX_FLOWS])
         ensures periods { PeriodsIn self.now periods.new }
         ensures ticks { TicksIn self.now 0 ticks.new }
     {

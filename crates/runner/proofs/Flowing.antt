@@ -1,5 +1,6 @@
 -- The loop over the flows of one tick: what its invariant says, and how a turn keeps it. Assumes nothing.
-use Rattle.std.proofs.Common.{Ok, Err, ◌≡◌, ℕ, suc, ◌+◌, ◌*◌, ◌<◌, ◌≤◌, List, [], ◌∷◌, ◌++◌, length, drop, set, sym, refl, ap, ◌∙◌, subst, ⊎_elim, eq-or-lt_of_le, add-one, arith, length-append, drop-cons, get_or-set_other, get_or-set_same}
+use Rattle.std.proofs.Common.{Ok, Err, ◌≡◌, ℕ, suc, ◌+◌, ◌*◌, ◌<◌, ◌≤◌, List, [], ◌∷◌, ◌++◌, length}
+use Rattle.std.proofs.Common.{drop, set, sym, refl, ap, ◌∙◌, subst, ⊎_elim, eq-or-lt_of_le, add-one, arith, length-append, drop-cons, get_or-set_other, get_or-set_same}
 use lib.ListN.{get_or-append}
 use lib.Seq.{drop-length}
 use Rattle.table.specs.Rows.{Row, tail}
