@@ -104,24 +104,24 @@ impl Draft<'_> {
         news
     }
 
-    // The rates of the rated rows.
-    fn start(self) -> Rates
-        ensures { Starting self.entry.count self.entry.words.now self.entry.count result }
+    // The rates of the rated rows, where none is known yet.
+    fn start(self, rates: &mut Rates)
+        requires { Starting self.count self.words.now 0 rates.old }
+        ensures { Starting self.entry.count self.entry.words.now self.entry.count rates.new }
     {
-        let mut rates = [None; FLOWS];
         for f in 0..self.count {
             rates[f as usize] = begin(record_at(self.words, f));
         }
-        rates
     }
 
-    // Spreads the rates of the rated rows until nothing is left to spread: how many passes that takes is not known before.
-    fn spread(self) -> Rates
-        ensures { Settled self.entry.count self.entry.words.now result }
+    // Spreads the rates of the rated rows until nothing is left to spread: how many passes that takes is not known before. The rates are lent: handed
+    // back they would be copied.
+    fn spread(self, rates: &mut Rates)
+        requires { Starting self.count self.words.now 0 rates.old }
+        ensures { Settled self.entry.count self.entry.words.now rates.new }
     {
-        let mut rates = self.start();
-        while self.pass(&mut rates) {}
-        rates
+        self.start(rates);
+        while self.pass(rates) {}
     }
 
     // The lowest flow whose rate is not known.
@@ -145,7 +145,8 @@ impl Draft<'_> {
     fn fill(self, filled: &mut [u32]) -> Result<u32, Refused>
         ensures { Filled self.entry.count self.entry.words.now filled.old (parts result) filled.new }
     {
-        let rates = self.spread();
+        let mut rates = [None; FLOWS];
+        self.spread(&mut rates);
         if let Some(f) = self.lowest(&rates) {
             return Err(Refusal::Unjoined.at(f));
         }

@@ -1,14 +1,13 @@
-use mathlib.Core.Path.{◌≡◌, refl, ◌∙◌, ap, subst}
+use mathlib.Core.Path.{◌≡◌, ◌∙◌, ap, subst}
 use Prim.Native.Nat.{ℕ}
 use native.Mathlib.Omega.{arith}
 use lib.ListN.{length-set}
-use Rattle.table.specs.Rows.{max_flows}
 use Rattle.rates.specs.Private.Spread.{begun, Starting}
-use Rattle.rates.proofs.Passing.{starting_none, starting_next}
+use Rattle.rates.proofs.Passing.{starting_next}
 use Rattle.rates.proofs.Draft.start.Goals as goal
 
 pub loop-f-init : goal.loop-f-init
-loop-f-init c = (refl, starting_none c.args.self.count c.args.self.words.now max_flows)
+loop-f-init c = (omega arith, c.requires)
 
 pub loop-f-preserved : goal.loop-f-preserved
 loop-f-preserved c =
