@@ -1,6 +1,7 @@
 -- Why a plan comes back: each cause with its number, the four parts of an answer, and what is left in a lent buffer.
-use Rattle.std.specs.Prelude.{ℕ, Bool, true, false, List, ◌++◌, length, drop}
+use Rattle.std.specs.Prelude.{ℕ, Bool, true, false, List, ◌∷◌, ◌++◌, codes, length, drop}
 use Rattle.std.specs.Prelude as std
+use Rattle.std.specs.Fmt.{decimal}
 use Rattle.table.specs.declared.Answer.{Answer}
 use Rattle.table.specs.declared.refusal.Refused.{Refused}
 use Rattle.table.specs.declared.refusal.Refusal.{Refusal}
@@ -68,6 +69,14 @@ named why f = record { why = why; flow = f; tick = 0 }
 abbrev pub parts : std.Result ℕ Refused → Answer
 parts (std.Ok n) = success n
 parts (std.Err r) = record { number = number r.why; flow = r.flow; tick = r.tick; count = 0 }
+
+-- what is printed of an answer: its four parts in decimal, a blank between them
+abbrev pub answer_text : Answer → List ℕ
+answer_text a = decimal a.number ++ (32 ∷ (decimal a.flow ++ (32 ∷ (decimal a.tick ++ (32 ∷ decimal a.count)))))
+
+-- what is printed of a refusal: its cause's number, the row or flow and the tick
+abbrev pub refused_text : Refused → List ℕ
+refused_text r = codes "refused with " ++ (decimal (number r.why) ++ (codes " at flow " ++ (decimal r.flow ++ (codes ", tick " ++ decimal r.tick))))
 
 -- xs from the first cell on, and the rest as it was
 abbrev pub over : List ℕ → List ℕ → List ℕ

@@ -57,6 +57,11 @@ impl Answer {
 
 // The four parts, a blank between them.
 impl fmt::Display for Answer {
+    ghost use Rattle.std.specs.Prelude.{Some};
+    ghost use Rattle.table.specs.Answers.{answer_text};
+
+    ghost output = { λ a. Some (answer_text a) };
+
     fn fmt<W: fmt::Write>(&self, f: &mut fmt::Formatter<W>) -> fmt::Result {
         write!(
             f,

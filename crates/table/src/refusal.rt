@@ -97,6 +97,11 @@ impl From<Refusal> for Refused {
 
 // The number, and then the row or flow and the tick.
 impl fmt::Display for Refused {
+    ghost use Rattle.std.specs.Prelude.{Some};
+    ghost use Rattle.table.specs.Answers.{refused_text};
+
+    ghost output = { λ r. Some (refused_text r) };
+
     fn fmt<W: fmt::Write>(&self, f: &mut fmt::Formatter<W>) -> fmt::Result {
         write!(
             f,
