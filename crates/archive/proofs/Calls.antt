@@ -1,13 +1,14 @@
 -- What the calls answer and leave, from the tests that they pass. Assumes nothing.
-use mathlib.Core.Path.{◌≡◌, refl, sym, ◌∙◌, ap, ap₂}
+use mathlib.Core.Path.{◌≡◌, refl, sym, ◌∙◌, ap, ap₂, subst}
 use Prim.Native.Nat.{ℕ, zero, suc, ◌+◌, ◌*◌, ◌≤◌, ◌<◌}
 use native.Mathlib.Nat.{add-zero, zero-add}
+use native.Mathlib.Decide.{dec_lt}
 use native.Mathlib.Omega.{arith}
 use mathlib.Core.Bool.{Bool, true, false, ◌&&◌, not}
 use mathlib.Core.List.{List, [], ◌∷◌, ◌++◌}
 use lib.ListN.{length, get_or}
 use lib.Seq.{ext_get_or, get_or-drop}
-use borrow.Author.Tests.{le-leb, lt-leb}
+use borrow.Author.Tests.{le-leb, lt-leb, leb-true}
 use Rattle.table.specs.declared.Answer.{Answer}
 use Rattle.table.specs.declared.refusal.Refusal.TheVariants.{TooManyTicks, HasConditions, WrongLength, OffCalendar}
 use Rattle.std.specs.Prelude.{Err}
@@ -18,7 +19,7 @@ use Rattle.table.specs.Answers.{good, refused, leaves, answer, success, refusal,
 use Rattle.table.specs.Rows.{Row, row_size, max_flows}
 use Rattle.table.specs.Plain.{per_flow, row_words, table_of}
 use Rattle.table.proofs.AnswerLaws.{told_err}
-use Rattle.table.proofs.Tests.{then_good}
+use Rattle.table.proofs.Tests.{and_false, then_good, unless_good}
 use Rattle.table.proofs.PlainRows.{per_length, per_entry}
 use Rattle.table.proofs.Tables.{table_made}
 use Rattle.checker.specs.Clocks.{Clock, every}
@@ -39,7 +40,7 @@ use Rattle.archive.proofs.Traces.{cells_length, stored_length}
 use Rattle.archive.proofs.RoundTrip.{Lengths, lengths_fit_lem, all_over}
 
 -- ROWS without conditions, by the kinds as the code reads them
-kind_at_lem : (f : ℕ) (words : List ℕ) → (row_words words f).kind ≡ get_or words (row_size * f) 0
+pub kind_at_lem : (f : ℕ) (words : List ℕ) → (row_words words f).kind ≡ get_or words (row_size * f) 0
 kind_at_lem f words = get_or-drop (row_size * f) words 0 0 ∙ ap (λ (i : ℕ). get_or words i 0) (add-zero (row_size * f))
 
 -- a range of one number more
@@ -62,7 +63,22 @@ free_is words (suc m) =
     conditionless : ℕ → Bool
     conditionless f = not (samples (get_or words (row_size * f) 0))
 
+-- one row that has them is enough
+pub free_not : (f : ℕ) (words : List ℕ) → samples (row_words words f).kind ≡ true → (m : ℕ) → f < m → free m words ≡ false
+unfolding free
+free_not f words s zero l = absurd (omega arith)
+free_not f words s (suc m) l =
+    elim (dec_lt f m) [
+      | yes y ↦ ap (λ (b : Bool). b && not (samples (row_words words m).kind)) (free_not f words s m y)
+      | no y ↦ let q : f ≡ m = omega arith in
+          ap (λ (b : Bool). free m words && not b) (subst (λ (i : ℕ). samples (row_words words i).kind ≡ true) q s) ∙ and_false (free m words)
+    ]
+
 -- THE PLAN
+few_ticks : (m : ℕ) (words : List ℕ) (ticks : ℕ) (ks : List Clock) → archiving m words ticks ≡ good ks → ticks ≤ max_ticks
+unfolding archiving
+few_ticks m words ticks ks e = let c = then_good (clocks_for m words) _ ks e in leb-true ticks max_ticks (unless_good _ TooManyTicks 0 _ ks c.2).0
+
 -- the check's refusal is handed on
 pub plan_refused : (m : ℕ) (words : List ℕ) (room ticks : ℕ) → clock_size * max_flows ≤ room → (r : Refused) → parts (Err r) ≡ check_answer m words room → Refuses m words ticks r
 unfolding archiving

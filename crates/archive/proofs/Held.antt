@@ -41,7 +41,7 @@ module _ (m : ℕ) (clocks : List ℕ) where
         ∙ next_words (clocks_in m clocks) ticks f
         ∙ ap (λ (k : Clock). words_before (clocks_in m clocks) ticks f + points k.period k.phase ticks) (clock_at_lem f l)
 
-    words_most : (f : ℕ) → words_before (clocks_in m clocks) ticks f ≤ f * ticks
+    pub words_most : (f : ℕ) → words_before (clocks_in m clocks) ticks f ≤ f * ticks
     unfolding words_before
     words_most zero = omega arith
     words_most (suc f) =
@@ -84,7 +84,7 @@ module _ (m : ℕ) (clocks : List ℕ) where
   unfolding points
   first_tick f = omega arith
 
-  first_place : (ticks f w : ℕ) → w ≡ words_before (clocks_in m clocks) ticks f → w ≡ place_in m clocks ticks 0 f
+  pub first_place : (ticks f w : ℕ) → w ≡ words_before (clocks_in m clocks) ticks f → w ≡ place_in m clocks ticks 0 f
   unfolding points
   first_place ticks f w e = omega arith
 

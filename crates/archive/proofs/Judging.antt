@@ -1,6 +1,6 @@
 -- A trace is judged cell by cell: a flow is due where its next due tick has come. Assumes nothing.
 use mathlib.Core.Path.{◌≡◌, refl, sym, ◌∙◌, ap, subst}
-use Prim.Native.Nat.{ℕ, suc, ◌+◌, ◌*◌, ◌<◌}
+use Prim.Native.Nat.{ℕ, suc, ◌+◌, ◌*◌, ◌≤◌, ◌<◌, ◌^◌}
 use native.Mathlib.Nat.{suc-mul}
 use native.Mathlib.Numerals.{add-one}
 use native.Mathlib.Omega.{arith}
@@ -13,7 +13,7 @@ use Rattle.table.specs.Bits.{bit}
 use Rattle.table.proofs.Tests.{Tried, passed, failed, try}
 use Rattle.table.proofs.Lists.{below_suc}
 use Rattle.checker.specs.Clocks.{Clock}
-use Rattle.checker.specs.Rules.{clock_at}
+use Rattle.checker.specs.Rules.{max_derived, clock_at}
 use Rattle.semantics.specs.Cells.{on_grid}
 use Rattle.calendar.specs.Calendar.{cell_at}
 use Rattle.archive.specs.Columns.{points, cell_fits, column_fits}
@@ -53,6 +53,13 @@ moved_is x t n due e = rw e (go (try (eqb x t)))
     go : Tried (eqb x t) → x + bit (eqb x t) * n ≡ cond (eqb x t) (t + n) x
     go (passed p) = rw p (omega (arith, eqb-true x t p))
     go (failed p) = rw p (omega arith)
+
+pub moved_small : (x t n due : ℕ) → due ≡ bit (eqb x t) → x < 2 ^ 32 → t < 2 ^ 24 → n ≤ max_derived → x + due * n < 2 ^ 32
+moved_small x t n due e a b l = rw (moved_is x t n due e) (go (eqb x t))
+  where
+    go : (d : Bool) → cond d (t + n) x < 2 ^ 32
+    go true = omega arith
+    go false = a
 
 -- THE CELLS OF A TICK, flow by flow: what they add is 0 so far, or it is not
 module _ (m t : ℕ) (marks values next : List ℕ) where

@@ -31,7 +31,7 @@ pub record Stepping (n p end at t w number : ℕ) : Type 0 where
 
 module _ {n p end at t w number : ℕ} (pos : 0 < n) (s : Stepping n p end at t w number) where
   -- one that is below the end is counted
-  step_in : t < end → number < points n p end
+  pub step_in : t < end → number < points n p end
   step_in l =
       elim (dec_lt number (points n p end)) [ yes y ↦ y | no y ↦ absurd (omega (arith, point_above n p pos end number (omega arith), s.tick)) ]
 

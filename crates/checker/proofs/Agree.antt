@@ -108,6 +108,14 @@ conditions_words (suc n) (c ∷ cs) (d ∷ ds) zs l m x e h =
     (and_both (eq-eqb c.view d.view (sym p.1 ∙ ap view_part first ∙ q.1))
     (conditions_words n cs ds zs l.1 m.1 (omega arith) (omega arith) rest)))
 
+-- a property of the first four places
+below_four : (P : ℕ → Type 0) (n : ℕ) → n ≤ 4 → P 0 → P 1 → P 2 → P 3 → (i : ℕ) → i < n → P i
+below_four P n l a b c d zero h = a
+below_four P n l a b c d (suc zero) h = b
+below_four P n l a b c d (suc (suc zero)) h = c
+below_four P n l a b c d (suc (suc (suc zero))) h = d
+below_four P n l a b c d (suc (suc (suc (suc i)))) h = absurd (omega arith)
+
 -- the conditions' words, looked at where there are any
 conditions_back : (cs ds : List Condition) → Below max_flows cs → Below max_flows ds → length cs ≤ 4 → length cs ≡ length ds
     → (eqb (length cs) 0 || pointwise eqb (four_words Kept.kept_word cs) (four_words Kept.kept_word ds)) ≡ true → same_conditions cs ds ≡ true

@@ -6,15 +6,13 @@ use mathlib.Core.Bool.{Bool, true, false, cond}
 use mathlib.Core.List.{List, [], ◌∷◌, ◌++◌, map}
 use mathlib.Core.Option.{Option, none, some}
 use lib.ListN.{length, take, drop, length-append, drop_of_length-le}
-use lib.Seq.{drop-cons}
-use native.Mathlib.Numerals.{add-one}
 use lib.Dec.{eqb, leb}
 use borrow.Author.Tests.{le-leb, lt-leb}
 use Rattle.std.specs.Prelude.{flat_map, Ok}
 use Rattle.table.specs.declared.refusal.Refusal.{Refusal}
 use Rattle.table.specs.declared.refusal.Refusal.TheVariants.{NoRoom}
 use Rattle.table.specs.Answers.{Result, good, refused, unless, then, over, parts, answer}
-use Rattle.table.specs.Rows.{Row, tail, Words, on_register, bad_register, max_flows}
+use Rattle.table.specs.Rows.{Row, Words, on_register, bad_register, max_flows}
 use Rattle.table.specs.Tables.{Holds, row_at}
 use Rattle.table.specs.Plain.{row_words, table_of, rows_in}
 use Rattle.table.proofs.AnswerLaws.{told_ok}
@@ -27,13 +25,13 @@ use Rattle.checker.specs.Answers.{clock_size, checking, clocks_after}
 use Rattle.checker.specs.declared.Clock.{Clock as Kept}
 use Rattle.checker.specs.Private.Kept as Kept
 use Rattle.checker.proofs.Agree.{same_kept}
-use Rattle.checker.proofs.Folds.{kept_read}
+use Rattle.checker.proofs.Folds.{kept_read, bad_next as next_bad, bad_here as here_bad}
 use Rattle.checker.proofs.Giving.{all_given}
 
 -- ---- the registers' sources, over clocks and over words
 
 -- a row by its words: registers are of kind 7
-row_register : (test : ℕ → ℕ → Bool) (m f : ℕ) (w : Words) (r : Row) → Made m f w r → on_register test r ≡ cond (eqb w.kind 7) (test w.two w.three) true
+pub row_register : (test : ℕ → ℕ → Bool) (m f : ℕ) (w : Words) (r : Row) → Made m f w r → on_register test r ≡ cond (eqb w.kind 7) (test w.two w.three) true
 row_register test m f w r d = ap (on_register test) (sym d.row) ∙ register_by test w.kind w.one w.two w.three d.known
 
 -- the search among the registers, row by row
@@ -43,12 +41,10 @@ module _ (m : ℕ) (words : List ℕ) (rows : List Row) (t : Table m words rows)
 
   pub bad_next : (f : ℕ) → f < m → Kept.source_in buffer (row_words words f) ≡ true
       → bad_register (Kept.fits_in buffer) f (drop f rows) ≡ bad_register (Kept.fits_in buffer) (f + 1) (drop (f + 1) rows)
-  unfolding bad_register
-  bad_next f l e = rw (drop-cons rows f (tail 0) (omega (arith, t.size)), source_row f l, e, add-one f)
+  bad_next f l e = next_bad (Kept.fits_in buffer) f rows (omega (arith, t.size)) (source_row f l ∙ e)
 
   pub bad_here : (f : ℕ) → f < m → Kept.source_in buffer (row_words words f) ≡ false → bad_register (Kept.fits_in buffer) f (drop f rows) ≡ some f
-  unfolding bad_register
-  bad_here f l e = rw (drop-cons rows f (tail 0) (omega (arith, t.size)), source_row f l, e)
+  bad_here f l e = here_bad (Kept.fits_in buffer) f rows (omega (arith, t.size)) (source_row f l ∙ e)
 
   pub bad_none : (f : ℕ) → m ≤ f → bad_register (Kept.fits_in buffer) f (drop f rows) ≡ none
   unfolding bad_register
@@ -79,7 +75,7 @@ module _ (m : ℕ) (words : List ℕ) (rows : List Row) (t : Table m words rows)
       ap₂ Kept.same (kept_read ks buffer a held few x) (kept_read ks buffer b held few y)
       ∙ sym (same_kept (clock_at ks a) (clock_at ks b) (within a x) (within b y).1)
 
-  sourced_by : (o : Option ℕ) → o ≡ bad_register (Kept.fits_in buffer) 0 rows → clocks_of rows ≡ sourced ks o
+  pub sourced_by : (o : Option ℕ) → o ≡ bad_register (Kept.fits_in buffer) 0 rows → clocks_of rows ≡ sourced ks o
   unfolding clocks_of
   sourced_by o p = rw (e, p, bad_same (Kept.fits_in buffer) (source_fits ks) m 0 rows t.fits (omega (arith, t.size)) fits_same)
 

@@ -1,9 +1,11 @@
--- The check's first pass: the clocks row by row. Assumes nothing.
+-- The check's two passes: the clocks row by row, and the registers' sources. Assumes nothing.
 use mathlib.Core.Path.{◌≡◌, refl, sym, ◌∙◌, ap, subst}
 use Prim.Native.Nat.{ℕ, zero, suc, ◌+◌, ◌%◌, ◌≤◌, ◌<◌}
 use native.Mathlib.Numerals.{add-one}
 use native.Mathlib.Omega.{arith}
+use mathlib.Core.Bool.{Bool, true, false}
 use mathlib.Core.List.{List, [], ◌∷◌, ◌++◌, map}
+use mathlib.Core.Option.{none, some}
 use lib.ListN.{length, take, drop, set, get_or, length-append, length-set, drop_of_length-le}
 use lib.Seq.{drop-cons, take-suc-set}
 use Rattle.std.specs.Prelude.{Ok, Err}
@@ -12,7 +14,7 @@ use Rattle.table.specs.Tables.{row_at}
 use Rattle.table.specs.declared.refusal.Refusal.{Refusal}
 use Rattle.table.specs.Answers.{Result, good, refused, answer, success, refusal}
 use Rattle.table.proofs.Tests.{not_good, good_inj}
-use Rattle.table.specs.Rows.{Row, tail, Words, max_flows}
+use Rattle.table.specs.Rows.{Row, tail, Words, bad_register, on_register, max_flows}
 use Rattle.table.specs.Plain.{row_words}
 use Rattle.table.proofs.Tables.{Table, Made}
 use Rattle.checker.specs.Clocks.{Clock, every}
@@ -64,7 +66,7 @@ within_snoc (j ∷ ks) k h w (suc f) l = within_snoc ks k (λ (g : ℕ). λ (i :
 
 -- the row at f, as its verdict goes
 module _ (m : ℕ) (words : List ℕ) (rows : List Row) (f : ℕ) (buffer : List Kept) (t : Table m words rows) (s : Going rows f buffer) (l : f < m) where
-  verdict_agrees : (w : Words) → w ≡ row_words words f
+  pub verdict_agrees : (w : Words) → w ≡ row_words words f
       → Agrees f (Kept.rule (Kept.kept_at buffer) w.kind w.one w.two w.three) (clock_of (clock_at s.clocks) f (row_at rows f))
   verdict_agrees w e =
       row_agrees m f (omega (arith, t.few)) (clock_at s.clocks) (Kept.kept_at buffer)
@@ -75,7 +77,7 @@ module _ (m : ℕ) (words : List ℕ) (rows : List Row) (f : ℕ) (buffer : List
   rows_here : drop f rows ≡ row_at rows f ∷ drop (suc f) rows
   rows_here = drop-cons rows f (tail 0) (omega (arith, t.size))
 
-  go_on : (k : Clock) → clock_of (clock_at s.clocks) f (row_at rows f) ≡ good k → Within k → Going rows (f + 1) (set buffer f (Kept.kept k))
+  pub go_on : (k : Clock) → clock_of (clock_at s.clocks) f (row_at rows f) ≡ good k → Within k → Going rows (f + 1) (set buffer f (Kept.kept k))
   go_on k e w =
       let ks : List Clock = s.clocks in
       record {
@@ -90,7 +92,7 @@ module _ (m : ℕ) (words : List ℕ) (rows : List Row) (f : ℕ) (buffer : List
             ∙ sym (step_good ks (row_at rows f) (drop (suc f) rows) f k s.size e) ∙ ap (clocks_from ks) (sym rows_here) ∙ s.left;
       }
 
-  stopped : (why : Refusal) (g : ℕ) → clock_of (clock_at s.clocks) f (row_at rows f) ≡ refused why g → clocks_from [] rows ≡ refused why g
+  pub stopped : (why : Refusal) (g : ℕ) → clock_of (clock_at s.clocks) f (row_at rows f) ≡ refused why g → clocks_from [] rows ≡ refused why g
   stopped why g e =
       sym s.left ∙ ap (clocks_from s.clocks) rows_here ∙ step_refused s.clocks (row_at rows f) (drop (suc f) rows) f why g s.size e
 
@@ -120,20 +122,36 @@ module _ (m : ℕ) (words : List ℕ) (rows : List Row) (f : ℕ) (buffer : List
           (rw (whole, same, at), λ (ks : List Clock). λ (x : clocks_from [] rows ≡ good ks). absurd (not_good (sym whole ∙ x)))
 
 -- all rows have clocks
-ended : (rows : List Row) (f : ℕ) (buffer : List Kept) → length rows ≡ f → (s : Going rows f buffer) → clocks_from [] rows ≡ good s.clocks
+pub ended : (rows : List Row) (f : ℕ) (buffer : List Kept) → length rows ≡ f → (s : Going rows f buffer) → clocks_from [] rows ≡ good s.clocks
 unfolding clocks_from
 ended rows f buffer e s =
     let d : drop f rows ≡ [] = drop_of_length-le rows {i = f} (omega arith) in
     sym s.left ∙ ap (clocks_from s.clocks) d
 
-pub finish : (m : ℕ) (words : List ℕ) (rows : List Row) (f : ℕ) (buffer : List Kept) → Table m words rows → f ≡ m → Going rows f buffer
-    → (success m ≡ answer length (clocks_from [] rows)) × Kept.Assigned (clocks_from [] rows) buffer
-finish m words rows f buffer t at s = (rw (whole, s.size, at), given)
+pub finish : (rows : List Row) (f : ℕ) (buffer : List Kept) → length rows ≡ f → Going rows f buffer
+    → (success f ≡ answer length (clocks_from [] rows)) × Kept.Assigned (clocks_from [] rows) buffer
+finish rows f buffer e s = (rw (whole, s.size), given)
   where
     whole : clocks_from [] rows ≡ good s.clocks
-    whole = ended rows f buffer (t.size ∙ sym at) s
+    whole = ended rows f buffer e s
 
     given : Kept.Assigned (clocks_from [] rows) buffer
     given ks x =
         subst (λ (l : List Clock). (take (length l) buffer ≡ map Kept.kept l) × AllWithin l) (good_inj (sym whole ∙ x))
         (rw s.size s.held, s.within)
+
+-- ---- the registers' sources
+
+pub bad_next : (test : ℕ → ℕ → Bool) (f : ℕ) (rows : List Row) → f < length rows → on_register test (row_at rows f) ≡ true
+    → bad_register test f (drop f rows) ≡ bad_register test (f + 1) (drop (f + 1) rows)
+unfolding bad_register
+bad_next test f rows l e = rw (drop-cons rows f (tail 0) l, e, add-one f)
+
+pub bad_here : (test : ℕ → ℕ → Bool) (f : ℕ) (rows : List Row) → f < length rows → on_register test (row_at rows f) ≡ false
+    → bad_register test f (drop f rows) ≡ some f
+unfolding bad_register
+bad_here test f rows l e = rw (drop-cons rows f (tail 0) l, e)
+
+pub bad_none : (test : ℕ → ℕ → Bool) (f : ℕ) (rows : List Row) → length rows ≡ f → bad_register test f (drop f rows) ≡ none
+unfolding bad_register
+bad_none test f rows e = let d : drop f rows ≡ [] = drop_of_length-le rows {i = f} (omega arith) in rw d

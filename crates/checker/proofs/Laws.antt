@@ -1,11 +1,12 @@
 -- Numbers and lists of words. Assumes nothing.
-use mathlib.Core.Path.{◌≡◌, refl, sym, ◌∙◌, ap, subst⁻¹}
+use mathlib.Core.Path.{◌≡◌, refl, sym, ◌∙◌, ap, ap₂, subst⁻¹}
 use Prim.Native.Nat.{ℕ, ◌+◌, ◌*◌, ◌^◌, ◌<◌}
 use native.Mathlib.Nat.{mul-le-mul_left, mul-lt-mul_of_pos_right, lt_of_le_of_lt, le_of_lt}
 use native.Mathlib.Omega.{arith}
 use lib.Pow.{pow_pos, pow-add}
-use lib.ListN.{length, drop, set, get_or, drop_of_length-le}
-use mathlib.Core.List.{List, [], ◌∷◌, ◌++◌, append-nil}
+use lib.ListN.{length, take, drop, set, get_or, drop_of_length-le}
+use lib.Seq.{drop-drop, take_at, drop_at}
+use mathlib.Core.List.{List, [], ◌∷◌, ◌++◌, append_assoc, append-nil}
 use Rattle.std.proofs.lemmas.List.Edits.{sets, sets-eq}
 
 -- a product fits twice the width of its factors
@@ -32,3 +33,12 @@ pub stored : (l vs : List ℕ) → length l ≡ length vs → sets l 0 vs ≡ vs
 stored l vs e =
     let h : drop (0 + length vs) l ≡ [] = drop_of_length-le l {i = 0 + length vs} (omega arith) in
     sets-eq vs l 0 (omega arith) ∙ ap (λ (x : List ℕ). vs ++ x) h ∙ append-nil vs
+
+-- a buffer that begins with xs, once j words ys are stored behind them
+pub stored_next : (xs ys old buffer : List ℕ) (i j : ℕ) → length xs ≡ i → buffer ≡ xs ++ drop i old
+    → take i buffer ++ (ys ++ drop (i + j) buffer) ≡ (xs ++ ys) ++ drop (i + j) old
+stored_next xs ys old buffer i j n held =
+    let front : take i buffer ≡ xs = ap (take i) held ∙ take_at xs (drop i old) i n in
+    let back : drop (i + j) buffer ≡ drop (i + j) old =
+    sym (drop-drop j i buffer) ∙ ap (λ (x : List ℕ). drop j (drop i x)) held ∙ ap (drop j) (drop_at xs (drop i old) i n) ∙ drop-drop j i old in
+    ap₂ (λ (x y : List ℕ). x ++ (ys ++ y)) front back ∙ sym (append_assoc xs ys (drop (i + j) old))

@@ -13,7 +13,7 @@ use Rattle.std.specs.Option.{IsSome}
 use Rattle.std.specs.Result.{IsOk}
 use borrow.Author.Rules.{rules}
 use lib.Seq.{take_at}
-use borrow.Author.Tests.{lt-ltb, le-leb, lt-leb, eqb-true}
+use borrow.Author.Tests.{lt-ltb, le-ltb, le-leb, lt-leb, eqb-true}
 use Rattle.table.specs.declared.Answer.{Answer}
 use Rattle.table.specs.declared.refusal.Refused.{Refused}
 use Rattle.table.specs.declared.refusal.Refusal.TheVariants.{NoRoom, NotDiffering}
@@ -29,7 +29,7 @@ use Rattle.reach.proofs.SetBits.{set_has}
 use Rattle.reach.proofs.SetLists.{sets_length, sets_entry}
 use Rattle.reach.proofs.Closures.{reach_told}
 use Rattle.least.specs.Parts.{below, part_count, part_rows, part_flows}
-use Rattle.least.specs.Answers.{differing, drawn_count, drawn_differs, best, least_flow, least_set, seeking, offering}
+use Rattle.least.specs.Answers.{differing, drawn_count, drawn_differs, Best, better, best, least_flow, least_set, seeking, offering}
 use Rattle.least.specs.Private.Steps.{part_differing, Chosen, Refusing, Giving}
 use Rattle.least.proofs.SamePart.{count_same, rows_same, flows_same}
 use Rattle.least.proofs.Numbers.{below_le}
@@ -101,6 +101,37 @@ module _ (n : ℕ) (words : List ℕ) (rows : List Row) (t : Table n words rows)
           ap (λ (d : Bool). ltb (drawn_count n words f) (best n words f).count && d) (tried ∙ e) ∙ and_false (ltb (drawn_count n words f) (best n words f).count) in
           rw (add-one f, e') h
 
+-- against any best so far
+module _ (n : ℕ) (words : List ℕ) (rows : List Row) (t : Table n words rows) (f x : ℕ) (is : x ≡ set_of (closure n words f) n)
+    (b : Best) (c : ℕ) (count : c ≡ below (has x) n) where
+  better_drawn : c ≡ drawn_count n words f
+  better_drawn = count ∙ set_count n words rows t (closure n words f) x is
+
+  pub better_kept : b.count ≤ c → b ≡ better n words f b
+  better_kept l =
+      let e : ltb (drawn_count n words f) b.count ≡ false = le-ltb (drawn_count n words f) b.count (omega (arith, better_drawn)) in
+      rw e
+
+  -- its part was laid down, and checked
+  module _ (old new : List ℕ) (laid : new ≡ over (joined (part_rows n words (has x))) old) (d : Bool) (checked : d ≡ differing c (take (row_size * c) new)) where
+    better_tried : d ≡ drawn_differs n words f
+    better_tried =
+        checked
+        ∙ ap₂ differing better_drawn
+        (ap (take (row_size * c)) laid ∙ part_rows_at n words (has x) c old count ∙ ap joined (set_rows n words rows t (closure n words f) x is))
+
+    pub better_same : d ≡ false → b ≡ better n words f b
+    better_same z =
+        let e : (ltb (drawn_count n words f) b.count && drawn_differs n words f) ≡ false =
+        ap (λ (y : Bool). ltb (drawn_count n words f) b.count && y) (sym better_tried ∙ z) ∙ and_false (ltb (drawn_count n words f) b.count) in
+        rw e
+
+    pub better_taken : c < b.count → d ≡ true → ◌≡◌ {A = Best} (record { flow = f; count = c }) (better n words f b)
+    better_taken l z =
+        let p : ltb (drawn_count n words f) b.count ≡ true = lt-ltb (drawn_count n words f) b.count (omega (arith, better_drawn)) in
+        let q : drawn_differs n words f ≡ true = sym better_tried ∙ z in
+        rw (p, q) (ap (λ (i : ℕ). let r : Best = record { flow = f; count = i } in r) better_drawn)
+
 pub chosen_first : (n : ℕ) (words : List ℕ) → (best n words 0).count ≡ max_flows + 1
 unfolding best
 chosen_first n words = refl
@@ -112,6 +143,12 @@ sets_given n words old rows (Err x) e l told = not_good (sym (told_err length (r
 
 pub sets_found : (n : ℕ) (words old : List ℕ) (rows : List Row) → table_of n words ≡ good rows → n ≤ length old → take n (sets_after n words old) ≡ sets_of n words n
 sets_found n words old rows e l = rw (reach_told n words (length old) rows e l) (take_at (sets_of n words n) _ n (sets_length n words n))
+
+-- the flow that is chosen is one of the plan's
+pub flow_in : (m : ℕ) (words : List ℕ) (rows : List Row) → table_of m words ≡ good rows → differing m words ≡ true → least_flow m words < m
+flow_in m words rows e d =
+    let g = plan_refused m words rows e (eqb-true _ _ d) in
+    (is m words rows (table_made m words rows e) g.0 g.1).0
 
 -- where the plan is answered with 21, one is chosen
 pub chosen_there : (m : ℕ) (words : List ℕ) (rows : List Row) (o : Option ℕ) → table_of m words ≡ good rows → differing m words ≡ true → Chosen m words m o → IsSome o

@@ -7,8 +7,11 @@ use mathlib.Core.List.{List, [], ◌∷◌}
 use lib.ListN.{length}
 use lib.Dec.{ltb}
 use borrow.Author.Tests.{ltb-true, ltb-false}
+use Rattle.std.specs.List.{sum_by}
+use Rattle.std.proofs.lemmas.List.Recursion.{is_sum_by}
+use Rattle.std.proofs.lemmas.List.Sums.{sum_by-cons}
 use Rattle.table.specs.Rows.{max_flows}
-use Rattle.loads.specs.Loads.{Line, lines_from, Before, key, insert, sorted, Among, here, there, Standing, Ordered}
+use Rattle.loads.specs.Loads.{Line, load, lines_from, Before, key, insert, sorted, Among, here, there, Standing, Ordered, total}
 use Rattle.loads.proofs.Lines.{Bounded}
 use Rattle.loads.proofs.Keys.{not_both, key_flow, before}
 
@@ -115,6 +118,30 @@ sorted_ascending [] d = tt
 sorted_ascending (l ∷ ls) d =
     insert_ascending 0 l (sorted ls) (sorted_ascending ls d.1) (omega arith) (λ x i. d.0 x (sorted_only x ls i))
 
+-- ---- sums over lines
+
+module _ (g : Line → ℕ) where
+  insert_sum : (l : Line) (ls : List Line) → sum_by g (insert l ls) ≡ sum_by g (l ∷ ls)
+  unfolding insert
+  insert_sum l [] = refl
+  insert_sum l (h ∷ ls) = go (ltb (key l) (key h)) (insert_sum l ls)
+    where
+      go : (b : Bool) → sum_by g (insert l ls) ≡ sum_by g (l ∷ ls) → sum_by g (cond b (l ∷ h ∷ ls) (h ∷ insert l ls)) ≡ sum_by g (l ∷ h ∷ ls)
+      go true r = refl
+      go false r = omega (arith, r, sum_by-cons g h (insert l ls), sum_by-cons g l ls, sum_by-cons g l (h ∷ ls), sum_by-cons g h ls)
+
+  pub sorted_sum : (ls : List Line) → sum_by g (sorted ls) ≡ sum_by g ls
+  unfolding sorted
+  sorted_sum [] = refl
+  sorted_sum (l ∷ ls) = omega (arith, insert_sum l (sorted ls), sum_by-cons g l (sorted ls), sum_by-cons g l ls, sorted_sum ls)
+
+loads : (ls : List Line) → total ls ≡ sum_by load ls
+unfolding total
+loads = is_sum_by total load refl (λ l ls. refl)
+
+pub sorted_total : (ls : List Line) → total (sorted ls) ≡ total ls
+sorted_total ls = loads (sorted ls) ∙ sorted_sum load ls ∙ sym (loads ls)
+
 -- ---- the lines of the flows
 
 module _ (line : ℕ → Line) where
@@ -132,6 +159,17 @@ module _ (line : ℕ → Line) where
           → (g : ℕ) × (f ≤ g) × (g < f + suc n) × (l ≡ line g)
       go (here e) r = (f, omega arith, omega arith, e)
       go (there j) r = let x = r j in (x.0, omega (arith, x.1), omega (arith, x.2), x.3)
+
+  -- each of them is there
+  pub in_lines : (n f g : ℕ) → f ≤ g → g < f + n → Among (line g) (lines_from line n f)
+  unfolding lines_from
+  in_lines zero f g p q = absurd (omega arith)
+  in_lines (suc n) f g p q = go (ltb f g) refl (in_lines n (suc f) g)
+    where
+      go : (b : Bool) → ltb f g ≡ b → (suc f ≤ g → g < suc f + n → Among (line g) (lines_from line n (suc f)))
+          → Among (line g) (line f ∷ lines_from line n (suc f))
+      go true e r = there (r (ltb-true f g e) (omega arith))
+      go false e r = let x : g ≡ f = omega (arith, ltb-false f g e) in here (ap line x)
 
   -- flows have their own numbers, below the most
   module _ (own : (g : ℕ) → (line g).flow ≡ g) where

@@ -34,6 +34,10 @@ use Rattle.loads.proofs.Widths.{line_length, total_length, page_length}
 pub bounded_loads : (times : List ℕ) (ks : List Clock) (m : ℕ) → ((f : ℕ) → get_or times f 0 ≤ max_time) → (f : ℕ) → f < m → load (line_of ks times f) ≤ max_load
 bounded_loads times ks m t f l = omega (arith, rounded_bound (1000 * get_or times f 0) (clock_at ks f).period, t f)
 
+-- the same by the words that the check left
+pub bounded_words : (clocks times : List ℕ) → ((f : ℕ) → get_or times f 0 ≤ max_time) → (f : ℕ) → load (line_in clocks times f) ≤ max_load
+bounded_words clocks times t f = omega (arith, rounded_bound (1000 * get_or times f 0) (get_or clocks (clock_size * f) 0), t f)
+
 module _ (m : ℕ) (words times : List ℕ) (ks : List Clock) (e : clocks_for m words ≡ good ks) where
   pub accepted : (length ks ≡ m) × (m ≤ max_flows) × AllSane (clock_at ks) m
   accepted = let t = then_good (table_of m words) clocks_of ks e in accepted_sane m words t.0 ks t.1 t.2
@@ -145,11 +149,11 @@ module _ {m : ℕ} {words zeros clocks : List ℕ} {found : Answer} (T : Told m 
         lines_same (line_in clocks times) (line_of ks times) m 0 (λ (f : ℕ). λ (l : f < 0 + m). line f (omega arith))
         ∙ ap (λ (n : ℕ). lines_from (line_of ks times) n 0) (sym (accepted m words times ks clocked).0)
 
-    pub done : {old new : List ℕ} {size : ℕ} → length times ≡ m → line_size * (m + 1) ≤ length old → ((f : ℕ) → get_or times f 0 ≤ max_time)
+    pub done : {old new : List ℕ} {size : ℕ} → length times ≡ m → line_size * (m + 1) ≤ length old → ((f : ℕ) → f < m → load (line_in clocks times f) ≤ max_load)
         → Wrote 0 (page_text (sorted (lines_in clocks times m))) old size new
         → (size ≡ line_size * (m + 1)) × (success size ≡ page_answer m words times (length old)) × (new ≡ page_after m words times old)
     done {old} {new} {size} t h b w =
-        let loads = bounded_loads times ks m b in
+        let loads : (f : ℕ) → f < m → load (line_of ks times f) ≤ max_load = λ (f : ℕ). λ (l : f < m). subst (λ (y : Line). load y ≤ max_load) (line f l) (b f l) in
         let bytes : List ℕ = page_of ks times in
         let n : length bytes ≡ line_size * (m + 1) = page_size m words times ks clocked loads in
         let same : page_text (sorted (lines_in clocks times m)) ≡ bytes = ap (λ (ls : List Line). page_text (sorted ls)) same_lines in

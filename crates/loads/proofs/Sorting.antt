@@ -2,19 +2,17 @@
 use mathlib.Core.Path.{◌≡◌, refl, sym, ◌∙◌, ap, ap₂}
 use Prim.Native.Nat.{ℕ, suc, ◌+◌, ◌-◌, ◌%◌, ◌≤◌, ◌<◌}
 use native.Mathlib.Omega.{arith}
-use mathlib.Core.Bool.{Bool, true, false, cond}
 use mathlib.Core.List.{List, [], ◌∷◌, map}
 use lib.ListN.{length, get_or}
-use lib.Dec.{ltb}
 use Rattle.std.specs.List.{sum_by}
 use Rattle.std.specs.List.Sorted.{IsPermutation, IsNonDecreasing}
 use Rattle.std.proofs.lemmas.List.Recursion.{is_sum_by}
 use Rattle.std.proofs.lemmas.List.Sorted.{sum_by-IsPermutation}
 use Rattle.std.proofs.lemmas.List.Sums.{sum_by-cons}
 use Rattle.table.specs.Rows.{max_flows}
-use Rattle.loads.specs.Loads.{Line, load, lines_from, key, insert, sorted, Among, here, there, total}
+use Rattle.loads.specs.Loads.{Line, lines_from, key, sorted, Among, here, there}
 use Rattle.loads.proofs.Keys.{key_flow}
-use Rattle.loads.proofs.Orders.{Ascending, sorted_only, of_lines, lines_ascending}
+use Rattle.loads.proofs.Orders.{Ascending, sorted_only, sorted_sum, of_lines, lines_ascending}
 
 -- ---- numbers
 
@@ -44,30 +42,6 @@ one_rising a b (x ∷ xs) (y ∷ ys) r s e =
     let first : x ≡ y =
     omega (arith, heads (λ k. x - k), heads (λ k. y - k), none_below x x xs (omega arith) r.1, none_below y y ys (omega arith) s.1) in
     ap₂ ◌∷◌ first (one_rising x y xs ys r.1 s.1 (λ f. omega (arith, heads f, ap f first)))
-
--- ---- sums over lines
-
-module _ (g : Line → ℕ) where
-  insert_sum : (l : Line) (ls : List Line) → sum_by g (insert l ls) ≡ sum_by g (l ∷ ls)
-  unfolding insert
-  insert_sum l [] = refl
-  insert_sum l (h ∷ ls) = go (ltb (key l) (key h)) (insert_sum l ls)
-    where
-      go : (b : Bool) → sum_by g (insert l ls) ≡ sum_by g (l ∷ ls) → sum_by g (cond b (l ∷ h ∷ ls) (h ∷ insert l ls)) ≡ sum_by g (l ∷ h ∷ ls)
-      go true r = refl
-      go false r = omega (arith, r, sum_by-cons g h (insert l ls), sum_by-cons g l ls, sum_by-cons g l (h ∷ ls), sum_by-cons g h ls)
-
-  sorted_sum : (ls : List Line) → sum_by g (sorted ls) ≡ sum_by g ls
-  unfolding sorted
-  sorted_sum [] = refl
-  sorted_sum (l ∷ ls) = omega (arith, insert_sum l (sorted ls), sum_by-cons g l (sorted ls), sum_by-cons g l ls, sorted_sum ls)
-
-loads : (ls : List Line) → total ls ≡ sum_by load ls
-unfolding total
-loads = is_sum_by total load refl (λ l ls. refl)
-
-pub sorted_total : (ls : List Line) → total (sorted ls) ≡ total ls
-sorted_total ls = loads (sorted ls) ∙ sorted_sum load ls ∙ sym (loads ls)
 
 -- ---- the keys of the flows
 

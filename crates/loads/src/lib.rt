@@ -2,7 +2,7 @@
 // A cast by `as` stands where std has no `From`, or a constant may call none; that nothing is lost is proved.
 #![tactic(auto)]
 
-ghost use Rattle.std.specs.Prelude.{◌≡◌, ◌*◌, ◌%◌, ◌≤◌, ◌<◌, length, map};
+ghost use Rattle.std.specs.Prelude.{◌≡◌, ◌*◌, ◌%◌, ◌^◌, ◌≤◌, ◌<◌, length, map};
 ghost use Rattle.text.specs.Text.{Wrote};
 ghost use Rattle.text.specs.Writers.{Writes};
 ghost use Rattle.table.specs.Answers.{parts};
@@ -95,7 +95,8 @@ impl Flows<'_> {
     // The key of flow f, by which lines stand: by period, equal periods by phase, and then by flow. Its remainder by MAX_FLOWS is the flow.
     fn key(&self, f: u32) -> u64
         requires { f < max_flows }
-        ensures { result ≡ key (line_at self.now f) }
+        ensures value { result ≡ key (line_at self.now f) }
+        ensures upper_bound { result < 2 ^ 63 }
     {
         let from = CLOCK_SIZE * (f as usize);
         let period = u64::from(word_at(self.clocks, from));

@@ -11,7 +11,7 @@ use Rattle.std.specs.Prelude.{Ok, Err}
 use Rattle.table.specs.declared.refusal.Refused.{Refused}
 use Rattle.table.specs.declared.refusal.Refusal.{Refusal}
 use Rattle.table.specs.declared.refusal.Refusal.TheVariants.{NoRoom}
-use Rattle.table.specs.Answers.{Result, good, refused, unless, then, leaves, parts}
+use Rattle.table.specs.Answers.{Result, good, refused, unless, then, leaves, parts, refusal}
 use Rattle.table.specs.Rows.{Words, max_flows, row_size}
 use Rattle.table.specs.Plain.{joined}
 use Rattle.table.specs.Packed.{unpacked, reading, read_answer, words_after}
@@ -57,8 +57,12 @@ reading_whole bs = go (unpacked bs) refl
     go (good ws) e = let h : row_size * length ws ≤ row_size * max_flows = omega (arith, (opened bs ws e).few) in rw (le-leb (row_size * length ws) (row_size * max_flows) h)
     go (refused why f) e = refl
 
-pub read_refused : (bs : List ℕ) (x : Refused) → parts (Err x) ≡ read_answer bs (row_size * max_flows) → unpacked bs ≡ refused x.why x.flow
-read_refused bs x e = sym (reading_whole bs) ∙ (told_err length (reading bs (row_size * max_flows)) x e).0
+-- its refusal is that of the bytes, and names no tick
+pub read_refused : (bs : List ℕ) (x : Refused) → parts (Err x) ≡ read_answer bs (row_size * max_flows)
+    → (unpacked bs ≡ refused x.why x.flow) × (parts (Err x) ≡ refusal x.why x.flow)
+read_refused bs x e =
+    let r = told_err length (reading bs (row_size * max_flows)) x e in
+    (sym (reading_whole bs) ∙ r.0, ap (λ (y : Refused). parts (Err y)) r.1)
 
 -- BOTH TOGETHER
 pub checked_refused : (bs : List ℕ) (room : ℕ) (why : Refusal) (f : ℕ) → unpacked bs ≡ refused why f → checked_in bs room ≡ refused why f

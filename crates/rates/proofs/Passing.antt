@@ -131,11 +131,10 @@ module _ (m : ℕ) (words : List ℕ) where
     asked_three = (known_kind, omega (arith, few), λ o. inside max_flows w.three few (joined_three o))
 
     pub linked :
-        (st s1 s2 s3 : List (Option Rate)) (a b c : Bool) → max_flows ≤ length st → Stepped on.one (row_made w) f w.one st a s1
+        (st s1 s2 s3 : List (Option Rate)) (a b c : Bool) → m ≤ length st → Stepped on.one (row_made w) f w.one st a s1
         → Stepped on.two (row_made w) f w.two s1 b s2 → Stepped on.three (row_made w) f w.three s2 c s3
         → Passed m words (ClosedAt words st f) st s3 ((a || b) || c)
-    linked st s1 s2 s3 a b c long x y z =
-        let h : m ≤ length st = omega (arith, few) in
+    linked st s1 s2 s3 a b c h x y z =
         let p = step st s1 on.one w.one a h (joined_one) x in
         let h1 : m ≤ length s1 = omega (arith, p.size) in
         let q = step s1 s2 on.two w.two b h1 (joined_two) y in

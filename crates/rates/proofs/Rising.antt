@@ -20,7 +20,7 @@ use Rattle.rates.proofs.Joining.{JoinsHave}
 abbrev pub rate : Clock → Rate
 rate k = record { period = k.period; phase = k.phase }
 
-rate_path : {n p n' p' : ℕ} → n ≡ n' → p ≡ p' → ◌≡◌ {A = Rate} (record { period = n; phase = p }) (record { period = n'; phase = p' })
+pub rate_path : {n p n' p' : ℕ} → n ≡ n' → p ≡ p' → ◌≡◌ {A = Rate} (record { period = n; phase = p }) (record { period = n'; phase = p' })
 rate_path x y = λ i. record { period = x i; phase = y i }
 
 -- a register's source has its beat's clock
@@ -28,7 +28,7 @@ abbrev pub Sourced : (ℕ → Clock) → Row → Type 0
 Sourced clk r = on_register (λ b a. same_clock (clk a) (clk b)) r ≡ true
 
 -- a rate that is given
-given_is : (t : Bool) (n p : ℕ) → t ≡ true → 1 ≤ n → n ≤ max_derived → p ≤ max_derived → given t n p ≡ record { period = n; phase = p }
+pub given_is : (t : Bool) (n p : ℕ) → t ≡ true → 1 ≤ n → n ≤ max_derived → p ≤ max_derived → given t n p ≡ record { period = n; phase = p }
 given_is t n p e l u v = rw (e, le-leb 1 n l, le-leb n max_derived u, le-leb p max_derived v)
 
 -- the rate of a sane clock, by a test that is passed

@@ -29,7 +29,7 @@ derived_chained m words d q (of_result {f = f} {q = p} l h k) =
     record { from = c.from; in_plan = c.in_plan; is_rated = c.is_rated; chain = onward f d c.chain (or_left _ _ h) }
 
 -- under an accepted filling it is the rate of the flow's clock
-derived_rate : (m : ℕ) (words : List ℕ) (rates : ℕ → fillings.Rate) (j : Judged m words rates) (f : ℕ) (q : Rate) → Derived m words f q → q ≡ rate (j.clk f)
+pub derived_rate : (m : ℕ) (words : List ℕ) (rates : ℕ → fillings.Rate) (j : Judged m words rates) (f : ℕ) (q : Rate) → Derived m words f q → q ≡ rate (j.clk f)
 derived_rate m words rates j f q (of_rated l e) = sym (at_rated m words rates j f l e)
 derived_rate m words rates j f q (of_operand {d = d} {q = p} l h k) =
     ap (rise (row_made (row_words words f))) (derived_rate m words rates j d p k) ∙ sym (up m words rates j f d l h)

@@ -70,12 +70,11 @@ reached_first words n f e l =
     let t = table_made n words rows e in
     named_set_lem n f (row_words words f) t.few l (λ x z. named_inside n words rows t f x l z) ∙ set_same _ _ n (λ g z. refl)
 
-pub reached_next : (words : List ℕ) (n k : ℕ) (old new : List ℕ) → IsTable n words → k < n → length old ≡ n → Reached words n k old → Swept k old new → Reached words n (k + 1) new
+pub reached_next : (words : List ℕ) (n k : ℕ) (old new : List ℕ) → n ≤ max_flows → k < n → n ≤ length old → Reached words n k old → Swept k old new → Reached words n (k + 1) new
 unfolding through
-reached_next words n k old new t l size r s =
-    let few : n ≤ max_flows = (table_made n words (rows_in (table_of n words)) t).few in
+reached_next words n k old new few l room r s =
     rw (add-one k) λ f x.
-    s f (omega (arith, size)) ∙ ap₂ (λ (a b : ℕ). absorbed a b k) (r f x) (r k l)
+    s f (omega (arith, room)) ∙ ap₂ (λ (a b : ℕ). absorbed a b k) (r f x) (r k l)
     ∙ absorbed_set (through (named words) k f) (through (named words) k k) n k few l
     ∙ set_same _ _ n (λ g z. refl)
 

@@ -74,3 +74,12 @@ bit_is false = refl
 -- kinds 2 to 6 have an operator each
 pub op_is : (k n : ℕ) (op op' : Op) → k ≡ n → Combines n op → Combines k op' → op ≡ op'
 op_is k n op op' q e e' = let z : combine op 0 0 ≡ combine op' 0 0 = sym (e 0 0 0) ∙ ap (λ (i : ℕ). decode i 0 0 0) (sym q) ∙ e' 0 0 0 in cc
+
+pub six : (k : ℕ) → 2 ≤ k → k ≤ 6 → (k ≡ 2 → ⊥) → (k ≡ 3 → ⊥) → (k ≡ 4 → ⊥) → (k ≡ 5 → ⊥) → k ≡ 6
+six k l m a b c d = omega arith
+
+pub two_or_more : (k : ℕ) → (k ≡ 0 → ⊥) → (k ≡ 1 → ⊥) → 2 ≤ k
+two_or_more k a b = omega arith
+
+pub seven : (k : ℕ) → 2 ≤ k → (k ≡ 2 → ⊥) → (k ≡ 3 → ⊥) → (k ≡ 4 → ⊥) → (k ≡ 5 → ⊥) → (k ≡ 6 → ⊥) → 7 ≤ k
+seven k l a b c d e = omega arith

@@ -73,6 +73,9 @@ low_on first n limit ms vs ts ts' C L = record { count = λ f l. go f l (try (eq
     go f l (passed e) = let c : get_or ts' (tally_size * f) 0 ≡ get_or ts (tally_size * f) 0 = rw e at (C.counts f l) in omega (arith, L.count f l)
     go f l (failed e) = let c : get_or ts' (tally_size * f) 0 ≡ get_or ts (tally_size * f) 0 + 1 = rw e at (C.counts f l) in omega (arith, L.count f l)
 
+pub low_within : (n limit limit' : ℕ) (ts : List ℕ) → limit ≤ limit' → Low n limit ts → Low n limit' ts
+low_within n limit limit' ts l L = record { count = λ f h. omega (arith, L.count f h) }
+
 -- a count is at most the tick
 pub tallied_low : (n t : ℕ) (past : Ticks) (ts₀ ts : List ℕ) → length past ≡ t → Tallied n past ts₀ ts → Low n (t + 1) ts
 tallied_low n t past ts₀ ts z T = record { count = λ f h. omega (arith, tally_few n past ts₀ ts T f h) }

@@ -1,12 +1,12 @@
 -- Cells that stand at the front of marks and values. Assumes nothing.
-use Rattle.std.proofs.Common.{◌≡◌, ℕ, ◌<◌, ltb, List, [], ◌∷◌, ◌++◌, map, length, get_or, drop, set, sym, refl, ap, ◌∙◌, subst, arith, ltb-false, ltb-true}
+use Rattle.std.proofs.Common.{◌≡◌, ℕ, ◌<◌, Bool, true, false, cond, not, eqb, ltb, List, [], ◌∷◌, ◌++◌, map, length, get_or, drop, set, sym, refl, ap, ◌∙◌, subst, arith, ltb-false, ltb-true}
 use mathlib.Core.Path.{fun_ext}
 use mathlib.Core.List.{map-append}
 use lib.ListN.{length-map, get_or-map, get_or-append, get_or-eq_default}
 use Rattle.table.specs.Answers.{over}
 use Rattle.table.proofs.Tests.{Tried, passed, failed, try}
 use Rattle.table.proofs.AnswerLaws.{set_over}
-use Rattle.semantics.specs.Cells.{Cell, absent, present, value}
+use Rattle.semantics.specs.Cells.{Cell, absent, present, mark, value}
 use Rattle.semantics.specs.Runs.{cell_in}
 use Rattle.semantics.specs.Answers.{mark_byte}
 use Rattle.runner.specs.Private.Carried.{cell_at, cells_in}
@@ -24,6 +24,14 @@ put_over g xs c ys zs zs' f e h z z' =
 pub cell_back : (c : Cell) → cell_at (mark_byte c) (value c) ≡ c
 cell_back absent = refl
 cell_back (present v) = refl
+
+-- whether a mark is that of a presence
+pub mark_of_cell : (m v : ℕ) → mark (cell_at m v) ≡ not (eqb m 0)
+mark_of_cell m v = go (eqb m 0)
+  where
+    go : (b : Bool) → mark (cond b absent (present v)) ≡ not b
+    go true = refl
+    go false = refl
 
 pub over_at : (g : Cell → ℕ) (xs : List Cell) (ys : List ℕ) (a : ℕ) → g absent ≡ 0 → a < length xs → get_or (over (map g xs) ys) a 0 ≡ g (get_or xs a absent)
 over_at g xs ys a z h =

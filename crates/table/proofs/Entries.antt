@@ -8,7 +8,7 @@ use native.Mathlib.Decide.{dec_lt}
 use native.Mathlib.Omega.{arith}
 use lib.Dec.{eqb, leb}
 use lib.ListN.{length, get_or, get_elem?, get_or-eq_default}
-use borrow.Author.Tests.{eqb-true}
+use borrow.Author.Tests.{eqb-true, leb-true}
 use Rattle.table.specs.Rows.{Field, operand, source, copies, period, ticks, value, unused, least, width, Kind, kinds, no_kind, kind_count, kind_at}
 use Rattle.table.specs.Links.{is_flow}
 use Rattle.table.specs.Private.Codes.{code, field_list, leasts, mosts, widths, kind_fields}
@@ -69,6 +69,10 @@ width_at unused = refl
 -- the greatest number has ones in all bits of its field
 pub most_at : (n : ℕ) → n < 7 → get_or mosts n 0 ≡ 2 ^ get_or widths n 0 - 1
 most_at n h = tabled (λ n. 2 ^ get_or widths n 0 - 1) mosts refl n h
+
+-- no field is wider than 32 bits
+pub narrow : (n : ℕ) → n < 7 → get_or widths n 0 ≤ 32
+narrow n h = leb-true (get_or widths n 0) 32 (at (λ k x. leb x 32) widths 0 refl n h)
 
 pub code_lt : (t : Field) → code t < 7
 code_lt operand = omega arith

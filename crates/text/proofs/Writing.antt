@@ -1,12 +1,13 @@
 -- Bytes written into a text one piece after the other. Assumes nothing.
 use mathlib.Core.Path.{◌≡◌, refl, sym, ◌∙◌, ap, ap₂}
-use Prim.Native.Nat.{ℕ, zero, suc, ◌+◌, ◌-◌, ◌≤◌}
+use Prim.Native.Nat.{ℕ, zero, suc, ◌+◌, ◌-◌, ◌≤◌, ◌<◌}
 use native.Mathlib.Nat.{zero-add, add-zero, sub-zero, zero-sub, suc-sub-suc, sub-eq-zero_of_le}
+use native.Mathlib.Numerals.{add-one}
 use native.Mathlib.Omega.{arith}
 use mathlib.Core.Bool.{Bool, true, false}
 use mathlib.Core.List.{List, [], ◌∷◌, ◌++◌, append_assoc}
-use lib.ListN.{length, take, drop, length-append, length-take, length-drop, take-append-drop}
-use lib.Seq.{length-take-le, take_all, take-nil, take_at, drop-append-add, drop-drop}
+use lib.ListN.{length, take, drop, set, length-append, length-take, length-drop, take-append-drop}
+use lib.Seq.{set_split, length-take-le, take_all, take-nil, take_at, drop-append-add, drop-drop}
 use lib.Dec.{leb}
 use borrow.Author.Tests.{leb-true, leb-false}
 use Rattle.text.specs.Text.{fitting, laid, Wrote}
@@ -54,13 +55,13 @@ module _ {at : ℕ} {bytes old : List ℕ} (e : fitting at bytes old ≡ []) whe
   as_it_was : {next : ℕ} {new : List ℕ} → Wrote at bytes old next new → (next ≡ at) × (new ≡ old)
   as_it_was w = (w.place ∙ sym kept.place, w.text ∙ sym kept.text)
 
-nothing : (at : ℕ) (old : List ℕ) → Wrote at [] old at old
+pub nothing : (at : ℕ) (old : List ℕ) → Wrote at [] old at old
 nothing at old = kept (take-nil (length old - at))
 
 past : (at : ℕ) (bytes old : List ℕ) → length old ≤ at → fitting at bytes old ≡ []
 past at bytes old h = rw (sub-eq-zero_of_le h)
 
-full : (at : ℕ) (bytes old : List ℕ) → length old ≤ at → Wrote at bytes old at old
+pub full : (at : ℕ) (bytes old : List ℕ) → length old ≤ at → Wrote at bytes old at old
 full at bytes old h = kept (past at bytes old h)
 
 -- bytes that all have room
@@ -85,8 +86,13 @@ whole_text {next} {bytes} {old} {new} h w =
 pub no_further : {at next : ℕ} {bytes old new : List ℕ} → Wrote at bytes old next new → next ≤ at + length bytes
 no_further {at} {next} {bytes} {old} w = omega (arith, w.place, length-take (length old - at) bytes)
 
+pub one : (at byte : ℕ) (old : List ℕ) → at < length old → Wrote at (byte ∷ []) old (at + 1) (set old at byte)
+one at byte old h =
+    let e : fitting at (byte ∷ []) old ≡ byte ∷ [] = all_fit at (byte ∷ []) old (omega arith) in
+    record { place = rw e; text = rw (e, add-one at) (set_split old at byte h) }
+
 -- a piece after a piece
-both : {at next next' : ℕ} {xs ys old mid new : List ℕ} → Wrote at xs old next mid → Wrote next ys mid next' new → Wrote at (xs ++ ys) old next' new
+pub both : {at next next' : ℕ} {xs ys old mid new : List ℕ} → Wrote at xs old next mid → Wrote next ys mid next' new → Wrote at (xs ++ ys) old next' new
 both {at} {next} {next'} {xs} {ys} {old} {mid} {new} w v = go (leb at (length old)) refl
   where
     go : (b : Bool) → leb at (length old) ≡ b → Wrote at (xs ++ ys) old next' new

@@ -1,5 +1,5 @@
 use mathlib.Core.Path.{◌≡◌, refl}
-use Prim.Native.Nat.{ℕ, ◌*◌, ◌≤◌}
+use Prim.Native.Nat.{ℕ, ◌*◌, ◌<◌, ◌≤◌}
 use native.Mathlib.Omega.{arith}
 use mathlib.Core.List.{List}
 use lib.ListN.{length, get_or, replicate, length-replicate}
@@ -11,8 +11,9 @@ use Rattle.table.specs.Rows.{max_flows}
 use Rattle.table.proofs.AnswerLaws.{no_zero}
 use Rattle.checker.specs.Answers.{clock_size, check_answer, clocks_after}
 use Rattle.checker.proofs.Bounds.{Told}
-use Rattle.loads.specs.Loads.{max_time}
-use Rattle.loads.proofs.Pages.{handed_on, few, wrong_times_lem, short, done}
+use Rattle.loads.specs.Loads.{max_time, load, max_load}
+use Rattle.loads.specs.Private.Words.{line_in}
+use Rattle.loads.proofs.Pages.{bounded_words, handed_on, few, wrong_times_lem, short, done}
 use Rattle.loads.proofs.page.Goals as goal
 
 -- the buffer of the clocks
@@ -27,6 +28,10 @@ told m words e l = record { room = omega (arith, length-replicate {A = ℕ} (clo
 -- a worst time has 16 bits
 times_fit : (times : List ℕ) → ((f : ℕ) → Fits w16 (get_or times f 0)) → (f : ℕ) → get_or times f 0 ≤ max_time
 times_fit times h f = omega (arith, h f)
+
+-- so each load is bounded
+loaded : (clocks times : List ℕ) (m : ℕ) → ((f : ℕ) → Fits w16 (get_or times f 0)) → (f : ℕ) → f < m → load (line_in clocks times f) ≤ max_load
+loaded clocks times m h f l = bounded_words clocks times (times_fit times h) f
 
 pub returns-in_err-check : goal.returns-in_err-check
 returns-in_err-check c =
@@ -62,7 +67,7 @@ overflow_cast-result c =
     let a = c.args in
     let k = c.in_ok-check.ensures in
     let t = told a.count a.words.now k.answered k.stored in
-    let d = done t a.times.now refl c.if-times-n.false c.if-page-n.false (times_fit a.times.now c.type_inv.times) c.put_page.ensures in
+    let d = done t a.times.now refl c.if-times-n.false c.if-page-n.false (loaded c.check.new.clocks a.times.now a.count c.type_inv.times) c.put_page.ensures in
     omega (arith, few t a.times.now refl, d.0)
 
 pub returns : goal.returns
@@ -70,5 +75,5 @@ returns c =
     let a = c.args in
     let k = c.in_ok-check.ensures in
     let t = told a.count a.words.now k.answered k.stored in
-    let d = done t a.times.now refl c.if-times-n.false c.if-page-n.false (times_fit a.times.now c.type_inv.times) c.put_page.ensures in
+    let d = done t a.times.now refl c.if-times-n.false c.if-page-n.false (loaded c.check.new.clocks a.times.now a.count c.type_inv.times) c.put_page.ensures in
     record { answered = d.1; stored = d.2 }

@@ -7,8 +7,8 @@ use lib.Seq.{length-take-le}
 use Rattle.std.specs.Prelude.{Err}
 use Rattle.table.specs.Answers.{answer, leaves, parts}
 use Rattle.table.specs.Rows.{max_flows, row_size}
-use Rattle.table.specs.Packed.{reading, read_answer}
-use Rattle.table.proofs.AnswerLaws.{told_err, refused_leaves}
+use Rattle.table.specs.Packed.{read_answer}
+use Rattle.table.proofs.AnswerLaws.{refused_leaves}
 use Rattle.checker.specs.Answers.{clocks_words}
 use Rattle.packed_check.specs.Checked.{checked_in}
 use Rattle.packed_check.proofs.Joined.{read_into, read_few, read_refused, checked_refused, checked_words}
@@ -23,9 +23,9 @@ returns-in_default c =
     let old : List ℕ = c.args.clocks.now in
     let b = c.in_default.field-0 in
     let told : parts (Err b) ≡ read_answer bs (row_size * max_flows) = sym (ap parts c.in_default.is) ∙ c.read-reading.ensures.answered in
-    let e = refused_leaves length clocks_words (checked_in bs (length old)) old b.why b.flow (checked_refused bs (length old) b.why b.flow (read_refused bs b told)) in
-    let same = told ∙ ap (answer length) (told_err length (reading bs (row_size * max_flows)) b told).0 in
-    record { answered = ap parts c.in_default.is ∙ same ∙ e.0; stored = e.1 }
+    let r = read_refused bs b told in
+    let e = refused_leaves length clocks_words (checked_in bs (length old)) old b.why b.flow (checked_refused bs (length old) b.why b.flow r.0) in
+    record { answered = ap parts c.in_default.is ∙ r.1 ∙ e.0; stored = e.1 }
 
 pub slice_bounds-words-end : goal.slice_bounds-words-end
 slice_bounds-words-end c =

@@ -1,6 +1,7 @@
-use mathlib.Core.Path.{sym, ◌∙◌}
+use mathlib.Core.Path.{◌≡◌, sym, ◌∙◌, ap}
 use native.Mathlib.Omega.{arith}
 use Rattle.table.proofs.Tables.{table_made}
+use Rattle.table.specs.Answers.{success}
 use Rattle.table.specs.Plain.{words_of}
 use Rattle.checker.proofs.Folds.{next, stop, finish}
 use Rattle.checker.proofs.Plan.assign.Goals as goal
@@ -26,5 +27,6 @@ pub returns : goal.returns
 returns c =
     let a = c.args.self in
     let l = c.loop-f in
-    let x = finish a.count a.words.now _ l.f l.kept (table_made a.count a.words.now _ a.passed) (omega arith) l.invariant in
-    record { value = x.0; assigned = x.1 }
+    let e : l.f ≡ a.count = omega arith in
+    let x = finish _ l.f l.kept ((table_made a.count a.words.now _ a.passed).size ∙ sym e) l.invariant in
+    record { value = ap success (sym e) ∙ x.0; assigned = x.1 }

@@ -3,7 +3,8 @@ use borrow.Author.Rules.{rules}
 use Rattle.text.proofs.Writing.{joined, begun}
 use Rattle.loads.specs.Loads.{page_text}
 use Rattle.loads.specs.Private.Words.{line_at, lines_of}
-use Rattle.loads.proofs.Sorting.{lines_by_keys, sorted_total}
+use Rattle.loads.proofs.Orders.{sorted_total}
+use Rattle.loads.proofs.Sorting.{lines_by_keys}
 use Rattle.loads.proofs.Flows.put_page.Goals as goal
 
 pub returns : goal.returns

@@ -21,7 +21,7 @@ loop-f-preserved c =
     let f = c.loop-f.f in
     let line = line_at c.args.self.now in
     let h : f < length c.loop-f.keys = omega (arith, c.loop-f.auto.keys) in
-    rw (take_more_set c.loop-f.keys f c.key.result h, lines_more line f, map-append key (lines_from line f 0) (line f ∷ []), c.loop-f.invariant, c.key.ensures)
+    rw (take_more_set c.loop-f.keys f c.key.result h, lines_more line f, map-append key (lines_from line f 0) (line f ∷ []), c.loop-f.invariant, c.key.ensures.value)
 
 pub returns : goal.returns
 returns c =

@@ -1,6 +1,6 @@
 use native.Mathlib.Omega.{arith}
 use Rattle.table.specs.Plain.{words_of}
-use Rattle.rates.proofs.Passing.{asked_one, asked_two, asked_three, linked}
+use Rattle.rates.proofs.Passing.{few_flows, asked_one, asked_two, asked_three, linked}
 use Rattle.rates.proofs.Draft.link.Goals as goal
 
 pub join-a-requires : goal.join-a-requires
@@ -30,4 +30,4 @@ returns c =
     let r = c.record_at-r in
     let flows = c.join_fields-flows in
     linked a.self.count a.self.words.now _ a.self.is_draft a.f c.requires (words_of r.result) flows.result r.ensures flows.ensures
-    _ _ _ _ _ _ _ (omega arith) c.join-a.ensures c.join-b.ensures c.join-c.ensures
+    _ _ _ _ _ _ _ (omega (arith, few_flows a.self.count a.self.words.now _ a.self.is_draft)) c.join-a.ensures c.join-b.ensures c.join-c.ensures
