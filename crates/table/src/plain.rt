@@ -6,7 +6,7 @@ ghost use Rattle.table.specs.Plain.{split, rows_from, count_fits, table_by};
 ghost use Rattle.table.specs.Private.Codes.{told, Sized};
 
 use super::bits::{FIRST_ROW, byte_count};
-use super::rows::{BOUND, Layout, barred_kind, why};
+use super::rows::{BOUND, Layout, barred_kind};
 use super::{MAX_FLOWS, ROW_SIZE, Refusal, Refused, record_at};
 
 // The rows of a table of count flows, from the first on. Whether each input is to be rated is handed in.
@@ -23,7 +23,7 @@ fn survey_rows(rated: bool, count: u32, words: &[u32]) -> Result<usize, Refused>
         bound[0] = u64::from(row);
         let r = record_at(words, row);
         if !layout.accepts(barred, r, &bound) {
-            return Err(why(rated, r).at(row));
+            return Err(layout.why(rated, r).at(row));
         }
         bits += layout.length_of(r.kind);
     }

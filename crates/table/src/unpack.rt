@@ -11,7 +11,7 @@ ghost use Rattle.table.specs.Private.Steps.{Stepped, Scanned, Unpacked};
 use super::bits::{COUNT_WIDTH, FIRST_ROW, KIND_WIDTH, byte_count, number_at, up};
 use super::held::first_field;
 use super::plain::count_fits;
-use super::rows::{BOUND, Layout, why};
+use super::rows::{BOUND, Layout};
 use super::{Cursor, KINDS, ROW_SIZE, Record, Refusal, Refused};
 
 impl Layout {
@@ -84,7 +84,7 @@ fn scan_rows(s: &[u8], count: u32, words: &mut [u32]) -> Result<Cursor, Refused>
         bound[0] = u64::from(row);
         let (r, next) = cursor.row(s, row, &layout)?;
         if !layout.accepts(KINDS, r, &bound) {
-            return Err(why(false, r).at(row));
+            return Err(layout.why(false, r).at(row));
         }
         store_row(words, row, r);
         cursor = next;

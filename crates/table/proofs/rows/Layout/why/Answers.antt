@@ -4,7 +4,7 @@ use Rattle.table.specs.Plain.{words_of}
 use Rattle.table.specs.Private.Codes.{bounds, bounded}
 use Rattle.table.proofs.Accepting.{unknown, kind_is, out, must_be_off, each_same, bounded_range}
 use borrow.Author.Tests.{not-true, not-false}
-use Rattle.table.proofs.rows.why.Goals as goal
+use Rattle.table.proofs.rows.Layout.why.Goals as goal
 
 pub returns-then-not-known : goal.returns-then-not-known
 returns-then-not-known c =
